@@ -4,13 +4,13 @@ use Rattle.std.{proofs.Common.{refl, sym, ap, ◌∙◌, subst, string_bytes}, p
 use Rattle.std.{specs.Borrow.Bor, specs.declared.alloc.Global.Global}
 use mathlib.Core.List.{cons≢nil}
 use Rattle.yq_core.{specs.Paths.Step, specs.Tree.Node, specs.Collections.CollPieces, specs.Entries.tree_step}
-use Rattle.yq_flow_edits.{specs.FlowEdits.is_none, specs.FlowPlaces.PlacedEdit}
+use Rattle.yq_flow_edits.{specs.FlowEdits.is_none, specs.FlowPlaces.PlacedEdit, specs.declared.flow_place.EditPlace.EditPlace}
 use Rattle.yq_row_table.specs.Rows.{Cut, cut_text}
 use Rattle.yq_places.{specs.FlowNodes.flow_collection, specs.FlowViews.FlowAgrees}
 use Rattle.yq_semantics.{specs.Operations.{Operation, append}, specs.Judgement.ExprError}
 use Rattle.yq_edit_rules.specs.Operands.{HasOperand}
-use Rattle.yq_edit_laws.{specs.NearParts.head_with, specs.PartPuts.{AreMore, IsEditPlace, more_edit, place_after}}
-use Rattle.yq_edit_laws.{specs.declared.append.MorePut.MorePut, specs.Answers.EditFails, specs.Carried.carried, specs.Theorems.IsFitting}
+use Rattle.yq_edit_laws.{specs.NearParts.head_with, specs.PartPuts.{AreMore, IsEditPlace, more_edit, place_after}, specs.Answers.EditFails}
+use Rattle.yq_edit_laws.{specs.Carried.carried, specs.Theorems.IsFitting}
 use Rattle.yq_batch.specs.Runs.{AddsAt, HasPut, IsInText, PutFails, Runs, RunsOn, change_place, cut_with, now_text, stem_of}
 use Rattle.yq_batch.{specs.declared.adding.Filled.Filled, specs.declared.change.HeadChange.HeadChange}
 use Rattle.yq_batch.{specs.declared.head.HeadInText.HeadInText, specs.declared.run.PutRun.PutRun}
@@ -26,8 +26,9 @@ more_head x there m path left same steps =
     (subst (λ (ss : List Step). FlowAgrees x.cut.now (flow_collection x.doc ss (cut_with x)) (Some (head_with x.head left))) (sym steps) (there.reports.reports (head_with x.head left) refl refl refl))
 
 -- an item or entry is put into the collection there
-pub adds_at : (x : HeadInText) (op : Operation) (m : ℕ) (path left : List Step) (key : Option (List ℕ)) (v : Node) (p : MorePut) (y : HeadChange) → op ≡ append m path key v → HasOperand op → m ≡ x.doc → path ≡ stem_of x ++ left →
-    AreMore m path key v (cut_with x) x.head.before (Some p) → left ≡ map tree_step y.steps.now → change_place y ≡ place_after x.head.before p.place → y.written ≡ Some p.written → AddsAt op x y
+pub adds_at : (x : HeadInText) (op : Operation) (m : ℕ) (path left : List Step) (key : Option (List ℕ)) (v : Node) (p : EditPlace × String Global)
+    (y : HeadChange) → op ≡ append m path key v → HasOperand op → m ≡ x.doc → path ≡ stem_of x ++ left →
+    AreMore m path key v (cut_with x) x.head.before (Some p) → left ≡ map tree_step y.steps.now → change_place y ≡ place_after x.head.before p.0 → y.written ≡ Some p.1 → AddsAt op x y
 adds_at x op m path left key v p y is operand same steps h here place written =
     let own : op ≡ append x.doc (stem_of x ++ left) key v = is ∙ λ i. append (same i) (steps i) key v in
     let a : AreMore x.doc (stem_of x ++ left) key v (cut_with x) x.head.before (Some p) =

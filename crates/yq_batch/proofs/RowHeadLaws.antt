@@ -8,8 +8,8 @@ use Rattle.yq_core.{specs.Answers.◌>>=◌, specs.BlockWritten.break_text, spec
 use Rattle.yq_core.{specs.Text.is_empty, specs.declared.block_types.Break.Break}
 use Rattle.yq_row_table.specs.Rows.{Cut, cut_text}
 use Rattle.yq_documents.{specs.declared.path.Path.Path, specs.Documents.document_parts, specs.Located.steps_of}
-use Rattle.yq_documents.{specs.LinesInRows.{document_row, row_line_at}, specs.Reading.{cut_of, read_at}}
-use Rattle.yq_places.{specs.CommentPlaces.{LinesAbove, above_row, lines_above}, specs.FirstBreak.first_break, specs.PlacedRows.PlacedRow}
+use Rattle.yq_documents.{specs.LinesInRows.{document_row, row_line_at}, specs.Reading.{cut_of, read_at}, specs.Pieces.TextPiece}
+use Rattle.yq_places.{specs.CommentPlaces.{above_row, lines_above}, specs.FirstBreak.first_break, specs.PlacedRows.PlacedRow}
 use Rattle.yq_places.{specs.RowLineReading.{LineCounts, line_view, numbers}, specs.declared.places.stretch.RowLine.RowLine}
 use Rattle.yq_places.{proofs.PrintedTexts.map_some, specs.Standings.{RowsOfEntry, rows_of_entry}}
 use Rattle.yq_edit_rules.{specs.RowStays.StandsStill, specs.CommentEdits.{above_rows, head_comment_segments, head_lines}}
@@ -32,42 +32,42 @@ module _ (n : ℕ) (steps : List Step) (text : List ℕ) (c : Cut) (e : RowsOfEn
   lines_with br = head_lines e.row.column br (head_comment_lines text)
 
   pub head_comment_comes : (d : Cut) → read_at (cut_text d) ≡ Some d → (is_empty text ≡ false → first_break (cut_text d) ≡ first_break (cut_text c)) → (still : StandsStill e n steps d) →
-      PutsText (head_comment n steps text) d (rows_still e still) (above_rows e).run (lines_with (break_text (first_break (cut_text c)))) (above_rows e).behind
+      PutsText (head_comment n steps text) d (rows_still e still) (above_rows e).1.text (lines_with (break_text (first_break (cut_text c)))) (above_rows e).1.behind
   head_comment_comes d read_d same still =
       let now : RowsOfEntry = rows_still e still in
       let br : List ℕ = break_text (first_break (cut_text d)) in
       let edited = row_edits.head_comment n steps text d now still.found first in
-      subst (λ (l : List ℕ). PutsText (head_comment n steps text) d now (above_rows e).run l (above_rows e).behind) (lines_same e.row.column text (first_break (cut_text d)) (first_break (cut_text c)) same)
+      subst (λ (l : List ℕ). PutsText (head_comment n steps text) d now (above_rows e).1.text l (above_rows e).1.behind) (lines_same e.row.column text (first_break (cut_text d)) (first_break (cut_text c)) same)
       (record {
         segments = head_comment_segments br text (above_rows now);
-        front = (above_rows now).before;
+        front = (above_rows now).1.before;
         edited = edited;
         whole = (edit_is (head_comment n steps text) d (head_comment_segments br text (above_rows now)) read_d edited).old;
-        puts = row_edits.head_comment_puts br text (above_rows now);
+        puts = row_edits.piece_puts (above_rows now).1 _;
         changes = λ operand fit size. head_comments_change_rows n steps text (first_break (cut_text d)) d now read_d still.found first operand fit size;
       })
 
-  pub above_text_is : read_at (cut_text c) ≡ Some c → rows_of_entry n steps c ≡ Some e → cut_text c ≡ (above_rows e).before ++ ((above_rows e).run ++ (above_rows e).behind)
+  pub above_text_is : read_at (cut_text c) ≡ Some c → rows_of_entry n steps c ≡ Some e → cut_text c ≡ (above_rows e).1.before ++ ((above_rows e).1.text ++ (above_rows e).1.behind)
   above_text_is read at =
       let br : List ℕ = break_text (first_break (cut_text c)) in
       sym (edit_is (head_comment n steps text) c (head_comment_segments br text (above_rows e)) read (row_edits.head_comment n steps text c e at first)).old
-      ∙ (row_edits.head_comment_puts br text (above_rows e)).old_is
+      ∙ (row_edits.piece_puts (above_rows e).1 []).old_is
 
 -- ---- what the code tells
 
 -- the lines above a row, where a line is its first one
-abbrev first_above : PlacedRow → Option LinesAbove
+abbrev first_above : PlacedRow → Option (ℕ × TextPiece)
 first_above w = cond (eqb w.line 0) (Some (above_row w)) None
 
 -- The item or entry above whose row lines are, by a path: its line is the first one of its row (own).
-record IsAbove (t : List ℕ) (p : Path) (w : LinesAbove) : Type 0 where
+record IsAbove (t : List ℕ) (p : Path) (w : ℕ × TextPiece) : Type 0 where
   entry : RowsOfEntry
   found : rows_of_entry p.doc (steps_of p) (cut_of t) ≡ Some entry
   first : entry.line ≡ 0
   same : above_rows entry ≡ w
-  text : cut_text (cut_of t) ≡ w.before ++ (w.run ++ w.behind)
+  text : cut_text (cut_of t) ≡ w.1.before ++ (w.1.text ++ w.1.behind)
 
-is_above : (t : List ℕ) (p : Path) (w : LinesAbove) → read_at t ≡ Some (cut_of t) → Some w ≡ lines_above p.doc (steps_of p) (cut_of t) → IsAbove t p w
+is_above : (t : List ℕ) (p : Path) (w : ℕ × TextPiece) → read_at t ≡ Some (cut_of t) → Some w ≡ lines_above p.doc (steps_of p) (cut_of t) → IsAbove t p w
 is_above t p w read is = go (rows_of_entry p.doc (steps_of p) (cut_of t)) refl
   where
     go : (o : Option RowsOfEntry) → rows_of_entry p.doc (steps_of p) (cut_of t) ≡ o → IsAbove t p w
@@ -83,7 +83,7 @@ is_above t p w read is = go (rows_of_entry p.doc (steps_of p) (cut_of t)) refl
           found = at;
           first = first;
           same = same;
-          text = subst (λ (x : LinesAbove). cut_text (cut_of t) ≡ x.before ++ (x.run ++ x.behind)) same text;
+          text = subst (λ (x : ℕ × TextPiece). cut_text (cut_of t) ≡ x.1.before ++ (x.1.text ++ x.1.behind)) same text;
         }
 
 -- the row of its line, among those of the text
@@ -96,23 +96,23 @@ row_number c p e x at is =
     ap (λ (n : LineCounts). n.0) (sym s.2) ∙ ap (λ (y : lines.RowLine). document_row p.doc c + y.before) same
 
 -- lines above a row end within a text's limit
-pub above_fits : (t : List ℕ) (p : Path) (w : LinesAbove) → read_at t ≡ Some (cut_of t) → Some w ≡ lines_above p.doc (steps_of p) (cut_of t) → length w.before + length w.run ≤ text_limit
+pub above_fits : (t : List ℕ) (p : Path) (w : ℕ × TextPiece) → read_at t ≡ Some (cut_of t) → Some w ≡ lines_above p.doc (steps_of p) (cut_of t) → length w.1.before + length w.1.text ≤ text_limit
 above_fits t p w read is =
     let c : Cut = cut_of t in
     let again : read_at (cut_text c) ≡ Some c = ap read_at (text_read t c read) ∙ read in
     let text = ap length (is_above t p w read is).text in
-    omega (arith, (cut_read (cut_text c) c again).size, text, length-append w.before (w.run ++ w.behind), length-append w.run w.behind)
+    omega (arith, (cut_read (cut_text c) c again).size, text, length-append w.1.before (w.1.text ++ w.1.behind), length-append w.1.text w.1.behind)
 
 -- a head comment that is put in their place
-pub head_comment_puts_there : (t : List ℕ) (p : Path) (text : List ℕ) (x : RowLine) (w : LinesAbove) (put : RowPut) → read_at t ≡ Some (cut_of t) →
+pub head_comment_puts_there : (t : List ℕ) (p : Path) (text : List ℕ) (x : RowLine) (w : ℕ × TextPiece) (put : RowPut) → read_at t ≡ Some (cut_of t) →
     Some (line_view x) ≡ option_map (numbers (document_row p.doc (cut_of t))) (row_line_at p (cut_of t)) → Some w ≡ lines_above p.doc (steps_of p) (cut_of t) →
-    HasOperand (head_comment p.doc (steps_of p) text) → IsUtf8 w.run → IsUtf8 w.behind → put.doc ≡ p.doc → put.row ≡ x.row → put.start ≡ length w.before → put.end ≡ length w.before + length w.run →
-    bytes_in string_bytes put.written ≡ Some (head_lines w.column (break_text (first_break (cut_text (cut_of t)))) (head_comment_lines text)) →
+    HasOperand (head_comment p.doc (steps_of p) text) → IsUtf8 w.1.text → IsUtf8 w.1.behind → put.doc ≡ p.doc → put.row ≡ x.row → put.start ≡ length w.1.before → put.end ≡ length w.1.before + length w.1.text →
+    bytes_in string_bytes put.written ≡ Some (head_lines w.0 (break_text (first_break (cut_text (cut_of t)))) (head_comment_lines text)) →
     PutsInRow (head_comment p.doc (steps_of p) text) (cut_of t) put
 head_comment_puts_there t p text x w put read line is operand run behind doc row start finish written =
     let c : Cut = cut_of t in
     let h : IsAbove t p w = is_above t p w read is in
-    let apart : cut_text c ≡ (w.before ++ w.run) ++ w.behind = h.text ∙ sym (append_assoc w.before w.run w.behind) in
+    let apart : cut_text c ≡ (w.1.before ++ w.1.text) ++ w.1.behind = h.text ∙ sym (append_assoc w.1.before w.1.text w.1.behind) in
     record {
       steps = steps_of p;
       entry = h.entry;
@@ -120,21 +120,21 @@ head_comment_puts_there t p text x w put read line is operand run behind doc row
       document = doc;
       row = row ∙ row_number c p h.entry x h.found line;
       valid = operand;
-      before = w.before;
-      old = w.run;
-      behind = w.behind;
+      before = w.1.before;
+      old = w.1.text;
+      behind = w.1.behind;
       text = h.text;
       start = start;
       finish = finish;
-      starts = subst (IsCharBoundary (cut_text c)) (sym start) (IsCharBoundary-at_seam (cut_text c) w.before _ h.text (IsUtf8-append w.run w.behind run behind));
-      ends = subst (IsCharBoundary (cut_text c)) (sym finish) (subst (IsCharBoundary (cut_text c)) (length-append w.before w.run) (IsCharBoundary-at_seam (cut_text c) (w.before ++ w.run) w.behind apart behind));
+      starts = subst (IsCharBoundary (cut_text c)) (sym start) (IsCharBoundary-at_seam (cut_text c) w.1.before _ h.text (IsUtf8-append w.1.text w.1.behind run behind));
+      ends = subst (IsCharBoundary (cut_text c)) (sym finish) (subst (IsCharBoundary (cut_text c)) (length-append w.1.before w.1.text) (IsCharBoundary-at_seam (cut_text c) (w.1.before ++ w.1.text) w.1.behind apart behind));
       there = λ d there breaks still. comes d there breaks h still;
     }
   where
     comes : (d : Cut) → read_at (cut_text d) ≡ Some d → (is_empty text ≡ false → first_break (cut_text d) ≡ first_break (cut_text (cut_of t))) → (h : IsAbove t p w) → (still : StandsStill h.entry p.doc (steps_of p) d) →
-        PutsSo (head_comment p.doc (steps_of p) text) d (rows_still h.entry still) w.run w.behind (bytes_in string_bytes put.written)
+        PutsSo (head_comment p.doc (steps_of p) text) d (rows_still h.entry still) w.1.text w.1.behind (bytes_in string_bytes put.written)
     comes d there breaks h still =
         let br : List ℕ = break_text (first_break (cut_text (cut_of t))) in
-        subst (PutsSo (head_comment p.doc (steps_of p) text) d (rows_still h.entry still) w.run w.behind) (sym written)
-        (subst (λ (y : LinesAbove). PutsText (head_comment p.doc (steps_of p) text) d (rows_still h.entry still) y.run (head_lines y.column br (head_comment_lines text)) y.behind) h.same
+        subst (PutsSo (head_comment p.doc (steps_of p) text) d (rows_still h.entry still) w.1.text w.1.behind) (sym written)
+        (subst (λ (y : ℕ × TextPiece). PutsText (head_comment p.doc (steps_of p) text) d (rows_still h.entry still) y.1.text (head_lines y.0 br (head_comment_lines text)) y.1.behind) h.same
         (head_comment_comes p.doc (steps_of p) text (cut_of t) h.entry h.first d there breaks still))

@@ -16,7 +16,7 @@ use Rattle.yq_places.specs.RemovalPlaces.{OwnRows, Removal, Seam, comment_above,
 use Rattle.yq_places.specs.RemovalPlaces.{seam_behind}
 use Rattle.yq_edit_rules.{specs.DocumentRows.IsDocumentPart, specs.EntryEdits.one_removed}
 use Rattle.yq_edit_rules.{specs.Edits.{op_edits, or_stay, part_removed, rows_or_sole}, specs.FlowParts.flow_removed}
-use Rattle.yq_edit_rules.{specs.Removing.{gap_mended, rows_removed}, specs.RemovingFirst.first_removed}
+use Rattle.yq_edit_rules.specs.Removing.{first_removed, gap_mended, rows_removed}
 use Rattle.yq_edit_rules.{specs.Siblings.{HasEntries, IsEntry, NodeLines, lines_at, lines_below}, proofs.PlacedPartLaws.document_stands_at}
 use Rattle.yq_edit_rules.proofs.RemovalChangeLaws.{removal_stands}
 use Rattle.yq_semantics.specs.Operations.{remove}

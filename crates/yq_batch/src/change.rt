@@ -12,8 +12,7 @@ use std::alloc::{AllocError, Global};
 use yq_core::Step;
 use yq_documents::Path;
 use yq_edit_laws::{
-    MorePut, PartPut, collection_near, last_step, more_in_node, operand_holds, part_near,
-    put_in_node,
+    PartPut, collection_near, last_step, more_in_node, operand_holds, part_near, put_in_node,
 };
 use yq_flow_edits::EditPlace;
 use yq_semantics::Op;
@@ -166,7 +165,7 @@ fn more_change<'s>(
         return Ok(None);
     };
     let put = more_in_node(alloc, node, key.as_deref(), value)?;
-    let Some(MorePut { place, written }) = put else {
+    let Some((place, written)) = put else {
         return Ok(None);
     };
     Ok(Some(HeadChange {

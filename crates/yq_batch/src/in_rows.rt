@@ -21,7 +21,7 @@ use yq_documents::Path;
 use yq_edit_laws::operand_holds;
 use yq_edit_rules::{is_filled, value_text};
 use yq_lookup::CutText;
-use yq_places::{HeldRow, is_text};
+use yq_places::{HeldRow, is_text, line_end};
 use yq_semantics::{ExprError, Op};
 use yq_text::{Edited, Halves};
 
@@ -121,7 +121,7 @@ fn comment_in_row(
         (line_comment path.now.doc (steps_of path.now) text.now) (cut_of cut.now))) }
 {
     let _text = cut.text();
-    let (white, comment) = at.line_end();
+    let (white, comment, _) = line_end(at.tail);
     let (start, end) = comment_place(text, at.start + at.head.len(), white, comment);
     let written = comment_written(alloc, text, comment)?;
     Ok(Some(RowPut {
@@ -146,20 +146,20 @@ fn comment_above_row(
     let Some(at) = cut.row_line(path) else {
         return Ok(None);
     };
-    let Some(above) = cut.lines_above(path) else {
+    let Some((column, above)) = cut.lines_above(path) else {
         return Ok(None);
     };
     let _text = cut.text();
-    let run = Halves::of(above.run);
+    let run = Halves::of(above.text);
     is_text(run);
     is_text(above.behind);
     let start = above.before.len();
-    let written = head_comment_written(alloc, cut, above.column, text)?;
+    let written = head_comment_written(alloc, cut, column, text)?;
     Ok(Some(RowPut {
         doc: path.doc,
         row: at.row,
         start,
-        end: start + above.run.len(),
+        end: start + above.text.len(),
         written: Some(written),
     }))
 }

@@ -1,6 +1,6 @@
 -- What is put where something is asks for no more than it writes.
-use Rattle.std.proofs.Common.{◌≡◌, ℕ, ◌+◌, Bool, true, false, cond, List, [], ◌∷◌, ◌++◌, replicate, Some, option_map, refl, sym, ap, subst}
-use Rattle.std.{proofs.Common.◌∙◌, proofs.lemmas.Bool.or_left}
+use Rattle.std.proofs.Common.{◌≡◌, ℕ, ◌+◌, Bool, true, false, cond, List, [], ◌++◌, replicate, Some, option_map, refl, sym, ap, subst, ◌∙◌}
+use Rattle.std.proofs.lemmas.Bool.{or_left}
 use Rattle.yq_core.{specs.BlockWritten.break_text, specs.Paths.Step, specs.Tree.Node}
 use Rattle.yq_core.specs.declared.style.Place.TheVariants.{Block as InBlock}
 use Rattle.yq_row_table.specs.Rows.{Cut}
@@ -12,7 +12,8 @@ use Rattle.yq_edit_rules.specs.Layouts.{LooksLike, node_asks, is_filled_as, is_u
 use Rattle.yq_edit_rules.specs.ReplaceEdits.{compact_put, has_text, held_put, block_scalar_put, value_put}
 use Rattle.yq_edit_rules.specs.WrittenValues.{collection_at, column_under, compact_text, inline, lines, lines_in, takes_compact, value_text}
 use Rattle.yq_edit_rules.{specs.WrittenValues.{written_at, written_under}, proofs.LayoutLaws.{indent_like, value_like}}
-use Rattle.yq_text.specs.Script.{Segment, keep, put}
+use Rattle.yq_edit_rules.specs.PiecePuts.{lines_replaced, piece_replaced}
+use Rattle.yq_text.specs.Script.{Segment}
 
 -- ---- a value that isn't a collection with items or entries
 
@@ -57,10 +58,10 @@ module _ (v : Node) (l k : Layout) where
   put_like text (alone w) h = refl
   put_like text (beside held) h = λ i. held_put (break_text (h.0 i)) held (at_like held.mark held.head h i)
   put_like text (under held column) h = λ i. held_put (break_text (h.0 i)) held (below_like held.mark h i)
-  put_like text (compact p) h = λ i. compact_put (break_text (h.0 i)) p (at_like p.mark [] h i)
+  put_like text (compact mark column w) h = λ i. compact_put (break_text (h.0 i)) w (at_like mark [] h i)
   put_like text (block held indent) h = λ i. block_scalar_put text (break_text (h.0 i)) held indent (at_like held.mark [] h i) (scalar_in v)
-  put_like text (root w) h = λ i. keep w.before ∷ (put w.old (value_like false v l k w.column h i) ∷ (keep w.last ∷ (keep w.behind ∷ [])))
-  put_like text (no_rows w) h = λ i. keep w.before ∷ (put [] (lines_put_behind (is_closed_text w.before) (break_text (h.0 i)) (value_like false v l k 0 h i)) ∷ (keep w.behind ∷ []))
+  put_like text (root column w) h = λ i. lines_replaced w (value_like false v l k column h i)
+  put_like text (no_rows w) h = λ i. piece_replaced w (lines_put_behind (is_closed_text w.before) (break_text (h.0 i)) (value_like false v l k 0 h i))
 
 -- a value put where something is, by a look that is like the document's, and by a text that is asked where it is a matter of that
 pub placed_there : (n : ℕ) (steps : List Step) (v : Node) (c : Cut) (l : Layout) (b keyed : Bool) (t : Standing) (ss : List Segment) → Some t ≡ standing_at n steps c → keyed ≡ is_under_key t →

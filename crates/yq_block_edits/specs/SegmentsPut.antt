@@ -5,17 +5,16 @@ use Rattle.yq_core.{specs.BlockWritten.break_text, specs.Scalar.ScalarText, spec
 use Rattle.yq_core.specs.declared.value.Value.{Value}
 use Rattle.yq_documents.{specs.Located.steps_of, specs.Reading.cut_of, specs.declared.path.Path.Path}
 use Rattle.yq_outline.specs.Bodies.{borrowed}
-use Rattle.yq_places.specs.NodesAt.{scalar_in}
-use Rattle.yq_places.specs.StandingViews.{compact_view, held_mark_view, held_view, no_rows_view, root_view, standing_view}
-use Rattle.yq_text.{specs.Halves.whole, specs.Script.Segment, specs.declared.halves.Halves.Halves}
+use Rattle.yq_places.{specs.NodesAt.scalar_in, specs.StandingViews.{held_mark_view, held_view, lines_view, piece_view, standing_view}}
+use Rattle.yq_text.specs.Script.{Segment}
 use Rattle.yq_edit_rules.{specs.declared.layout.Layout.Layout, specs.ValuesWritten.lines_at_mark}
 use Rattle.yq_edit_rules.specs.WrittenValues.{collection_by, inline, lines, written_at, written_under}
 use Rattle.yq_edit_rules.specs.ReplaceEdits.{block_put, block_scalar_put, compact_put, held_put, literal_put, no_rows_put, root_put}
-use Rattle.yq_edit_rules.{specs.ReplaceEdits.{string_put, value_put, value_put_at}, specs.EntryEdits.{behind_lines, more_at}}
+use Rattle.yq_edit_rules.{specs.ReplaceEdits.{string_put, value_put, value_put_at}, specs.EntryEdits.more_at}
 use Rattle.yq_places.specs.declared.places.held.Held as held
-use Rattle.yq_places.specs.declared.places.standing.BlockRoot as root
-use Rattle.yq_places.specs.declared.places.standing.Compact as compact
-use Rattle.yq_places.specs.declared.places.standing.NoRows as no_rows
+use Rattle.yq_places.specs.declared.places.held.EntryMark as mark
+use Rattle.yq_places.specs.declared.places.lines_cut.LinesIn as declared_lines
+use Rattle.yq_places.specs.declared.places.piece.TextPiece as piece
 use Rattle.yq_places.specs.declared.places.standing.Standing as standing
 
 -- the answer is these segments, unless memory ran out
@@ -59,17 +58,17 @@ abbrev pub value_held : Bool → Layout → held.Held → ℕ → Value → List
 value_held has_text l h indent v =
     block_scalar_put has_text (break_text l.br) (held_view h) indent (written_at l (held_mark_view h.mark) [] (value_node v)) (scalar_in (value_node v))
 
--- a value after a dash, in the place of a compact collection
-abbrev pub value_compact : Layout → compact.Compact → Value → List Segment
-value_compact l p v = compact_put (break_text l.br) (compact_view p) (written_at l (held_mark_view p.mark) [] (value_node v))
+-- a value after a dash, in the place of the lines of a compact collection
+abbrev pub value_compact : Layout → mark.EntryMark → declared_lines.LinesIn → Value → List Segment
+value_compact l m w v = compact_put (break_text l.br) (lines_view w) (written_at l (held_mark_view m) [] (value_node v))
 
--- a value in block style in the place of a root that is a block collection
-abbrev pub value_root : Layout → Value → root.BlockRoot → List Segment
-value_root l v w = root_put l (value_node v) (root_view w)
+-- a value in block style in the place of a root that is a block collection in a column
+abbrev pub value_root : Layout → Value → ℕ → declared_lines.LinesIn → List Segment
+value_root l v column w = root_put l (value_node v) column (lines_view w)
 
 -- a value in block style in a document without rows
-abbrev pub value_no_rows : Layout → Value → no_rows.NoRows → List Segment
-value_no_rows l v p = no_rows_put l (value_node v) (no_rows_view p)
+abbrev pub value_no_rows : Layout → Value → piece.TextPiece → List Segment
+value_no_rows l v p = no_rows_put l (value_node v) (piece_view p)
 
 -- a value in the place of what is there
 abbrev pub value_there : Bool → Layout → Value → standing.Standing → List Segment
@@ -86,7 +85,3 @@ value_at_path path v t = value_put_at path.doc (steps_of path) (value_node v) (c
 -- one more item or entry at the end of what is at a path of a text
 abbrev pub more_at_path : Path → List ℕ → Option (Bor (List ℕ)) → Value → Option (List Segment)
 more_at_path path t key v = more_at path.doc (steps_of path) (cut_of t) (borrowed key) (value_node v)
-
--- a text put after another one, which is in parts
-abbrev pub put_after : Halves → Halves → List ℕ → String Global → Halves → List Segment
-put_after before old last new behind = behind_lines (whole before) (whole old) last (string_bytes new) (whole behind)

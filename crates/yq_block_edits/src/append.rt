@@ -1,11 +1,11 @@
 //! Append: one more item or entry at the end of a block collection.
 ghost use Rattle.std.specs.Prelude.{◌≡◌, IfOk, string_bytes};
-ghost use Rattle.yq_places.specs.StandingViews.{held_view};
+ghost use Rattle.yq_places.specs.StandingViews.{held_view, lines_view};
 ghost use Rattle.yq_edit_rules.specs.Answers.{GivesSegments};
-ghost use Rattle.yq_block_edits.specs.SegmentsPut.{IsExchange, more_at_path, put_after};
-ghost use Rattle.yq_block_edits.specs.TextsPut.{layout_in, child_lines, more_text};
+ghost use Rattle.yq_block_edits.{specs.SegmentsPut.{IsExchange, more_at_path}, specs.TextsPut.{layout_in, child_lines, more_text}};
 ghost use Rattle.yq_core.specs.Strings.{AddsText, GivesText};
 ghost use Rattle.yq_edit_rules.specs.EntryEdits as spec;
+ghost use Rattle.yq_edit_rules.specs.PiecePuts as pieces;
 
 use crate::layout::layout_for;
 use std::alloc::{AllocError, Global};
@@ -13,7 +13,7 @@ use yq_core::Value;
 use yq_documents::Path;
 use yq_edit_rules::{Child, Layout, push_entry};
 use yq_lookup::CutText;
-use yq_places::{Held, Standing};
+use yq_places::{Held, LinesIn, Standing};
 use yq_scalar::block_written::break_text;
 use yq_scalar_reader::push_spaces;
 use yq_text::{Halves, Segment, Segments};
@@ -88,23 +88,20 @@ fn behind_held<'t>(alloc: Global, held: &Held<'t>, new: String) -> Result<Segmen
     Ok(Segments::new(segments))
 }
 
-/// Lines put after a text that ends in this break, or in none.
+/// Lines put after others and their last break.
 fn behind_lines<'t>(
     alloc: Global,
-    before: Halves<'t>,
-    old: Halves<'t>,
-    last: &'t str,
+    lines: &LinesIn<'t>,
     new: String,
-    behind: Halves<'t>,
 ) -> Result<Segments<'t>, AllocError>
-    ensures { IsExchange result (put_after before.entry old.entry last.now new behind.entry) }
+    ensures { IsExchange result (pieces.behind_lines (lines_view lines.now) (string_bytes new)) }
 {
     let segments = vec![in alloc;
-        Segment::Keep(before),
-        Segment::Keep(old),
-        Segment::Keep(Halves::of(last)),
+        Segment::Keep(lines.before),
+        Segment::Keep(lines.lines),
+        Segment::Keep(Halves::of(lines.last)),
         Segment::Put(Halves::of(""), new),
-        Segment::Keep(behind),
+        Segment::Keep(lines.behind),
     ]?;
     Ok(Segments::new(segments))
 }
@@ -130,13 +127,13 @@ pub fn more_at<'t>(
             let new = more_lines(alloc, cut, doc, child, column, held.last)?;
             behind_held(alloc, &held, new).map(Some)
         }
-        Some(Standing::Compact(p)) => {
-            let new = more_lines(alloc, cut, doc, child, p.column, p.last)?;
-            behind_lines(alloc, p.before, p.old, p.last, new, p.behind).map(Some)
+        Some(Standing::Compact(_, column, lines)) => {
+            let new = more_lines(alloc, cut, doc, child, column, lines.last)?;
+            behind_lines(alloc, &lines, new).map(Some)
         }
-        Some(Standing::Root(w)) => {
-            let new = more_lines(alloc, cut, doc, child, w.column, w.last)?;
-            behind_lines(alloc, w.before, w.old, w.last, new, w.behind).map(Some)
+        Some(Standing::Root(column, lines)) => {
+            let new = more_lines(alloc, cut, doc, child, column, lines.last)?;
+            behind_lines(alloc, &lines, new).map(Some)
         }
         _ => Ok(None),
     }

@@ -6,12 +6,13 @@ ghost use Rattle.yq_block_edits.specs.TextsPut.{at_path};
 ghost use Rattle.yq_edit_rules.specs.CommentEdits as spec;
 ghost use Rattle.yq_block_edits.specs.TextsPut as written;
 
+use crate::pieces::replace_piece;
 use std::alloc::{AllocError, Global};
 use yq_documents::Path;
 use yq_lookup::CutText;
 use yq_scalar::block_written::break_text;
 use yq_scalar_reader::push_spaces;
-use yq_text::{Halves, Segment, Segments};
+use yq_text::Segments;
 
 /// Adds a line of a head comment, with its break.
 fn push_line(out: &mut String, column: usize, br: &str, text: &str) -> Result<(), AllocError>
@@ -71,14 +72,9 @@ pub fn head_comment_at<'t>(
 ) -> Result<Option<Segments<'t>>, AllocError>
     ensures { GivesSegments result (at_path spec.head_comment_at path.now cut.now text.now) }
 {
-    let Some(above) = cut.lines_above(path) else {
+    let Some((column, above)) = cut.lines_above(path) else {
         return Ok(None);
     };
-    let new = head_comment_written(alloc, cut, above.column, text)?;
-    let segments = vec![in alloc;
-        Segment::Keep(above.before),
-        Segment::Put(Halves::of(above.run), new),
-        Segment::Keep(above.behind),
-    ]?;
-    Ok(Some(Segments::new(segments)))
+    let new = head_comment_written(alloc, cut, column, text)?;
+    replace_piece(alloc, &above, new).map(Some)
 }

@@ -9,6 +9,7 @@ mod kept;
 mod layout;
 mod line_comment;
 mod lone;
+mod pieces;
 mod removing;
 mod replace;
 mod space;

@@ -1,19 +1,20 @@
 //! A value in the place of a node that isn't after a key or dash.
-ghost use Rattle.std.specs.Prelude.{◌≡◌, IfOk};
+ghost use Rattle.std.specs.Prelude.{◌≡◌};
 ghost use Rattle.yq_text.specs.Halves.{whole};
 ghost use Rattle.yq_core.{specs.Values.value_node, specs.Strings.GivesText};
-ghost use Rattle.yq_places.specs.StandingViews.{lone_view};
+ghost use Rattle.yq_places.specs.StandingViews.{piece_view};
 ghost use Rattle.yq_block_edits.{specs.SegmentsPut.{IsExchange, value_root, value_no_rows}, specs.TextsPut.lines_put_after};
 ghost use Rattle.yq_edit_rules.specs.ClosedTexts as closed;
 ghost use Rattle.yq_edit_rules.specs.ReplaceEdits as spec;
 
+use crate::pieces::{replace_lines, replace_piece};
 use crate::space::apart;
 use std::alloc::{AllocError, Global};
 use yq_core::{Place, Value};
 use yq_edit_rules::{Layout, push_block, value_text};
-use yq_places::{BlockRoot, Lone, NoRows};
+use yq_places::{LinesIn, TextPiece};
 use yq_scalar::block_written::break_text;
-use yq_text::{Halves, Segment, Segments};
+use yq_text::{Halves, Segments};
 
 /// A value in one line in the place of a node that is alone on its line.
 ///
@@ -21,42 +22,32 @@ use yq_text::{Halves, Segment, Segments};
 /// [`AllocError`] where memory is refused.
 pub fn lone_put<'t>(
     alloc: Global,
-    lone: &Lone<'t>,
+    lone: &TextPiece<'t>,
     value: &Value,
 ) -> Result<Segments<'t>, AllocError>
-    ensures { IfOk result (λ ss. ss ≡ spec.lone_put (lone_view lone.now) (value_node value.now)) }
+    ensures { IsExchange result (spec.lone_put (piece_view lone.now) (value_node value.now)) }
 {
-    let text = value_text(alloc, Place::Block, lone.head.as_bytes(), value)?;
-    let new = apart(alloc, lone.head, text)?;
-    let segments = vec![in alloc;
-        Segment::Keep(lone.before),
-        Segment::Put(Halves::of(lone.head), new),
-        Segment::Keep(lone.behind),
-    ]?;
-    Ok(Segments::new(segments))
+    let text = value_text(alloc, Place::Block, lone.text.as_bytes(), value)?;
+    let new = apart(alloc, lone.text, text)?;
+    replace_piece(alloc, lone, new)
 }
 
-/// A value in block style in the place of a root that is a block collection.
+/// A value in block style in the place of a root that is a block collection in a column.
 ///
 /// # Errors
 /// [`AllocError`] where memory is refused.
 pub fn root_put<'t>(
     alloc: Global,
     layout: &Layout,
-    root: &BlockRoot<'t>,
+    column: usize,
+    root: &LinesIn<'t>,
     value: &Value,
 ) -> Result<Segments<'t>, AllocError>
-    ensures { IsExchange result (value_root layout.now value.now root.now) }
+    ensures { IsExchange result (value_root layout.now value.now column root.now) }
 {
     let mut text = String::new(alloc);
-    push_block(alloc, &mut text, layout, root.column, value)?;
-    let segments = vec![in alloc;
-        Segment::Keep(root.before),
-        Segment::Put(root.old, text),
-        Segment::Keep(Halves::of(root.last)),
-        Segment::Keep(root.behind),
-    ]?;
-    Ok(Segments::new(segments))
+    push_block(alloc, &mut text, layout, column, value)?;
+    replace_lines(alloc, root, text)
 }
 
 /// Whether a text is empty or ends in a break.
@@ -109,16 +100,11 @@ fn lines_behind(
 pub fn no_rows_put<'t>(
     alloc: Global,
     layout: &Layout,
-    place: &NoRows<'t>,
+    place: &TextPiece<'t>,
     value: &Value,
 ) -> Result<Segments<'t>, AllocError>
     ensures { IsExchange result (value_no_rows layout.now value.now place.now) }
 {
     let lines = lines_behind(alloc, layout, place.before, value)?;
-    let segments = vec![in alloc;
-        Segment::Keep(place.before),
-        Segment::Put(Halves::of(""), lines),
-        Segment::Keep(place.behind),
-    ]?;
-    Ok(Segments::new(segments))
+    replace_piece(alloc, place, lines)
 }

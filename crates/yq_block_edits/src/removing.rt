@@ -1,9 +1,9 @@
 //! Remove: one of several items or entries of a block collection.
 ghost use Rattle.std.specs.Prelude.{◌≡◌, ◌++◌, IfOk, OnOk, option_map, replicate, string_bytes};
 ghost use Rattle.yq_core.specs.Text.{text_lines};
-ghost use Rattle.yq_places.{specs.FirstViews.first_view, specs.RemovalReading.{removal_view, seam_view}};
-ghost use Rattle.yq_edit_rules.{specs.RemovingFirst.first_removed, specs.Answers.GivesSegments};
-ghost use Rattle.yq_block_edits.specs.TextsPut.{at_path};
+ghost use Rattle.yq_places.{specs.RemovalReading.{removal_view, seam_view}, specs.StandingViews.pieces_view};
+ghost use Rattle.yq_edit_rules.{specs.Answers.GivesSegments, specs.Removing.first_removed};
+ghost use Rattle.yq_block_edits.{specs.SegmentsPut.IsExchange, specs.TextsPut.at_path};
 ghost use Rattle.yq_edit_rules.specs.EntryEdits as entries;
 ghost use Rattle.yq_edit_rules.specs.Removing as spec;
 
@@ -12,7 +12,7 @@ use yq_core::lines::split_line;
 use yq_core::text::{is_blank, split_white};
 use yq_documents::Path;
 use yq_lookup::CutText;
-use yq_places::{FirstRemoval, Removal, Seam};
+use yq_places::{Removal, Seam};
 use yq_scalar::block_repair::{is_outside, is_short};
 use yq_scalar_reader::push_spaces;
 use yq_text::{Halves, Segment, Segments};
@@ -129,16 +129,19 @@ fn take_out<'d>(alloc: Global, removal: &Removal<'d>) -> Result<Segments<'d>, Al
 }
 
 /// The segments in which the first item or entry of a compact collection goes.
-fn take_first<'d>(alloc: Global, removal: &FirstRemoval<'d>) -> Result<Segments<'d>, AllocError>
-    ensures { IfOk result (λ ss. ss ≡ first_removed (first_view removal.now)) }
+fn take_first<'d>(
+    alloc: Global,
+    before: Halves<'d>,
+    gone: Halves<'d>,
+    behind: Halves<'d>,
+) -> Result<Segments<'d>, AllocError>
+    ensures { IsExchange result (first_removed
+        (pieces_view before.entry gone.entry behind.entry)) }
 {
     let segments = vec![in alloc;
-        Segment::Keep(removal.before),
-        Segment::Put(removal.space, String::new(alloc)),
-        Segment::Put(removal.entry, String::new(alloc)),
-        Segment::Put(removal.line, String::new(alloc)),
-        Segment::Put(removal.indent, String::new(alloc)),
-        Segment::Keep(removal.behind),
+        Segment::Keep(before),
+        Segment::Put(gone, String::new(alloc)),
+        Segment::Keep(behind),
     ]?;
     Ok(Segments::new(segments))
 }
@@ -158,8 +161,8 @@ pub fn one_removed<'d>(
     if let Some(removal) = cut.removal(path) {
         return take_out(alloc, &removal).map(Some);
     }
-    let Some(removal) = cut.first_removal(path) else {
+    let Some((before, gone, behind)) = cut.first_removal(path) else {
         return Ok(None);
     };
-    take_first(alloc, &removal).map(Some)
+    take_first(alloc, before, gone, behind).map(Some)
 }

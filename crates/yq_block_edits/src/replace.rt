@@ -36,11 +36,11 @@ fn value_put<'t>(
         Standing::Alone(lone) => lone_put(alloc, lone, value),
         Standing::Beside(held) => beside_put(alloc, layout, held, value),
         Standing::Under(held, _) => under_put(alloc, layout, held, value),
-        Standing::Compact(compact) => compact_put(alloc, layout, compact, value),
+        Standing::Compact(mark, _, lines) => compact_put(alloc, layout, *mark, lines, value),
         Standing::Block(held, indent) => {
             block_scalar_put(alloc, has_text, layout, held, *indent, value)
         }
-        Standing::Root(root) => root_put(alloc, layout, root, value),
+        Standing::Root(column, lines) => root_put(alloc, layout, *column, lines, value),
         Standing::NoRows(place) => no_rows_put(alloc, layout, place, value),
     }
 }
@@ -78,8 +78,8 @@ fn text_there(
         Standing::Alone(_) => Ok(false),
         Standing::Beside(_) => Ok(false),
         Standing::Under(_, _) => Ok(false),
-        Standing::Compact(_) => Ok(false),
-        Standing::Root(_) => Ok(false),
+        Standing::Compact(_, _, _) => Ok(false),
+        Standing::Root(_, _) => Ok(false),
         Standing::NoRows(_) => Ok(false),
     }
 }
@@ -92,8 +92,8 @@ fn is_keyed(standing: &Standing<'_>) -> bool
         Standing::Beside(held) => held.mark.keyed,
         Standing::Under(held, _) => held.mark.keyed,
         Standing::Block(held, _) => held.mark.keyed,
-        Standing::Compact(compact) => compact.mark.keyed,
-        Standing::Alone(_) | Standing::Root(_) | Standing::NoRows(_) => false,
+        Standing::Compact(mark, _, _) => mark.keyed,
+        Standing::Alone(_) | Standing::Root(_, _) | Standing::NoRows(_) => false,
     }
 }
 

@@ -1,6 +1,6 @@
 -- What putting an item or entry into a flow collection comes to, by what the code finds.
 use Rattle.std.proofs.Common.{rules, ◌≡◌, inl, inr, ℕ, Bool, true, false, cond, List, length, Option, Some, None, sym, ap, ◌∙◌, subst, refl}
-use Rattle.std.proofs.lemmas.Option.{none-some, same_Some}
+use Rattle.std.{proofs.lemmas.Option.{none-some, same_Some}, specs.Prelude.String, specs.declared.alloc.Global.Global}
 use Rattle.yq_core.{specs.Answers.◌>>=◌, specs.Paths.Step, specs.Tree.Node, specs.Collections.CollPieces}
 use Rattle.yq_core.{specs.Places.{Placed, placed, locate}, specs.Nodes.key_text, specs.NodesWritten.{flow_key, flow_of, flow_text}}
 use Rattle.yq_flow_edits.{specs.FlowEdits.{FlowEdit, appending}, specs.FlowPlaces.{PlacedEdit, append_place, edit_view, place_edit}}
@@ -13,11 +13,10 @@ use Rattle.yq_places.specs.declared.places.flow_node.FlowHead.{FlowHead}
 use Rattle.yq_lookup.{specs.FlowEnds.{FlowEndAgrees, IsFlowEnd, IsInPiece}, specs.declared.flow_ends.FlowEnd.FlowEnd}
 use Rattle.yq_edit_rules.specs.FlowParts.{flow_more, flow_segments, takes_key}
 use Rattle.yq_edit_laws.specs.EditPlaces.{end_place, keyed_takes, moved_on, placed_takes}
-use Rattle.yq_edit_laws.{specs.PartPuts.{AreMore, IsEditPlace, PutsMoreIn, more_edit, place_after}, specs.declared.append.MorePut.MorePut}
-use Rattle.yq_edit_laws.{proofs.CutLaws.text_read, proofs.FlowAnswers.{CollFound, EditFound, edit_lies, edit_moved}}
-use Rattle.yq_edit_laws.{proofs.NeighbourPlaces.end_is_there, proofs.PiecePlaces.{place_found, whole_of}}
-use Rattle.yq_edit_laws.{proofs.FlowAppendLaws.{bounds, there}, proofs.FlowHeads.{append_found, appended_within, whole_is}}
-use Rattle.yq_edit_laws.proofs.FlowLonger.{appending_more}
+use Rattle.yq_edit_laws.{specs.PartPuts.{AreMore, IsEditPlace, PutsMoreIn, more_edit, place_after}, proofs.CutLaws.text_read}
+use Rattle.yq_edit_laws.{proofs.FlowAnswers.{CollFound, EditFound, edit_lies, edit_moved}, proofs.NeighbourPlaces.end_is_there}
+use Rattle.yq_edit_laws.{proofs.PiecePlaces.{place_found, whole_of}, proofs.FlowAppendLaws.{bounds, there}}
+use Rattle.yq_edit_laws.{proofs.FlowHeads.{append_found, appended_within, whole_is}, proofs.FlowLonger.appending_more}
 
 -- whether the collection takes it
 core_takes : (q : Placed) (key : Option (List ℕ)) → placed_takes (behind_anchor q) key ≡ placed_takes q key
@@ -64,10 +63,10 @@ module _ (c : Cut) (n : ℕ) (steps : List Step) (key : Option (List ℕ)) (v : 
       record { lies = edit_lies c n steps x q f (edit f.coll) (edit_view r) (bounds c n steps key v f.coll f.read f.found) moved; place_is = moved; before = s.before; text = s.text }
 
   -- so what the code puts into the node is what is put into the collection
-  pub more_found : (o : Option MorePut) → PutsMoreIn q key v o → AreMore n steps key v c x.before o
+  pub more_found : (o : Option (EditPlace × String Global)) → PutsMoreIn q key v o → AreMore n steps key v c x.before o
   more_found None (inl apart) = more_apart apart
   more_found None (inr none) = absurd (none-some _ (sym none ∙ place_is))
-  more_found (Some p) h = (f.coll, f.found, (takes_there h.0, more_placed p.place (sym h.1), h.2))
+  more_found (Some p) h = (f.coll, f.found, (takes_there h.0, more_placed p.0 (sym h.1), h.2))
 
 -- ---- by the end of the collection
 

@@ -8,7 +8,7 @@ use Rattle.yq_row_table.{specs.Rows.{Row, behind_gap, behind_indent, rows_text, 
 use Rattle.yq_row_table.{proofs.seams.FrontSeams.behind_row_some, proofs.splices.PartPlaces.part_ends}
 use Rattle.yq_documents.{specs.Reading.read_at, specs.Ready.begins_no_node, specs.PartNumbers.part_number}
 use Rattle.yq_places.{specs.PlacedRows.{PlacedPart, placed_document}, specs.PrintedLines.{last_break, less_break}}
-use Rattle.yq_places.{specs.Standings.{BlockRoot, is_alone}, proofs.CommentPieceLaws.{Ended, gap_end}, proofs.PrintedTexts.less_is}
+use Rattle.yq_places.{specs.Standings.{LinesIn, is_alone}, proofs.CommentPieceLaws.{Ended, gap_end}, proofs.PrintedTexts.less_is}
 use Rattle.yq_places.proofs.RemovalLines.{LineSeam, LiesIn, lies_in, seam_join}
 use Rattle.yq_edit_rules.{specs.DocumentRows.IsDocumentPart, specs.PlacedParts.StandsAt, specs.TextPieces.IsPiece}
 use Rattle.yq_edit_rules.{proofs.AppendPlaceLaws.rows_behind, proofs.EndedRowLaws.{rows_ended, rows_then}}
@@ -23,7 +23,7 @@ use Rattle.yq_core.specs.declared.block_types.Break.TheVariants as breaks
 -- ---- the rows of the root
 
 -- A block collection as the root of document n: its part, its first row, and the text round it.
-pub record IsBlockRoot (n : ℕ) (c : Cut) (w : BlockRoot) : Type 0 where
+pub record IsBlockRoot (n : ℕ) (c : Cut) (column : ℕ) (w : LinesIn) : Type 0 where
   pub d : PlacedPart
   pub placed : placed_document n c ≡ Some d
   pub row : Row
@@ -33,8 +33,8 @@ pub record IsBlockRoot (n : ℕ) (c : Cut) (w : BlockRoot) : Type 0 where
   pub ends : (IsOneBreak w.last) ⊎ ((w.last ≡ []) × (d.part.end ++ d.behind ≡ []))
   pub before_is : w.before ≡ d.before ++ (row.gap ++ replicate row.column 32)
   pub behind_is : w.behind ≡ d.part.end ++ d.behind
-  pub column_is : w.column ≡ row.column
-  pub whole : w.before ++ (w.old ++ (w.last ++ w.behind)) ≡ cut_text c
+  pub column_is : column ≡ row.column
+  pub whole : w.before ++ (w.lines ++ (w.last ++ w.behind)) ≡ cut_text c
 
 -- the last of rows
 last_row : (r : Row) (rs : List Row) → (front : List Row) × (z : Row) × (r ∷ rs ≡ front ++ (z ∷ []))
@@ -63,8 +63,8 @@ module _ (d : PlacedPart) (r : Row) (rs : List Row) (are : AreRows unlimited (r 
           inl (lf_end (r.gap ++ replicate r.column 32) own (subst IsLf (sym (append_assoc r.gap (replicate r.column 32) (behind_indent r (rows_text rs [])))) lf) (some_length own (row_some r _ (rows_text rs []) are.0.mark alone)))
       go (inr none) = inr none
 
-pub block_root_at : (n : ℕ) (c : Cut) (w : BlockRoot) → read_at (cut_text c) ≡ Some c → HasRoot n c w → IsBlockRoot n c w
-block_root_at n c w read h = subst (IsBlockRoot n c) h.is (record {
+pub block_root_at : (n : ℕ) (c : Cut) (column : ℕ) (w : LinesIn) → read_at (cut_text c) ≡ Some c → HasRoot n c column w → IsBlockRoot n c column w
+block_root_at n c column w read h = subst (IsBlockRoot n c column) h.is (record {
   d = h.d;
   placed = h.placed;
   row = h.row;
@@ -74,7 +74,7 @@ block_root_at n c w read h = subst (IsBlockRoot n c) h.is (record {
   ends = ends_with t more (own_ended h.d h.row h.others are h.block);
   before_is = refl;
   behind_is = refl;
-  column_is = refl;
+  column_is = sym h.column_is;
   whole = ap (λ u. (h.d.before ++ front) ++ u) (sym (append_assoc (less_break t) (last_break t) more) ∙ ap (λ u. u ++ more) (less_is t))
       ∙ (append_assoc h.d.before front (t ++ more)
       ∙ (ap (λ u. h.d.before ++ u) (sym (rows_split h.d h.row h.others are more)) ∙ (ap (λ xs. h.d.before ++ rows_text xs more) (sym h.rows_are) ∙ sym stands.text)));
@@ -111,7 +111,7 @@ one_break_piece : (t : List ℕ) → IsOneBreak t → IsPiece t
 one_break_piece t (inl e) = subst IsPiece (sym e) (break_piece breaks.Lf)
 one_break_piece t (inr e) = subst IsPiece (sym e) (break_piece breaks.CrLf)
 
-module _ (n : ℕ) (c : Cut) (w : BlockRoot) (read : read_at (cut_text c) ≡ Some c) (h : IsBlockRoot n c w) where
+module _ (n : ℕ) (c : Cut) (column : ℕ) (w : LinesIn) (read : read_at (cut_text c) ≡ Some c) (h : IsBlockRoot n c column w) where
   stands : StandsAt c n h.d
   stands = document_stands_at c n h.d h.placed
 

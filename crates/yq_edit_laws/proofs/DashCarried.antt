@@ -11,7 +11,8 @@ use Rattle.yq_row_table.{specs.Rows.{Cut, Nothing, Row, cut_text, mark_column, r
 use Rattle.yq_row_table.proofs.PlaceLaws.{row_front-append}
 use Rattle.yq_documents.specs.Reading.{part_outline, read_at, root_of}
 use Rattle.yq_places.{specs.RowPieces.upto_dash, specs.PrintedLines.{last_break, less_break}}
-use Rattle.yq_places.{specs.Standings.{Compact, RowsOfEntry, compact_in, dash_text, rows_of_entry}, proofs.PrintedTexts.less_is}
+use Rattle.yq_places.specs.Standings.{LinesIn, RowsOfEntry, compact_lines, compact_mark, dash_text, rows_of_entry}
+use Rattle.yq_places.proofs.PrintedTexts.{less_is}
 use Rattle.yq_edit_rules.{proofs.AppendEntryLaws.none_uncommented, specs.Appends.inserted, specs.Changed.put_document}
 use Rattle.yq_edit_rules.{specs.SoundRoots.MayReplace, specs.StandingLaws.StandsThere, specs.TextPieces.IsPiece}
 use Rattle.yq_edit_rules.{specs.Unders.spaced_content, proofs.TextPieceLaws.pieces_joined, specs.declared.layout.Layout.Layout}
@@ -38,8 +39,8 @@ module _ (n : ℕ) (s : Step) (ss : List Step) (c : Cut) (e : RowsOfEntry) (ther
   abbrev l : Layout
   l = layout_of n c
 
-  abbrev p : Compact
-  p = compact_in e
+  abbrev p : LinesIn
+  p = compact_lines e
 
   abbrev mark : Row
   mark = upto_dash e.line e.row
@@ -51,7 +52,7 @@ module _ (n : ℕ) (s : Step) (ss : List Step) (c : Cut) (e : RowsOfEntry) (ther
   z = rest n s ss c (dash_node n s ss c e there less)
 
   abbrev segments : List ℕ → List Segment
-  segments t = keep p.before ∷ (put p.old t ∷ (keep p.last ∷ (keep p.behind ∷ [])))
+  segments t = keep p.before ∷ (put p.lines t ∷ (keep p.last ∷ (keep p.behind ∷ [])))
 
   -- the old text
   old_there : (t : List ℕ) → old_text (segments t) ≡ cut_text c
@@ -59,7 +60,7 @@ module _ (n : ℕ) (s : Step) (ss : List Step) (c : Cut) (e : RowsOfEntry) (ther
       let parts : p.before ++ (less_break (dash_text e) ++ (last ++ (p.behind ++ []))) ≡ p.before ++ ((less_break (dash_text e) ++ last) ++ p.behind) = simp (append_assoc, append-nil) refl in
       parts ∙ (ap (λ o. p.before ++ (o ++ p.behind)) (less_is (dash_text e)) ∙ sym (dash_spelled n s ss c e there less read at))
 
-  pub dash_old : (br : List ℕ) (w : Written) → old_text (compact_put br (compact_in e) w) ≡ cut_text c
+  pub dash_old : (br : List ℕ) (w : Written) → old_text (compact_put br (compact_lines e) w) ≡ cut_text c
   dash_old br (inline t) = old_there (32 ∷ t)
   dash_old br (compact_text t) = old_there (32 ∷ t)
   dash_old br (lines t) = old_there (br ++ t)
@@ -172,15 +173,17 @@ module _ (n : ℕ) (s : Step) (ss : List Step) (c : Cut) (e : RowsOfEntry) (ther
           (end_is n s ss c h last last_tail) uncommented) (br ++ lines_in l column v) under_text (content_first (Nothing br) mark)
           (pieces_joined br (lines_in l column v) (break_piece l.br) (lines_piece l column v tree))
 
-    pub dash_carried : length (new_text (compact_put (break_text l.br) (compact_in e) (written_at l (compact_in e).mark [] v))) ≤ text_limit →
-        CarriedOut (replace n (s ∷ ss) v) c (compact_put (break_text l.br) (compact_in e) (written_at l (compact_in e).mark [] v))
-    dash_carried = go (is_filled v) (takes_compact p.mark) refl
+    pub dash_carried : length (new_text (compact_put (break_text l.br) (compact_lines e) (written_at l (compact_mark e) [] v))) ≤ text_limit →
+        CarriedOut (replace n (s ∷ ss) v) c (compact_put (break_text l.br) (compact_lines e) (written_at l (compact_mark e) [] v))
+    dash_carried = go (is_filled v) (takes_compact (compact_mark e)) refl
       where
         go : (b d : Bool) → is_filled v ≡ b →
             length (new_text (compact_put (break_text l.br) p
-            (cond b (cond d (compact_text (block_value l (item_column p.mark.column) v)) (lines (lines_in l (item_column p.mark.column) v)))
+            (cond b (cond d (compact_text (block_value l (item_column (compact_mark e).column) v)) (lines (lines_in l (item_column (compact_mark e).column) v)))
             (inline (value_text InBlock [] v))))) ≤ text_limit →
-            CarriedOut op c (compact_put (break_text l.br) p (cond b (cond d (compact_text (block_value l (item_column p.mark.column) v)) (lines (lines_in l (item_column p.mark.column) v))) (inline (value_text InBlock [] v))))
+            CarriedOut op c (compact_put (break_text l.br) p
+            (cond b (cond d (compact_text (block_value l (item_column (compact_mark e).column) v))
+            (lines (lines_in l (item_column (compact_mark e).column) v))) (inline (value_text InBlock [] v))))
         go true true full = behind_carried full
         go true false full = under_carried full
         go false d full = beside_carried (value_text InBlock [] v) (value_for [] v tree f.deep f.long)

@@ -14,9 +14,9 @@ values_are_put : ValuesArePut
 values_are_put n steps v c (alone w) read at other = marked_values n steps v c (alone w) read at refl other
 values_are_put n steps v c (beside h) read at other = marked_values n steps v c (beside h) read at refl other
 values_are_put n steps v c (under h column) read at other = marked_values n steps v c (under h column) read at refl other
-values_are_put n steps v c (compact p) read at other = marked_values n steps v c (compact p) read at refl other
+values_are_put n steps v c (compact m column w) read at other = marked_values n steps v c (compact m column w) read at refl other
 values_are_put n steps v c (block h indent) read at other = marked_values n steps v c (block h indent) read at refl other
-values_are_put n steps v c (root w) read at other = roots_are_put n steps v c w read at
+values_are_put n steps v c (root column w) read at other = roots_are_put n steps v c column w read at
 values_are_put n steps v c (no_rows w) read at other = first_nodes_are_put n steps v c w read at
 
 are_edits : KindsCarryOut

@@ -10,8 +10,9 @@ use Rattle.yq_row_table.specs.Rows.{Bare, Row, behind_gap, parent_indent, print_
 use Rattle.yq_row_table.{specs.View.slices, proofs.CharacterLaws.ends_after, proofs.NodePieces.ends_behind}
 use Rattle.yq_row_table.proofs.seams.SeamLaws.{rows_text-append}
 use Rattle.yq_documents.{specs.Documents.lead_of, specs.Reading.{documents, read_at, root_of}, specs.TreeEdits.replaced_node}
-use Rattle.yq_places.{specs.PlacedRows.{PlacedPart, PlacedRow, placed_document}, specs.Standings.{Lone, lone}}
-use Rattle.yq_places.{proofs.CommentEndLaws.row_text_parts, proofs.CommentPieceLaws.gap_end, proofs.LineEndLaws.line_tail}
+use Rattle.yq_documents.specs.Pieces.{TextPiece}
+use Rattle.yq_places.{specs.PlacedRows.{PlacedPart, PlacedRow, placed_document}, specs.Standings.lone, proofs.CommentEndLaws.row_text_parts}
+use Rattle.yq_places.{proofs.CommentPieceLaws.gap_end, proofs.LineEndLaws.line_tail}
 use Rattle.yq_places.{proofs.RemovalLines.{LiesIn, LineSeam, lies_in, seam_join}, proofs.RunSpans.rows_then}
 use Rattle.yq_edit_rules.{specs.DocumentRows.{IsDocumentPart, behind_document}, specs.InlineRows.LeadsToLone, specs.PlacedParts.StandsAt}
 use Rattle.yq_edit_rules.{specs.Rooms.is_block_root, specs.TextPieces.IsPiece, proofs.CoreLaws.put_core, proofs.InlineReplaceLaws.own_rows}
@@ -36,7 +37,7 @@ module _ (n : ℕ) (steps : List Step) (v : Node) (c : Cut) (read : read_at (cut
   abbrev base : List ℕ
   base = d.before ++ rows_text front []
 
-  abbrev w : Lone
+  abbrev w : TextPiece
   w = lone (d.before ++ rows_text front []) r (rows_text back (d.part.end ++ d.behind))
 
   abbrev us : List Segment
@@ -68,11 +69,11 @@ module _ (n : ℕ) (steps : List Step) (v : Node) (c : Cut) (read : read_at (cut
   text : cut_text c ≡ base ++ print_row r z
   text = stands.text ∙ (ap (λ u. d.before ++ u) rows_there ∙ sym (append_assoc d.before (rows_text front []) (print_row r z)))
 
-  whole : cut_text c ≡ w.before ++ (w.head ++ w.behind)
+  whole : cut_text c ≡ w.before ++ (w.text ++ w.behind)
   whole = simp (append_assoc, text, row_text_parts, raw)
 
   old_is : old_text us ≡ cut_text c
-  old_is = ap (λ u. w.before ++ (w.head ++ u)) (append-nil w.behind) ∙ sym whole
+  old_is = ap (λ u. w.before ++ (w.text ++ u)) (append-nil w.behind) ∙ sym whole
 
   -- ---- its pieces
 
@@ -102,7 +103,7 @@ module _ (n : ℕ) (steps : List Step) (v : Node) (c : Cut) (read : read_at (cut
       go : (before_head r.content ≡ []) ⊎ EndsLow (before_head r.content) → IsPiece (indent ++ before_head r.content)
       go (inl e) = subst IsPiece (sym (ap (λ u. indent ++ u) e ∙ append-nil indent)) indent_piece
       go (inr e) =
-          (cut_behind (indent ++ before_head r.content) (w.head ++ w.behind) (subst IsPiece (whole ∙ ap (λ u. u ++ (w.head ++ w.behind)) before_is) (text_is_piece c read)) (ends_behind indent (before_head r.content) e.0)
+          (cut_behind (indent ++ before_head r.content) (w.text ++ w.behind) (subst IsPiece (whole ∙ ap (λ u. u ++ (w.text ++ w.behind)) before_is) (text_is_piece c read)) (ends_behind indent (before_head r.content) e.0)
           (ends_after indent (before_head r.content) e.1)).0
 
   tail : IsTail (slices r).tail ((slices r).raw ++ z)
@@ -118,7 +119,7 @@ module _ (n : ℕ) (steps : List Step) (v : Node) (c : Cut) (read : read_at (cut
 
   -- ---- the new text
 
-  some_head : spaced_text w.head t ≡ t
+  some_head : spaced_text w.text t ≡ t
   some_head = ap (λ b. cond b (32 ∷ t) t) place.some
 
   new_is : new_text us ≡ w.before ++ (t ++ w.behind)

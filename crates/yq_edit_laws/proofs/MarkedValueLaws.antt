@@ -6,8 +6,9 @@ use Rattle.yq_row_table.{specs.Rows.{Content, Nothing, Inline, Block, Row, Cut, 
 use Rattle.yq_row_table.specs.View.{content_cut, slices}
 use Rattle.yq_documents.specs.Reading.{read_at}
 use Rattle.yq_places.{specs.NodesAt.node_in, specs.PlacedRows.{PlacedPart, placed_document}}
-use Rattle.yq_places.specs.Standings.{RowsOfEntry, Standing, before_entry, behind_entry, behind_mark, below, compact_in, entry_standing}
-use Rattle.yq_places.{specs.Standings.{held, is_alone, lone, rows_of_entry, root_standing}, proofs.PrintedTexts.map_some}
+use Rattle.yq_places.specs.Standings.{RowsOfEntry, Standing, before_entry, behind_entry, behind_mark, below, compact_in, compact_lines}
+use Rattle.yq_places.specs.Standings.{compact_mark, entry_standing, held, is_alone, lone, rows_of_entry, root_standing}
+use Rattle.yq_places.proofs.PrintedTexts.{map_some}
 use Rattle.yq_edit_rules.{specs.StandingLaws.StandsThere, proofs.StandingRows.{entry_within, rows_stand}, specs.EditLaws.IsEdit}
 use Rattle.yq_edit_rules.{specs.Layouts.layout_of, specs.ReplaceEdits.{has_text, value_put}, specs.WrittenValues.written_at}
 use Rattle.yq_edit_rules.proofs.EditsFitLaws.{fits_replace}
@@ -48,15 +49,15 @@ module _ (n : ℕ) (s : Step) (ss : List Step) (v : Node) (c : Cut) (e : RowsOfE
         (λ none. under_it none (ap is_block is) e.under refl) (λ some. at_edit n s ss c e there last (known (ap first_alone (headless_there n s ss c e there last some))) v (ap is_block is))
     by_content (Block space anchor b) is = scalar_edit n s ss c e there last (known (ap first_alone (headless_there n s ss c e there last (ap (λ y. is_empty (content_cut y).3) is)))) space anchor b is v
 
-  dash_put_there : e.line < length e.row.dashes → IsPut (standings.compact (compact_in e))
+  dash_put_there : e.line < length e.row.dashes → IsPut (compact_in e)
   dash_put_there strict = record {
-    old = dash_old n s ss c e there strict read at (break_text (layout_of n c).br) (written_at (layout_of n c) (compact_in e).mark [] v);
+    old = dash_old n s ss c e there strict read at (break_text (layout_of n c).br) (written_at (layout_of n c) (compact_mark e) [] v);
     carried = λ tree fits. dash_carried n s ss c e there strict read at v tree (fits_replace n (s ∷ ss) v c there.part there.old.there tree fits);
   }
 
   entry_put : IsPut (entry_standing e)
   entry_put =
-      cond_both (eqb e.line (length e.row.dashes)) (behind_mark e e.row.content) (standings.compact (compact_in e)) IsPut
+      cond_both (eqb e.line (length e.row.dashes)) (behind_mark e e.row.content) (compact_in e) IsPut
       (λ is. by_content (eqb-true e.line (length e.row.dashes) is) e.row.content refl) (λ other. dash_put_there (less e.line (length e.row.dashes) other (entry_within n s ss c e at)))
 
 pub marked_values : MarkedValuesArePut
@@ -71,6 +72,6 @@ marked_values n [] v c t read at marked kept =
         IsEdit (replace n [] v) c (value_put (has_text (node_in n [] c)) (layout_of n c) v (root_standing d rs))
     by_rows d placed [] is marked = absurd (false≢true marked)
     by_rows d placed (r ∷ rs) is marked =
-        cond_both (is_alone r) (standings.alone (lone d.before r (rows_text rs (d.part.end ++ d.behind)))) (standings.root (standings.block_root d r rs))
+        cond_both (is_alone r) (standings.alone (lone d.before r (rows_text rs (d.part.end ++ d.behind)))) (standings.root r.column (standings.root_lines d r rs))
         (λ (t : Standing). is_marked t ≡ true → IsEdit (replace n [] v) c (value_put (has_text (node_in n [] c)) (layout_of n c) v t))
         (λ alone m. lone_root_edit n v c d r rs read placed is alone) (λ other m. absurd (false≢true m)) marked

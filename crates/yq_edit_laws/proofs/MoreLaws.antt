@@ -1,26 +1,27 @@
 -- One item or entry more at the end of a block collection: what is put there reads as the documents after the operation.
 use Rattle.std.proofs.Common.{rules, inl, inr, ◌⊎◌, ◌≡◌, ℕ, zero, suc, ◌<◌, ◌≤◌, Bool, true, false, cond, eqb, not, List, [], ◌∷◌, ◌++◌}
-use Rattle.std.proofs.Common.{length, drop, replicate, Option, Some, refl, sym, ap, ◌∙◌, subst, arith, append_assoc, append-nil}
+use Rattle.std.proofs.Common.{length, drop, replicate, take, Option, Some, refl, sym, ap, ◌∙◌, subst, arith, append_assoc, append-nil}
 use Rattle.std.{proofs.lemmas.Bool.{cases_lt, cond-false, eqb-true, eqb-false}, proofs.lemmas.Option.{none-some, same_Some}}
 use Rattle.yq_core.{specs.BlockWritten.break_text, specs.Paths.Step, specs.Text.is_empty, specs.Tree.Node, proofs.Bools.bind_some}
 use Rattle.yq_row_table.{specs.Exchange.row_front, specs.Grammar.{AreDashes, AreRows, IsRow, Limit, unlimited}}
-use Rattle.yq_row_table.specs.Rows.{Content, Nothing, Inline, Block, Cut, Row, behind_dashes, behind_indent, cut_text, dashes_text}
-use Rattle.yq_row_table.{specs.Rows.{part_text, print_row, rows_text}, specs.View.{content_cut, slices}, proofs.NothingLaws.some_behind}
+use Rattle.yq_row_table.specs.Rows.{Content, Nothing, Inline, Block, Cut, Row, behind_columns, behind_dashes, behind_indent, cut_text}
+use Rattle.yq_row_table.{specs.Rows.{dashes_text, part_text, print_row, rows_text}, specs.View.{content_cut, slices}}
+use Rattle.yq_row_table.proofs.NothingLaws.{some_behind}
 use Rattle.yq_documents.specs.Reading.{read_at}
 use Rattle.yq_semantics.specs.Operations.{append}
 use Rattle.yq_text.specs.Script.{Segment}
 use Rattle.yq_places.{specs.CollectionEnds.{CollectionEnd, is_broken}, specs.CommentPlaces.text_to_line_end}
 use Rattle.yq_places.{specs.RowPieces.{past_dash, upto_dash}, specs.PlacedRows.{PlacedPart, placed_document}, specs.PrintedLines.last_break}
-use Rattle.yq_places.specs.Standings.{BlockRoot, Compact, Held, RowsOfEntry, alone, beside, compact, root, under, before_entry}
-use Rattle.yq_places.specs.Standings.{behind_entry, behind_mark, below, block_root, compact_in, dash_text, entry_standing, held, is_alone}
-use Rattle.yq_places.{specs.Standings.{Standing, lone, rows_of_entry, root_standing, standing_at}, proofs.CommentEndLaws.row_text_parts}
+use Rattle.yq_places.specs.Standings.{Held, LinesIn, RowsOfEntry, alone, beside, root, under, before_entry, behind_entry, behind_mark}
+use Rattle.yq_places.specs.Standings.{below, compact_in, compact_lines, dash_text, entry_standing, held, is_alone, Standing, lone}
+use Rattle.yq_places.{specs.Standings.{rows_of_entry, root_lines, root_standing, standing_at}, proofs.CommentEndLaws.row_text_parts}
 use Rattle.yq_places.{proofs.DashLaws.{line_within, row_cut}, proofs.PrintedTexts.{less_is, map_some}}
 use Rattle.yq_edit_rules.{specs.CollectionPlaces.IsCollectionEnd, specs.DocumentRows.{IsDocumentPart, behind_document}}
 use Rattle.yq_edit_rules.{specs.PlacedParts.StandsAt, specs.StandingLaws.StandsThere, proofs.EndedRowLaws.row_there}
 use Rattle.yq_edit_rules.{proofs.PartLaws.{document_known, part_rows}, proofs.PlacedPartLaws.document_stands_at}
 use Rattle.yq_edit_rules.{proofs.StandingRows.rows_stand, specs.EditLaws.{IsEdit, MoreIsPut}, specs.ClosedTexts.lines_put_behind}
-use Rattle.yq_edit_rules.specs.EntryEdits.{entry_lines, more_at, behind_held, behind_lines, more_lines, block_more}
-use Rattle.yq_edit_rules.{specs.Layouts.layout_of, proofs.AppendPlaces.IsAppendPlace}
+use Rattle.yq_edit_rules.{specs.EntryEdits.{entry_lines, more_at, behind_held, more_lines, block_more}, specs.Layouts.layout_of}
+use Rattle.yq_edit_rules.{specs.PiecePuts.behind_lines, proofs.AppendPlaces.IsAppendPlace}
 use Rattle.yq_edit_rules.{proofs.CommentRowLaws.{entry_is_row, entry_row, rows_front}, proofs.HeldLaws.held_spelled}
 use Rattle.yq_edit_laws.proofs.CollectionRows.{EndIn, behind_front, text_broken}
 use Rattle.yq_edit_laws.proofs.CollectionStands.{are, begins_behind, begins_under, end_at, ends_there, headless_dash, headless_mark}
@@ -74,11 +75,10 @@ module _ (n : ℕ) (s : Step) (ss : List Step) (key : Option (List ℕ)) (v : No
 
   -- a compact collection
   compact_edit : e.line < length e.row.dashes →
-      IsMore n (s ∷ ss) key v c
-      (behind_lines (compact_in e).before (compact_in e).old (compact_in e).last
-      (more_lines (layout_of n c) key v (compact_in e).column (compact_in e).last) (compact_in e).behind)
+      IsMore n (s ∷ ss) key v c (behind_lines (compact_lines e) (more_lines (layout_of n c) key v (behind_columns e.row.column (take (suc e.line) e.row.dashes)) (compact_lines e).last))
   compact_edit less =
-      let w : Compact = compact_in e in
+      let w : LinesIn = compact_lines e in
+      let column : ℕ = behind_columns e.row.column (take (suc e.line) e.row.dashes) in
       let t : List ℕ = dash_text e in
       let row_is = row_there unlimited e.front e.row (e.under ++ e.back) there.part.end (behind_document n c)
       (subst (λ us. AreRows unlimited us there.part.end (behind_document n c)) there.rows_are (are n s ss c e there)) in
@@ -87,9 +87,9 @@ module _ (n : ℕ) (s : Step) (ss : List Step) (key : Option (List ℕ)) (v : No
       rows_front e.front (e.row ∷ e.under) [] ∙ (ap (λ z. rows_text e.front [] ++ z) cut_is ∙ sym (append_assoc (rows_text e.front []) (row_front (upto_dash e.line e.row)) t)) in
       let some : is_empty t ≡ false = dash_some e.line e.row.dashes less row_is.1.dashes row_is.1 in
       let broken : not (is_empty w.last) ≡ is_broken rows.last.content = broken_by _ t text some in
-      let end = ends_there n s ss c e there w.column (not (is_empty w.last)) (headless_dash n s ss c e there less) (begins_behind n s ss c e there less) broken in
-      let spelled : w.before ++ (w.old ++ w.last) ≡ before_entry e ++ print_row e.row (rows_text e.under []) = search (rules, less_is, append_assoc) in
-      more_edit_at n (s ∷ ss) key v c (end_at n s ss c e there w.column (not (is_empty w.last))) _ read (place w.column (not (is_empty w.last)) end) (lines_put_at w.before w.old w.last w.behind w.column _ _ _ spelled)
+      let end = ends_there n s ss c e there column (not (is_empty w.last)) (headless_dash n s ss c e there less) (begins_behind n s ss c e there less) broken in
+      let spelled : w.before ++ (w.lines ++ w.last) ≡ before_entry e ++ print_row e.row (rows_text e.under []) = search (rules, less_is, append_assoc) in
+      more_edit_at n (s ∷ ss) key v c (end_at n s ss c e there column (not (is_empty w.last))) _ read (place column (not (is_empty w.last)) end) (lines_put_at w column _ _ _ spelled)
     where
       dashed : (ns ms : List ℕ) (limit : Limit) (rest : List ℕ) → IsRow limit e.row rest → (1 ≤ length ns) → AreDashes ns e.row.mark → is_empty (dashes_text ms (behind_dashes e.row (rows_text e.under []))) ≡ false
       dashed [] ms limit rest h k d = absurd (omega (arith, k))
@@ -141,7 +141,7 @@ module _ (n : ℕ) (s : Step) (ss : List Step) (key : Option (List ℕ)) (v : No
           by false a h = absurd (none-some _ h)
       mark_by (Block space anchor b) at last h = absurd (none-some _ h)
 
-      go : (b : Bool) → eqb e.line (length e.row.dashes) ≡ b → block_more (layout_of n c) key v (cond b (behind_mark e e.row.content) (compact (compact_in e))) ≡ Some us → IsMore n (s ∷ ss) key v c us
+      go : (b : Bool) → eqb e.line (length e.row.dashes) ≡ b → block_more (layout_of n c) key v (cond b (behind_mark e e.row.content) (compact_in e)) ≡ Some us → IsMore n (s ∷ ss) key v c us
       go true b h = mark_by e.row.content refl (eqb-true e.line (length e.row.dashes) b) h
       go false b h =
           subst (IsMore n (s ∷ ss) key v c) (same_Some _ _ h) (compact_edit (within (eqb-false e.line (length e.row.dashes) b)))
@@ -159,10 +159,9 @@ root_edit n key v c d us read at is = go d.part.rows refl is
     go (r ∷ rs) are_rows h = by (is_alone r) refl h
       where
         edit : is_alone r ≡ false →
-            IsMore n [] key v c (behind_lines (block_root d r rs).before (block_root d r rs).old (block_root d r rs).last
-            (more_lines (layout_of n c) key v r.column (block_root d r rs).last) (block_root d r rs).behind)
+            IsMore n [] key v c (behind_lines (root_lines d r rs) (more_lines (layout_of n c) key v r.column (root_lines d r rs).last))
         edit a =
-            let w : BlockRoot = block_root d r rs in
+            let w : LinesIn = root_lines d r rs in
             let t : List ℕ = behind_indent r (rows_text rs []) in
             let rest : List ℕ = behind_document n c in
             let old : IsDocumentPart (cut_text c) c n d.part = record { read = read; there = stands.there } in
@@ -175,14 +174,14 @@ root_edit n key v c d us read at is = go d.part.rows refl is
             let x : CollectionEnd = record { column = r.column; before = d.before ++ rows_text d.part.rows []; broken = not (is_empty w.last); behind = d.part.end ++ rest } in
             let end : IsCollectionEnd c n d.part [] x =
             root_ends n c d.part d.before r rs (not (is_empty w.last)) stands.there are_rows a (λ q. stands.put q ∙ ap (λ u. d.before ++ part_text q u) (sym stands.behind)) broken in
-            let spelled : w.before ++ (w.old ++ w.last) ≡ x.before = search (rules, less_is, append_assoc) in
+            let spelled : w.before ++ (w.lines ++ w.last) ≡ x.before = search (rules, less_is, append_assoc) in
             more_edit_at n [] key v c x _ read (record { part = d.part; there = stands.there; end = end })
             (subst (λ (z : List ℕ). IsPutAt (record { column = r.column; before = x.before; broken = x.broken; behind = d.part.end ++ z })
             (more_lines (layout_of n c) key v r.column w.last)
-            (behind_lines w.before w.old w.last (more_lines (layout_of n c) key v r.column w.last) w.behind)) (sym stands.behind)
-            (lines_put_at w.before w.old w.last w.behind r.column _ _ _ spelled))
+            (behind_lines w (more_lines (layout_of n c) key v r.column w.last))) (sym stands.behind)
+            (lines_put_at w r.column _ _ _ spelled))
 
-        by : (b : Bool) → is_alone r ≡ b → block_more (layout_of n c) key v (cond b (alone (lone d.before r (rows_text rs (d.part.end ++ d.behind)))) (root (block_root d r rs))) ≡ Some us → IsMore n [] key v c us
+        by : (b : Bool) → is_alone r ≡ b → block_more (layout_of n c) key v (cond b (alone (lone d.before r (rows_text rs (d.part.end ++ d.behind)))) (root r.column (root_lines d r rs))) ≡ Some us → IsMore n [] key v c us
         by true a h = absurd (none-some _ h)
         by false a h = subst (IsMore n [] key v c) (same_Some _ _ h) (edit a)
 

@@ -6,10 +6,10 @@ use Rattle.yq_text.{specs.Limit.text_limit, specs.Script.{Segment, kept_back, ke
 use Rattle.yq_row_table.specs.Rows.{Cut, cut_text}
 use Rattle.yq_documents.specs.Reading.{documents, read_at}
 use Rattle.yq_semantics.{specs.Fits.Fits, specs.Operations.append, specs.Rooms.room_of}
-use Rattle.yq_places.{specs.CollectionEnds.CollectionEnd, specs.Standings.Held}
-use Rattle.yq_edit_rules.{specs.ClosedTexts.lines_put_behind, specs.EditLaws.IsEdit}
-use Rattle.yq_edit_rules.{specs.EntryEdits.{behind_held, behind_lines, entry_lines}, specs.Layouts.layout_of, specs.Local.IsLocalTo}
-use Rattle.yq_edit_rules.{specs.Operands.HasOperand, specs.ReadsAfter.ReadsAfter, proofs.AppendAtEnd.end_both}
+use Rattle.yq_places.{specs.CollectionEnds.CollectionEnd, specs.Standings.{Held, LinesIn}}
+use Rattle.yq_edit_rules.{specs.ClosedTexts.lines_put_behind, specs.EditLaws.IsEdit, specs.EntryEdits.{behind_held, entry_lines}}
+use Rattle.yq_edit_rules.{specs.Layouts.layout_of, specs.Local.IsLocalTo, specs.PiecePuts.behind_lines, specs.Operands.HasOperand}
+use Rattle.yq_edit_rules.{specs.ReadsAfter.ReadsAfter, proofs.AppendAtEnd.end_both}
 use Rattle.yq_edit_rules.{proofs.AppendPlaces.{IsAppendPlace, IsAsked, old_is, p, put_segments}, proofs.DoneLaws.nth_map}
 use Rattle.yq_edit_rules.proofs.EditsFitLaws.{tree_unique}
 use Rattle.yq_edit_laws.proofs.AppendInside.{inside_both}
@@ -76,6 +76,6 @@ pub held_put_at : (h : Held) (column : ℕ) (new : List ℕ) (before : List ℕ)
     IsPutAt (record { column = column; before = before; broken = broken; behind = h.behind }) new (behind_held h new)
 held_put_at h column new before broken is = search (rules, append-nil, append_assoc)
 
-pub lines_put_at : (before old last behind : List ℕ) (column : ℕ) (new text : List ℕ) (broken : Bool) → before ++ (old ++ last) ≡ text →
-    IsPutAt (record { column = column; before = text; broken = broken; behind = behind }) new (behind_lines before old last new behind)
-lines_put_at before old last behind column new text broken is = search (rules, append_assoc, append-nil)
+pub lines_put_at : (w : LinesIn) (column : ℕ) (new text : List ℕ) (broken : Bool) → w.before ++ (w.lines ++ w.last) ≡ text →
+    IsPutAt (record { column = column; before = text; broken = broken; behind = w.behind }) new (behind_lines w new)
+lines_put_at w column new text broken is = search (rules, append_assoc, append-nil)

@@ -12,7 +12,7 @@ use Rattle.yq_documents.specs.Reading.{documents, read_at}
 use Rattle.yq_flow_edits.{specs.FlowEdits.{FlowEdit, appending}, specs.Removals.removing, proofs.RemoveTexts.either}
 use Rattle.yq_places.{specs.FirstPlaces.first_removal, specs.FlowNodes.flow_collection, specs.NodesAt.node_in}
 use Rattle.yq_places.{specs.PlacedRows.{PlacedPart, placed_document}, specs.RemovalPlaces.{has_others_at, removal_place}}
-use Rattle.yq_places.specs.Standings.{Compact, Held, RowsOfEntry, Standing, alone, behind_mark, below, beside, block, compact}
+use Rattle.yq_places.specs.Standings.{Held, LinesIn, RowsOfEntry, Standing, alone, behind_mark, below, beside, block, compact}
 use Rattle.yq_places.specs.Standings.{entry_standing, flow_standing, held, last_step, no_rows, rows_of_entry, root, root_standing}
 use Rattle.yq_places.{specs.Standings.{standing_at, under}, proofs.PrintedTexts.map_some}
 use Rattle.yq_semantics.{specs.Fits.Fits, specs.Operations.{replace, append, remove, line_comment, head_comment}, specs.Rooms.room_of}
@@ -20,7 +20,7 @@ use Rattle.yq_edit_rules.{specs.declared.layout.Layout.Layout, specs.CommentEdit
 use Rattle.yq_edit_rules.specs.Edits.{part_removed, replace_segments, rows_or_sole, sole_removed}
 use Rattle.yq_edit_rules.specs.EntryEdits.{block_more, one_removed}
 use Rattle.yq_edit_rules.{specs.FlowParts.{flow_more, flow_put, flow_removed, flow_segments, takes_key}, specs.Layouts.layout_of}
-use Rattle.yq_edit_rules.{specs.Removing.rows_removed, specs.RemovingFirst.first_removed}
+use Rattle.yq_edit_rules.specs.Removing.{first_removed, rows_removed}
 use Rattle.yq_edit_rules.specs.ReplaceEdits.{block_put, compact_put, has_text, held_put, literal_put, block_scalar_put, string_put}
 use Rattle.yq_edit_rules.{specs.ReplaceEdits.value_put, specs.Replacing.keeps_scalar}
 use Rattle.yq_edit_rules.specs.WrittenValues.{Written, compact_text, inline, lines}
@@ -53,7 +53,7 @@ block_near br h (lines t) k = (nothing_line, (nothing_line, (k.broken, (nothing_
 scalar_near : (text : Bool) (br : List ℕ) (h : Held) (indent : ℕ) (w : Written) (s : Option ScalarText) → IsInLine h → InLines (block_scalar_put text br h indent w s)
 scalar_near text br h indent w s k = search (rules, block_near, string_near)
 
-dash_near : (br : List ℕ) (p : Compact) (w : Written) → InLines (compact_put br p w)
+dash_near : (br : List ℕ) (p : LinesIn) (w : Written) → InLines (compact_put br p w)
 dash_near br p (inline t) = (nothing_line, tt)
 dash_near br p (compact_text t) = (nothing_line, tt)
 dash_near br p (lines t) = (nothing_line, tt)
@@ -63,9 +63,9 @@ abbrev StandsInLine : Standing → Type 0
 StandsInLine (alone w) = ⊤
 StandsInLine (beside h) = IsInLine h
 StandsInLine (under h column) = IsInLine h
-StandsInLine (compact p) = ⊤
+StandsInLine (compact m column w) = ⊤
 StandsInLine (block h indent) = IsInLine h
-StandsInLine (root w) = ⊤
+StandsInLine (root column w) = ⊤
 StandsInLine (no_rows w) = ⊤
 
 value_near : (text : Bool) (l : Layout) (v : Node) (t : Standing) → StandsInLine t → InLines (value_put text l v t)
@@ -142,7 +142,7 @@ appended_near n steps key v c ss (inr e) = let w = bind_some (flow_collection n 
 module _ (n : ℕ) (steps : List Step) (c : Cut) (ss : List Segment) (read : read_at (cut_text c) ≡ Some c) (fits : Fits (room_of (cut_text c)) (remove n steps) (documents c)) (size : length (new_text ss) ≤ text_limit) where
   one_near : has_others_at n steps c ≡ true → (option_map rows_removed (removal_place n steps c) ≡ Some ss) ⊎ (option_map first_removed (first_removal n steps c) ≡ Some ss) → IsLocalEdit ss
   one_near others (inl e) = search (rules, map_some (removal_place n steps c) e, rows_near)
-  one_near others (inr e) = let x = map_some (first_removal n steps c) e in subst IsLocalEdit x.2 (inl (nothing_line, (nothing_line, (nothing_line, (nothing_line, tt)))))
+  one_near others (inr e) = let x = map_some (first_removal n steps c) e in subst IsLocalEdit x.2 (inl (nothing_line, tt))
 
   part_near : (o : Option (List Step × Step)) → part_removed n c o ≡ Some ss → IsLocalEdit ss
   part_near None e = absurd (none-some _ e)

@@ -1,6 +1,6 @@
 -- Where an item or entry of a flow collection is that is taken out, by the places of it and of those next to it; and where one more comes.
-use Rattle.std.proofs.Common.{◌≡◌, ℕ, ◌-◌, Bool, true, false, cond, List, [], ◌∷◌, ◌++◌, length, Option, Some, None, option_map, refl, sym}
-use Rattle.std.{proofs.Common.{ap, ◌∙◌, subst}, specs.Option.option_or, specs.Prelude.is_some}
+use Rattle.std.proofs.Common.{◌≡◌, ℕ, ◌-◌, Bool, true, false, cond, List, length, Option, Some, None, option_map, refl, sym, ap, ◌∙◌, subst}
+use Rattle.std.{specs.Option.option_or, specs.Prelude.is_some}
 use Rattle.yq_core.{specs.Answers.◌>>=◌, specs.Collections.{CollAt, CollPieces, IsCollAt}, specs.Entries.entry_start}
 use Rattle.yq_core.specs.Nodes.{FlowNode, Items, Key, Sep, coll, flow_items_text, item, key_text, node_text, none, sep_text}
 use Rattle.yq_core.{specs.Paths.{Step, further, is_here}, specs.Places.{Parts, key_placed, locate, locate_items}, specs.Tree.key_label}

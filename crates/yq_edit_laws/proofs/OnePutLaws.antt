@@ -5,10 +5,9 @@ use Rattle.yq_core.{specs.Text.is_empty, specs.Tree.Node, specs.declared.style.P
 use Rattle.yq_places.specs.Standings.{Held}
 use Rattle.yq_text.{specs.Script.{Segment, changes, keep, keep_before, merged, put, put_before, splice_at, splices_at}, specs.Splice.Splice}
 use Rattle.yq_text.proofs.TouchLaws.{put_twice}
-use Rattle.yq_edit_rules.{specs.CommentEdits.{comment_written, head_lines}, specs.ReplaceEdits.spaced_text}
-use Rattle.yq_edit_rules.specs.RowChanges.{CommentPutsOne, HeadCommentPutsOne, InlinePutsOne, PutsOne, inline_put, takes_white}
+use Rattle.yq_edit_rules.{specs.CommentEdits.comment_written, specs.ReplaceEdits.spaced_text}
+use Rattle.yq_edit_rules.specs.RowChanges.{CommentPutsOne, InlinePutsOne, PiecePutsOne, PutsOne, inline_put, takes_white}
 use Rattle.yq_edit_rules.specs.WrittenValues.{value_text}
-use Rattle.yq_semantics.specs.Meaning.{head_comment_lines}
 
 -- ---- segments that exchange no bytes
 
@@ -125,14 +124,12 @@ module _ (h : Held) (text : List ℕ) where
 pub comment_puts : CommentPutsOne
 comment_puts text h = by_white h text (takes_white text h)
 
--- ---- a head comment
+-- ---- a piece
 
-pub head_comment_puts : HeadCommentPutsOne
+pub piece_puts : PiecePutsOne
 unfolding changes
-head_comment_puts br text w =
-    let new : List ℕ = head_lines w.column br (head_comment_lines text) in
-    record {
-      old_is = ap (λ (t : List ℕ). w.before ++ (w.run ++ t)) (append-nil w.behind);
-      new_is = ap (λ (t : List ℕ). w.before ++ (new ++ t)) (append-nil w.behind);
-      changes_are = first_keep w.before (merged (put w.run new ∷ (keep w.behind ∷ []))) ∙ put_quiet (length w.before) w.run new (keep w.behind ∷ []) tt;
-    }
+piece_puts w t = record {
+  old_is = ap (λ (u : List ℕ). w.before ++ (w.text ++ u)) (append-nil w.behind);
+  new_is = ap (λ (u : List ℕ). w.before ++ (t ++ u)) (append-nil w.behind);
+  changes_are = first_keep w.before (merged (put w.text t ∷ (keep w.behind ∷ []))) ∙ put_quiet (length w.before) w.text t (keep w.behind ∷ []) tt;
+}

@@ -13,8 +13,9 @@ use Rattle.yq_row_table.{specs.Rows.{Row, Part, part_text, Cut, cut_text}, proof
 use Rattle.yq_row_table.{proofs.splices.MarkerLaws.marker_appended, proofs.GapLaws.some_more}
 use Rattle.yq_row_table.specs.Items.{Item, end_item, rows_items, items_of_cut, items_text}
 use Rattle.yq_row_table.proofs.ItemLaws.{items_of_text, items_text-append}
-use Rattle.yq_places.{specs.PlacedRows.PlacedPart, specs.Standings.NoRows, specs.RowPaths.IsReadable, proofs.RemovalLines.LineSeam}
-use Rattle.yq_documents.{specs.Reading.{all_documents, is_document, read_at}, proofs.ReadLaws.{text_again, text_takes}}
+use Rattle.yq_documents.{specs.Pieces.TextPiece, specs.Reading.{all_documents, is_document, read_at}}
+use Rattle.yq_documents.proofs.ReadLaws.{text_again, text_takes}
+use Rattle.yq_places.{specs.PlacedRows.PlacedPart, specs.RowPaths.IsReadable, proofs.RemovalLines.LineSeam}
 use Rattle.yq_edit_rules.{specs.declared.layout.Layout.Layout, specs.BlockText.block_value, proofs.LaidRows.no_gap_here}
 use Rattle.yq_edit_rules.{specs.PlacedParts.StandsAt, specs.TextPieces.IsPiece, proofs.PlacedPartLaws.document_stands_at}
 use Rattle.yq_edit_rules.{proofs.TextPieceLaws.pieces_joined, specs.ClosedTexts.is_closed_text, specs.Changed.put_document}
@@ -39,7 +40,7 @@ room_at_end gap front = record { front = front; tail = nothing_tail; apart = ref
 front_short : (a b : List ℕ) (limit : ℕ) → length (a ++ b) ≤ limit → length a ≤ limit
 front_short a b limit h = omega (arith, h, length-append a b)
 
-module _ (n : ℕ) (c : Cut) (w : NoRows) (read : read_at (cut_text c) ≡ Some c) (h : IsUnwrittenRoot n c w) (open' : is_closed_text w.before ≡ false) (br : Break) where
+module _ (n : ℕ) (c : Cut) (w : TextPiece) (read : read_at (cut_text c) ≡ Some c) (h : IsUnwrittenRoot n c w) (open' : is_closed_text w.before ≡ false) (br : Break) where
   all_open : is_closed_text (h.d.before ++ h.d.part.end) ≡ false
   all_open = ap is_closed_text (sym h.before_is) ∙ open'
 
@@ -132,11 +133,11 @@ module _ (n : ℕ) (c : Cut) (w : NoRows) (read : read_at (cut_text c) ≡ Some 
       unfolding read_at
       other_read = cond-true _ _ _ (ap is_utf8 other_text ∙ is_utf8-from_IsUtf8 broken_text piece.utf8) ∙ text_again (cut_text other) other other_cut other_documents
 
-      abbrev place : NoRows
-      place = record { before = (h.d.before ++ break_text br) ++ h.d.part.end; behind = [] }
+      abbrev place : TextPiece
+      place = record { before = (h.d.before ++ break_text br) ++ h.d.part.end; text = []; behind = [] }
 
-      other_root : IsUnwrittenRoot n (with_last_part (break_text br) h.d.part c) (record { before = (h.d.before ++ break_text br) ++ h.d.part.end; behind = [] })
-      other_root = record { d = broken_before (break_text br) h.d; placed = marker.placed; rows_are = h.rows_are; before_is = refl; behind_is = refl }
+      other_root : IsUnwrittenRoot n (with_last_part (break_text br) h.d.part c) (record { before = (h.d.before ++ break_text br) ++ h.d.part.end; text = []; behind = [] })
+      other_root = record { d = broken_before (break_text br) h.d; placed = marker.placed; rows_are = h.rows_are; before_is = refl; text_is = refl; behind_is = refl }
 
       other_closed : is_closed_text ((h.d.before ++ break_text br) ++ h.d.part.end) ≡ true
       other_closed = ap is_closed_text (ap (λ x. broken_text ++ x) none ∙ append-nil broken_text) ∙ closed_end h.d.before (break_text br) (break_kind (break_text br) (break_is br))

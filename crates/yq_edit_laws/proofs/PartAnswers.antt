@@ -11,7 +11,8 @@ use Rattle.yq_row_table.specs.Rows.{Cut, cut_text}
 use Rattle.yq_documents.specs.Reading.{cut_of, read_at}
 use Rattle.yq_places.{specs.FlowNodes.flow_collection, specs.NodesAt.node_in}
 use Rattle.yq_places.specs.Standings.{FlowPart, flow_part, flow_standing, last_step}
-use Rattle.yq_lookup.{specs.PartNodes.{IsPartNode, PartAgrees, part_at, coll_part}, specs.declared.flow_part.PartNode.PartNode}
+use Rattle.yq_inline.specs.declared.along.NodeAlong.{NodeAlong}
+use Rattle.yq_lookup.specs.PartNodes.{IsPartNode, PartAgrees, part_at, coll_part}
 use Rattle.yq_edit_rules.{specs.Replacing.keeps_scalar, specs.WrittenValues.value_text}
 use Rattle.yq_edit_laws.{specs.EditPlaces.moved_on, specs.PartPuts.{ArePuts, IsPlaceOf, PutsInNode, place_after, put_edit}}
 use Rattle.yq_edit_laws.{specs.declared.put.PartPut.PartPut, proofs.CutLaws.text_read, proofs.FlowAnswers.bounds_lie}
@@ -21,14 +22,14 @@ use Rattle.yq_edit_laws.proofs.PutAnswers.{old_at, value_is, written_found}
 use Rattle.yq_core.specs.Tree as tree
 
 -- The code finds the item or entry to which a step leads in the flow collection at a path.
-pub record PartFound (c : Cut) (n : ℕ) (init : List Step) (s : Step) (x : PartNode) : Type 0 where
+pub record PartFound (c : Cut) (n : ℕ) (init : List Step) (s : Step) (x : NodeAlong × ℕ) : Type 0 where
   pub read : read_at (cut_text c) ≡ Some c
   pub item : EntryPieces
   pub there : part_at n init s c ≡ Some item
   pub stands : IsPartNode (cut_text c) item x
 
 -- by what it tells
-pub part_found : (t : List ℕ) (n : ℕ) (init : List Step) (s : Step) (o : Option PartNode) (x : PartNode) → read_at t ≡ Some (cut_of t) → PartAgrees t (part_at n init s (cut_of t)) o → o ≡ Some x → PartFound (cut_of t) n init s x
+pub part_found : (t : List ℕ) (n : ℕ) (init : List Step) (s : Step) (o : Option (NodeAlong × ℕ)) (x : NodeAlong × ℕ) → read_at t ≡ Some (cut_of t) → PartAgrees t (part_at n init s (cut_of t)) o → o ≡ Some x → PartFound (cut_of t) n init s x
 part_found t n init s o x read agrees is = go (cut_of t) read (subst (PartAgrees t (part_at n init s (cut_of t))) is agrees)
   where
     here : (c : Cut) (u : List ℕ) → read_at u ≡ Some c → u ≡ cut_text c → (p : Option EntryPieces) → part_at n init s c ≡ p → PartAgrees u p (Some x) → PartFound c n init s x
@@ -58,12 +59,12 @@ core_stands : (node : FlowNode) (rest : List ℕ) → (p : List ℕ) × (node_te
 core_stands node rest = let x = content_split node rest in (x.0, x.1 ∙ ap (λ (l : List ℕ). x.0 ++ l) (node_then (without_anchor node) rest))
 
 -- It is found at the last step.
-module _ (c : Cut) (n : ℕ) (path init : List Step) (s : Step) (x : PartNode) (last : Some (init, s) ≡ last_step path) (f : PartFound c n init s x) where
+module _ (c : Cut) (n : ℕ) (path init : List Step) (s : Step) (x : NodeAlong × ℕ) (last : Some (init, s) ≡ last_step path) (f : PartFound c n init s x) where
   abbrev h : IsPartNode (cut_text c) f.item x
   h = f.stands
 
   abbrev row : List ℕ
-  row = x.text.now
+  row = x.0.text.now
 
   abbrev a : EntryAt c n path
   a = let w = bind_some (flow_collection n init c) f.there in record { init = init; step = s; last = sym last; coll = w.0; found = w.1; item = f.item; at = w.2 }
@@ -76,11 +77,11 @@ module _ (c : Cut) (n : ℕ) (path init : List Step) (s : Step) (x : PartNode) (
       part_standing c n path init s last
       ∙ (ap (λ (o : Option CollPieces). o >>= flow_part s) a.found ∙ ap (option_map {U = FlowPart} (λ (y : EntryPieces). record { step = s; collection = a.coll; part = y })) a.at)
 
-  node_there : node_in n path c ≡ Some (placed_tree (inline_view x.node))
+  node_there : node_in n path c ≡ Some (placed_tree (inline_view x.0.node))
   node_there = part_node c n path a f.read ∙ ap Some (sym (ap placed_tree h.view ∙ node_tree (length row) f.item.node h.rest))
 
   -- The place of its content is that of the edit that puts a value there.
-  module _ (v : tree.Node) (r : EditPlace) (place : edit_view r ≡ replace_place (inline_view x.node)) where
+  module _ (v : tree.Node) (r : EditPlace) (place : edit_view r ≡ replace_place (inline_view x.0.node)) where
     abbrev edit : FlowEdit
     edit = e c n path v f.read a
 
@@ -96,16 +97,16 @@ module _ (c : Cut) (n : ℕ) (path init : List Step) (s : Step) (x : PartNode) (
     own_place : edit_view r ≡ place_edit (length row) alone
     own_place = place ∙ (ap replace_place h.view ∙ replace_placed true (Some 0) h.depth (length row) s (record f.item { rest = h.rest }) new a.coll h.valid)
 
-    moved : place_after x.before r ≡ place_edit (length (cut_text c)) edit
+    moved : place_after x.1 r ≡ place_edit (length (cut_text c)) edit
     moved =
         let within : length (alone.old ++ alone.behind) ≤ length row = omega (arith, ap length own_text.1, length-append own_text.0 (alone.old ++ alone.behind)) in
         let same : edit ≡ edit_more h.behind alone = ap (λ (l : List ℕ). replacing s (record f.item { rest = l }) new a.coll) h.rest_is in
         (λ i. moved_on (h.before i) (own_place i)) ∙ (sym (place_moved h.front row h.behind alone within) ∙ (λ i. place_edit (length (sym h.text i)) (sym same i)))
 
-    place_found : IsPlaceOf (cut_text c) v z (place_after x.before r)
+    place_found : IsPlaceOf (cut_text c) v z (place_after x.1 r)
     place_found =
         let t = there c n path v f.read a in
-        record { lies = bounds_lie c edit (place_after x.before r) f.read (bounds c n path v f.read a) moved; place_is = moved; before = t.before; text = t.text }
+        record { lies = bounds_lie c edit (place_after x.1 r) f.read (bounds c n path v f.read a) moved; place_is = moved; before = t.before; text = t.text }
 
     text_found : value_text InFlow (drop r.start (take r.end row)) v ≡ (put_edit v z).written
     text_found =
@@ -113,6 +114,6 @@ module _ (c : Cut) (n : ℕ) (path init : List Step) (s : Step) (x : PartNode) (
         ∙ (ap (λ (l : List ℕ). value_text InFlow l v) (old_at row own_text.0 alone own_text.1) ∙ value_is edit.old v)
 
   -- so what the code puts there is what is put at the part
-  pub puts_found : (v : tree.Node) (r : PartPut) → PutsInNode row (inline_view x.node) v r → ArePuts n path v c x.before (Some r)
+  pub puts_found : (v : tree.Node) (r : PartPut) → PutsInNode row (inline_view x.0.node) v r → ArePuts n path v c x.1 (Some r)
   puts_found v r p =
       (z, standing_there, place_found v r.place p.place, written_found (node_in n path c) v z _ _ (ap (λ (m : Option tree.Node). keeps_scalar m v) node_there) (text_found v r.place p.place) r.written p.written)

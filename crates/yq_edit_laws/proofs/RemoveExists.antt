@@ -14,7 +14,7 @@ use Rattle.yq_places.{specs.PrintedLines.line_in, specs.RemovalPlaces.{OwnRows, 
 use Rattle.yq_places.{specs.Standings.{RowsOfEntry, rows_of_entry}, proofs.FoundEntries.{entry_there, middle}, proofs.PrintedLaws.lines_are}
 use Rattle.yq_places.{proofs.RowPathLaws.found_lines, proofs.DashLineLaws.row_line_found}
 use Rattle.yq_edit_rules.{specs.StandingLaws.StandsThere, proofs.StandingRows.rows_stand, specs.EntryEdits.one_removed}
-use Rattle.yq_edit_rules.{specs.Removing.rows_removed, specs.RemovingFirst.first_removed}
+use Rattle.yq_edit_rules.specs.Removing.{first_removed, rows_removed}
 use Rattle.yq_text.specs.Script.{Segment}
 use Rattle.yq_edit_laws.{proofs.PrintedDocuments.printed_at, proofs.StandingExists.placed_there}
 

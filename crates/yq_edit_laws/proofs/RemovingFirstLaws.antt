@@ -4,18 +4,18 @@ use Rattle.std.{proofs.Common.{sym, ap, ◌∙◌, subst, append-nil}, proofs.le
 use Rattle.yq_text.{specs.Limit.text_limit, specs.Script.{Segment, old_text, new_text}}
 use Rattle.yq_core.specs.Paths.{Step}
 use Rattle.yq_row_table.{specs.Rows.{Cut, cut_text}, specs.Items.rows_items}
-use Rattle.yq_places.{specs.FirstPlaces.{FirstOut, first_removal}, specs.RemovalPlaces.{Removal, has_others_at, removal_place}}
-use Rattle.yq_documents.specs.Reading.{read_at}
+use Rattle.yq_places.{specs.FirstPlaces.first_removal, specs.RemovalPlaces.{Removal, has_others_at, removal_place}}
+use Rattle.yq_documents.{specs.Pieces.TextPiece, specs.Reading.read_at}
 use Rattle.yq_edit_rules.{specs.Changed.put_document, specs.RemovalChanges.IsTakenOut, proofs.DocumentItemLaws.rows_joined}
 use Rattle.yq_edit_rules.{proofs.FirstBreakLaws.IsOneBreak, proofs.FirstOutLaws.first_stands}
 use Rattle.yq_edit_rules.{proofs.FirstRemovalLaws.{IsRowLeft, EndLastRow, first_gone}, specs.EditLaws.{IsEdit, OneIsRemoved}}
-use Rattle.yq_edit_rules.{specs.Removing.rows_removed, specs.RemovingFirst.first_removed, specs.Local.{InLast, IsLocalTo}}
-use Rattle.yq_edit_rules.{specs.ReadsAfter.ReadsAfter, proofs.LastRows.gone_last, proofs.OneLines.is_one_line, proofs.ItemsLocal.rows_last}
+use Rattle.yq_edit_rules.{specs.Removing.{first_removed, rows_removed}, specs.Local.{InLast, IsLocalTo}, specs.ReadsAfter.ReadsAfter}
+use Rattle.yq_edit_rules.{proofs.LastRows.gone_last, proofs.OneLines.is_one_line, proofs.ItemsLocal.rows_last}
 use Rattle.yq_edit_rules.proofs.LocalLaws.{cut_known, RowsGiveWay, one_local}
 use Rattle.yq_semantics.specs.Operations.{remove}
 use Rattle.yq_edit_laws.proofs.RemovingLaws.{may_take, rows_out, taken_reads}
 
-removed_new : (x : FirstOut) → new_text (first_removed x) ≡ x.before ++ x.behind
+removed_new : (x : TextPiece) → new_text (first_removed x) ≡ x.before ++ x.behind
 removed_new x = ap (λ (t : List ℕ). x.before ++ t) (append-nil x.behind)
 
 -- ---- the items that go
@@ -24,7 +24,7 @@ one_break : (t : List ℕ) → IsOneBreak t → is_one_line t ≡ true
 one_break t (inl e) = ap is_one_line e
 one_break t (inr e) = ap is_one_line e
 
-left_local : (doc : ℕ) (steps : List Step) (c : Cut) (x : FirstOut) → read_at (cut_text c) ≡ Some c → old_text (first_removed x) ≡ cut_text c → (out : IsTakenOut c doc steps (x.before ++ x.behind)) → IsRowLeft c doc x out.old out.new →
+left_local : (doc : ℕ) (steps : List Step) (c : Cut) (x : TextPiece) → read_at (cut_text c) ≡ Some c → old_text (first_removed x) ≡ cut_text c → (out : IsTakenOut c doc steps (x.before ++ x.behind)) → IsRowLeft c doc x out.old out.new →
     IsLocalTo (first_removed x) c
 left_local doc steps c x read old out a =
     let ss : List Segment = first_removed x in
@@ -55,10 +55,10 @@ left_local doc steps c x read old out a =
     go e (inr h) = search (rules, rows_joined, rows_last)
 
 -- the first item or entry of a compact collection taken out
-first_is_out : (n : ℕ) (steps : List Step) (c : Cut) (x : FirstOut) → read_at (cut_text c) ≡ Some c → has_others_at n steps c ≡ true → first_removal n steps c ≡ Some x → IsEdit (remove n steps) c (first_removed x)
+first_is_out : (n : ℕ) (steps : List Step) (c : Cut) (x : TextPiece) → read_at (cut_text c) ≡ Some c → has_others_at n steps c ≡ true → first_removal n steps c ≡ Some x → IsEdit (remove n steps) c (first_removed x)
 first_is_out n steps c x read others place =
     let old : old_text (first_removed x) ≡ cut_text c =
-    (ap (λ (t : List ℕ). x.before ++ (x.space ++ (x.entry ++ (x.break ++ (x.indent ++ t))))) (append-nil x.behind)) ∙ sym (first_stands c n steps x place) in
+    ap (λ (t : List ℕ). x.before ++ (x.text ++ t)) (append-nil x.behind) ∙ sym (first_stands c n steps x place) in
     record {
       old = old;
       carried = λ operand fits size.
@@ -69,7 +69,7 @@ first_is_out n steps c x read others place =
 pub one_is_removed : OneIsRemoved
 one_is_removed n steps c ss read others is = go (removal_place n steps c) refl is
   where
-    first : (o : Option FirstOut) → first_removal n steps c ≡ o → option_map first_removed o ≡ Some ss → IsEdit (remove n steps) c ss
+    first : (o : Option TextPiece) → first_removal n steps c ≡ o → option_map first_removed o ≡ Some ss → IsEdit (remove n steps) c ss
     first None at h = absurd (none-some _ h)
     first (Some x) at h = subst (IsEdit (remove n steps) c) (same_Some _ _ h) (first_is_out n steps c x read others at)
 

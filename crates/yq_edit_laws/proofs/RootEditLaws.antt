@@ -5,8 +5,8 @@ use Rattle.yq_core.{specs.BlockWritten.break_text, specs.Paths.Step, specs.Tree.
 use Rattle.yq_text.{specs.Limit.text_limit, specs.Script.{old_text, new_text}}
 use Rattle.yq_flow_edits.specs.Valued.{IsValueTree}
 use Rattle.yq_row_table.specs.Rows.{behind_gap, behind_indent, print_row, part_text, Cut, cut_text}
-use Rattle.yq_documents.specs.Reading.{documents, read_at}
-use Rattle.yq_places.{specs.RowPaths.IsReadable, specs.Standings.{BlockRoot, NoRows}}
+use Rattle.yq_documents.{specs.Reading.{documents, read_at}, specs.Pieces.TextPiece}
+use Rattle.yq_places.{specs.RowPaths.IsReadable, specs.Standings.LinesIn}
 use Rattle.yq_edit_rules.{specs.Replaces.rooted, specs.TextPieces.IsPiece, proofs.FirstBreakLaws.IsOneBreak}
 use Rattle.yq_edit_rules.{proofs.TextPieceLaws.pieces_joined, specs.declared.layout.Layout.Layout, specs.BlockText.block_value}
 use Rattle.yq_edit_rules.{specs.ClosedTexts.{is_closed_text, lines_put_behind}, specs.EditLaws.{CarriedOut, IsEdit}}
@@ -23,30 +23,30 @@ use Rattle.yq_edit_laws.proofs.UnwrittenRootLaws.{stands, whole, pieces, takes_u
 
 -- ---- in the place of a block collection
 
-module _ (n : ℕ) (v : Node) (c : Cut) (w : BlockRoot) (read : read_at (cut_text c) ≡ Some c) (h : IsBlockRoot n c w) where
+module _ (n : ℕ) (v : Node) (c : Cut) (column : ℕ) (w : LinesIn) (read : read_at (cut_text c) ≡ Some c) (h : IsBlockRoot n c column w) where
   abbrev l : Layout
   l = layout_of n c
 
-  old_is : old_text (root_put l v w) ≡ cut_text c
-  old_is = ap (λ t. w.before ++ (w.old ++ (w.last ++ t))) (append-nil w.behind) ∙ h.whole
+  old_is : old_text (root_put l v column w) ≡ cut_text c
+  old_is = ap (λ t. w.before ++ (w.lines ++ (w.last ++ t))) (append-nil w.behind) ∙ h.whole
 
   module _ (value_tree : IsValueTree v) (fits : Fits (room_of (cut_text c)) (replace n [] v) (documents c)) where
-    text_there : h.d.before ++ (h.row.gap ++ (replicate w.column 32 ++ (block_value (layout_of n c) w.column v ++ (w.last ++ (h.d.part.end ++ h.d.behind))))) ≡ new_text (root_put (layout_of n c) v w)
+    text_there : h.d.before ++ (h.row.gap ++ (replicate column 32 ++ (block_value (layout_of n c) column v ++ (w.last ++ (h.d.part.end ++ h.d.behind))))) ≡ new_text (root_put (layout_of n c) v column w)
     text_there = search (rules, append_assoc, append-nil)
 
-    local : LocalRoot n c h.d (root_rows (layout_of n c) h.row.gap w.column w.last v) h.d.part.end (root_put (layout_of n c) v w)
+    local : LocalRoot n c h.d (root_rows (layout_of n c) h.row.gap column w.last v) h.d.part.end (root_put (layout_of n c) v column w)
     local new there =
-        let st = (takes_value n c w read h).stands in
-        let lead : List ℕ = h.row.gap ++ replicate w.column 32 in
-        let same : replicate {A = ℕ} h.row.column 32 ≡ replicate w.column 32 = ap (λ k. replicate k 32) (sym h.column_is) in
-        lines_local (root_put l v w) c n (rooted (root_rows l h.row.gap w.column w.last v) h.d.part.end h.d.part) (record {
+        let st = (takes_value n c column w read h).stands in
+        let lead : List ℕ = h.row.gap ++ replicate column 32 in
+        let same : replicate {A = ℕ} h.row.column 32 ≡ replicate column 32 = ap (λ k. replicate k 32) (sym h.column_is) in
+        lines_local (root_put l v column w) c n (rooted (root_rows l h.row.gap column w.last v) h.d.part.end h.d.part) (record {
           p = h.d.part;
           there = st.there;
           start = h.d.before;
           put = λ x. st.put x ∙ ap (λ t. h.d.before ++ part_text x t) (sym st.behind);
           front = [];
           gone = h.row ∷ h.others;
-          come = root_rows l h.row.gap w.column w.last v;
+          come = root_rows l h.row.gap column w.last v;
           back = [];
           rows_are = h.rows_are ∙ sym (append-nil (h.row ∷ h.others));
           come_are = refl;
@@ -58,29 +58,29 @@ module _ (n : ℕ) (v : Node) (c : Cut) (w : BlockRoot) (read : read_at (cut_tex
           puts = refl;
           old_is = old_is;
           new_is = new;
-        }) read there (one h.ends) begins (root_first v l h.row.gap w.column w.last value_tree)
+        }) read there (one h.ends) begins (root_first v l h.row.gap column w.last value_tree)
       where
         one : (IsOneBreak w.last) ⊎ ((w.last ≡ []) × (h.d.part.end ++ h.d.behind ≡ [])) → is_one_line w.last ≡ true
         one (inl (inl e)) = ap is_one_line e
         one (inl (inr e)) = ap is_one_line e
         one (inr e) = ap is_one_line e.0
 
-        begins : length (h.row.gap ++ replicate w.column 32) ≤ length (print_row h.row [])
+        begins : length (h.row.gap ++ replicate column 32) ≤ length (print_row h.row [])
         begins =
             omega (
               arith,
               ap (λ (k : ℕ). length (replicate {A = ℕ} k 32)) h.column_is,
-              length-append h.row.gap (replicate {A = ℕ} w.column 32),
+              length-append h.row.gap (replicate {A = ℕ} column 32),
               length-append h.row.gap (behind_gap h.row []),
               length-append (replicate h.row.column 32) (behind_indent h.row []),
             )
 
-    carried : length (new_text (root_put l v w)) ≤ text_limit → CarriedOut (replace n [] v) c (root_put l v w)
+    carried : length (new_text (root_put l v column w)) ≤ text_limit → CarriedOut (replace n [] v) c (root_put l v column w)
     carried size =
-        let takes = takes_value n c w read h in
-        let readable : IsReadable (new_text (root_put l v w)) =
-        segments_readable (root_put l v w) (before_piece n c w read h, (block_piece l w.column v value_tree, (last_piece n c w read h, (behind_piece n c w read h, tt)))) size in
-        value_carried n c h.d h.row.gap w.last h.d.part.end v l w.column (root_put l v w) takes (mapping_least n c) value_tree (fits_part n v c h.d.part takes.old.there value_tree fits) text_there readable local
+        let takes = takes_value n c column w read h in
+        let readable : IsReadable (new_text (root_put l v column w)) =
+        segments_readable (root_put l v column w) (before_piece n c column w read h, (block_piece l column v value_tree, (last_piece n c column w read h, (behind_piece n c column w read h, tt)))) size in
+        value_carried n c h.d h.row.gap w.last h.d.part.end v l column (root_put l v column w) takes (mapping_least n c) value_tree (fits_part n v c h.d.part takes.old.there value_tree fits) text_there readable local
 
 -- ---- where none is written
 
@@ -88,9 +88,9 @@ put_piece : (closed : Bool) (br lines : List ℕ) → IsPiece br → IsPiece lin
 put_piece true br lines b k = pieces_joined lines br k b
 put_piece false br lines b k = pieces_joined br lines b k
 
-module _ (n : ℕ) (v : Node) (c : Cut) (w : NoRows) (read : read_at (cut_text c) ≡ Some c) (h : IsUnwrittenRoot n c w) where
+module _ (n : ℕ) (v : Node) (c : Cut) (w : TextPiece) (read : read_at (cut_text c) ≡ Some c) (h : IsUnwrittenRoot n c w) where
   first_old : old_text (no_rows_put (layout_of n c) v w) ≡ cut_text c
-  first_old = ap (λ t. w.before ++ t) (append-nil w.behind) ∙ whole n c w read h
+  first_old = (λ i. w.before ++ (h.text_is i ++ append-nil w.behind i)) ∙ whole n c w read h
 
   module _ (value_tree : IsValueTree v) (fits : Fits (room_of (cut_text c)) (replace n [] v) (documents c)) where
     abbrev br : List ℕ
@@ -129,10 +129,10 @@ module _ (n : ℕ) (v : Node) (c : Cut) (w : NoRows) (read : read_at (cut_text c
 -- ---- both
 
 pub roots_are_put : RootsArePut
-roots_are_put n steps v c w read at =
-    let x = has_root n steps c w at in
-    let h = block_root_at n c w read x.1 in
-    subst (λ (ts : List Step). IsEdit (replace n ts v) c (root_put (layout_of n c) v w)) (sym x.0) (record { old = old_is n v c w read h; carried = carried n v c w read h })
+roots_are_put n steps v c column w read at =
+    let x = has_root n steps c column w at in
+    let h = block_root_at n c column w read x.1 in
+    subst (λ (ts : List Step). IsEdit (replace n ts v) c (root_put (layout_of n c) v column w)) (sym x.0) (record { old = old_is n v c column w read h; carried = carried n v c column w read h })
 
 pub first_nodes_are_put : NoRowsArePut
 first_nodes_are_put n steps v c w read at =

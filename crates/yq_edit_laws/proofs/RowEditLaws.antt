@@ -5,19 +5,19 @@ use Rattle.yq_core.{specs.Answers.◌>>=◌, specs.Text.is_empty, specs.declared
 use Rattle.yq_core.specs.BlockWritten.{break_text}
 use Rattle.yq_row_table.{specs.Rows.{Content, Nothing, Inline, Block, cut_text}, specs.Seams.is_block, specs.View.content_cut}
 use Rattle.yq_places.{specs.FirstBreak.first_break, specs.NodesAt.node_in}
-use Rattle.yq_places.specs.Standings.{RowsOfEntry, behind_mark, below, beside, compact, compact_in, entry_standing, flow_standing, held}
-use Rattle.yq_places.specs.Standings.{last_step, standing_at}
+use Rattle.yq_places.specs.Standings.{RowsOfEntry, behind_mark, below, beside, compact_in, entry_standing, flow_standing, held, last_step}
+use Rattle.yq_places.specs.Standings.{standing_at}
 use Rattle.yq_text.specs.Script.{Segment, keep}
 use Rattle.yq_edit_rules.specs.CommentEdits.{above_rows, comment_put, head_comment_put, head_comment_segments, line_comment_put}
 use Rattle.yq_edit_rules.{specs.FlowParts.flow_put, specs.Layouts.layout_of}
 use Rattle.yq_edit_rules.{specs.ReplaceEdits.{has_text, held_put, value_put, value_put_at}, specs.Replacing.keeps_scalar}
 use Rattle.yq_edit_rules.specs.RowChanges.{CommentEdits, HeadCommentEdits, HoldsInline, InlineEdits, RowEdits, inline_put}
 use Rattle.yq_edit_rules.specs.WrittenValues.{collection_at, inline, value_text}
-use Rattle.yq_edit_laws.proofs.OnePutLaws.{comment_puts, head_comment_puts, inline_puts}
+use Rattle.yq_edit_laws.proofs.OnePutLaws.{comment_puts, inline_puts, piece_puts}
 
 -- an inline node is beside its key or dash
 beside_there : (e : RowsOfEntry) → HoldsInline e → entry_standing e ≡ beside (held e)
-beside_there e h = ap (λ (b : Bool). cond b (behind_mark e e.row.content) (compact (compact_in e))) at_mark ∙ go e.row.content refl
+beside_there e h = ap (λ (b : Bool). cond b (behind_mark e e.row.content) (compact_in e)) at_mark ∙ go e.row.content refl
   where
     at_mark : eqb e.line (length e.row.dashes) ≡ true
     at_mark = eq-eqb e.line (length e.row.dashes) h.last
@@ -53,5 +53,5 @@ row_edits = record {
   head_comment = head_comment_edits;
   inline_puts = inline_puts;
   comment_puts = comment_puts;
-  head_comment_puts = head_comment_puts;
+  piece_puts = piece_puts;
 }

@@ -17,8 +17,9 @@ use Rattle.yq_edit_rules.{specs.PlacedParts.StandsAt, specs.Rooms.is_block_root,
 use Rattle.yq_edit_rules.{proofs.PartLaws.{document_known, part_numbered}, proofs.PlacedPartLaws.document_stands_at}
 use Rattle.yq_edit_rules.{proofs.TextPieceLaws.text_is_piece, proofs.RemovalPieceLaws.seam_pieces, proofs.BlockLineLaws.break_uncommented}
 use Rattle.yq_edit_rules.specs.ClosedTexts.{is_closed_text}
-use Rattle.yq_documents.{specs.Documents.lead_of, specs.Reading.read_at, specs.Ready.begins_no_node, specs.PartNumbers.part_number}
-use Rattle.yq_places.{specs.PlacedRows.{PlacedPart, before_part, placed_document}, specs.Standings.NoRows, proofs.CommentPieceLaws.gap_end}
+use Rattle.yq_documents.{specs.Documents.lead_of, specs.Pieces.TextPiece, specs.Reading.read_at, specs.Ready.begins_no_node}
+use Rattle.yq_documents.specs.PartNumbers.{part_number}
+use Rattle.yq_places.{specs.PlacedRows.{PlacedPart, before_part, placed_document}, proofs.CommentPieceLaws.gap_end}
 use Rattle.yq_places.{proofs.PlacedPartLaws.part_stands, proofs.RemovalLines.{LineSeam, LiesIn, lies_in, seam_join}}
 use Rattle.yq_edit_laws.{proofs.FirstRows.empty_cases, proofs.ClosedTexts.closed_behind, proofs.RootReadLaws.TakesValue}
 use Rattle.yq_edit_laws.{proofs.RootRows.HasRoom, proofs.StandingRoots.IsUnwrittenRoot}
@@ -114,7 +115,7 @@ long_some (b ∷ m) h = refl
 
 -- ---- the root of a document without rows
 
-module _ (n : ℕ) (c : Cut) (w : NoRows) (read : read_at (cut_text c) ≡ Some c) (h : IsUnwrittenRoot n c w) where
+module _ (n : ℕ) (c : Cut) (w : TextPiece) (read : read_at (cut_text c) ≡ Some c) (h : IsUnwrittenRoot n c w) where
   pub stands : StandsAt c n h.d
   stands = document_stands_at c n h.d h.placed
 

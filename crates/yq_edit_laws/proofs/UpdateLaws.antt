@@ -1,7 +1,6 @@
 -- An update that is planned on the documents of a text and carried out.
-use Rattle.std.proofs.Common.{rules, ◌≡◌, ◌≢◌, ℕ, zero, suc, ◌<◌, List, [], ◌∷◌, ◌++◌, slice_get, Some, None, Result, Ok, Err, IfOk, IfErr}
-use Rattle.std.{proofs.Common.{string_bytes, sym, ap, ◌∙◌, subst, arith}, proofs.lemmas.Option.{none-some, same_Some}, specs.Str.IsUtf8}
-use Rattle.yq_core.{specs.declared.ReadFault.ReadFault, specs.declared.fault.FaultKind.TheVariants.NotUtf8, specs.Answers.ReadError}
+use Rattle.std.proofs.Common.{rules, ◌≡◌, ℕ, zero, suc, ◌<◌, List, [], ◌∷◌, ◌++◌, slice_get, Some, None, Result, Ok, Err, IfOk, IfErr}
+use Rattle.std.{proofs.Common.{string_bytes, sym, ap, ◌∙◌, subst, arith}, proofs.lemmas.Option.{none-some, same_Some}}
 use Rattle.yq_row_table.specs.Rows.{Cut}
 use Rattle.yq_documents.{specs.Reading.{documents, documents_of, cut_of, read_at}, proofs.ReadLaws.parts_read}
 use Rattle.yq_semantics.{specs.Judgement.{Judges, ExprError}, specs.Operations.Operation, specs.Plans.plan}
@@ -9,9 +8,9 @@ use Rattle.yq_semantics.specs.Program.{Program, Update, read, updates, update_at
 use Rattle.yq_semantics.{specs.Rooms.room_of, specs.declared.refusal.Refusal.Refusal}
 use Rattle.yq_text.{specs.Splice.Splice, proofs.PlaceInList.get_some, specs.declared.edited.Edited.Edited}
 use Rattle.yq_edit_laws.{specs.Answers.{Edits, EditFails}, specs.Carried.{carry_all, carry_out, updated}}
-use Rattle.yq_edit_laws.{specs.Edit.{Edit, unreadable, gives, edit_after, by_reading}, specs.Theorems.HasReading}
+use Rattle.yq_edit_laws.{specs.Edit.{Edit, gives, edit_after, by_reading}, specs.Theorems.HasReading}
 use Rattle.yq_edit_laws.{specs.Valid.{HaveOperands, IsStep, UpdateFails, FailsAt}, proofs.MeaningLaws.{UpdateComes, plan_comes, plan_stops}}
-use Rattle.yq_edit_laws.{proofs.OrderLaws.fails_itself, proofs.TextFaults.{FailsToRead, text_unread}}
+use Rattle.yq_edit_laws.proofs.OrderLaws.{fails_itself}
 use Rattle.yq_failure.specs.declared.failure.Failure.TheVariants as failure
 use Rattle.yq_semantics.specs.Judgement as judgement
 

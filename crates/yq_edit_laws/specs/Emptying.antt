@@ -1,11 +1,11 @@
 -- A sole item or entry removed: an empty collection is put in the place of its own (YAML 1.2.2, 7.4 and 8.2; own).
 use Rattle.std.specs.Prelude.{◌≡◌, ℕ, List, Option, Some, None, option_map}
 use Rattle.yq_core.{specs.Answers.◌>>=◌, specs.Paths.Step, specs.Tree.{Node, list, map, none}, specs.Values.value_node}
+use Rattle.yq_core.specs.declared.value.Value.{Value}
 use Rattle.yq_row_table.specs.Rows.{Cut}
-use Rattle.yq_documents.specs.Located.{steps_of}
+use Rattle.yq_documents.{specs.Located.steps_of, specs.declared.path.Path.Path}
 use Rattle.yq_places.specs.NodesAt.{NodeAt, node_in}
 use Rattle.yq_edit_rules.specs.Edits.{empty_collection, replace_segments, sole_removed}
-use Rattle.yq_edit_laws.specs.declared.sole.EmptyPut.{EmptyPut}
 use Rattle.yq_places.specs.NodesAt as nodes
 
 -- the empty collection of the kind of a collection, by what is known of that
@@ -22,8 +22,8 @@ pub record Emptied : Type 0 where
   pub value : Node
 
 -- what the code lends of it
-abbrev pub emptied_view : EmptyPut → Emptied
-emptied_view e = record { doc = e.place.doc; steps = steps_of e.place; value = value_node e.value }
+abbrev pub emptied_view : Path × Value → Emptied
+emptied_view e = record { doc = e.0.doc; steps = steps_of e.0; value = value_node e.1 }
 
 -- the empty collection of the kind of the one in which a path ends in document n; a root is in none
 abbrev pub emptying : ℕ → Cut → Option (List Step × Step) → Option Emptied

@@ -13,9 +13,9 @@ abbrev pub is_marked : Standing → Bool
 is_marked (alone w) = true
 is_marked (beside h) = true
 is_marked (under h column) = true
-is_marked (compact p) = true
+is_marked (compact mark column w) = true
 is_marked (block h indent) = true
-is_marked (root w) = false
+is_marked (root column w) = false
 is_marked (no_rows w) = false
 
 -- A value put there carries out Replace.

@@ -12,8 +12,7 @@ use Rattle.yq_places.{specs.FlowNodes.flow_collection, specs.NodesAt.node_in, sp
 use Rattle.yq_text.specs.Script.{Segment, keep}
 use Rattle.yq_edit_rules.{specs.FlowParts.{content_written, flow_more, flow_put, flow_value, takes_key}, specs.Replacing.keeps_scalar}
 use Rattle.yq_edit_rules.specs.WrittenValues.{value_text}
-use Rattle.yq_edit_laws.{specs.EditPlaces.{LiesIn, moved_on, placed_takes}, specs.declared.append.MorePut.MorePut}
-use Rattle.yq_edit_laws.specs.declared.put.PartPut.{PartPut}
+use Rattle.yq_edit_laws.{specs.EditPlaces.{LiesIn, moved_on, placed_takes}, specs.declared.put.PartPut.PartPut}
 
 -- a value put in the place of the content of a part, unless that is kept
 abbrev pub part_put : List ℕ → (kept : Bool) → Node → FlowPart → List Segment
@@ -74,22 +73,22 @@ abbrev pub more_edit : Option (List ℕ) → Node → CollPieces → FlowEdit
 more_edit key v w = appending (flow_key key) (flow_of v) w
 
 -- the edits that put one more item or entry into a collection that takes it
-abbrev pub IsMore : List ℕ → CollPieces → Option (List ℕ) → Node → ℕ → MorePut → Type 0
+abbrev pub IsMore : List ℕ → CollPieces → Option (List ℕ) → Node → ℕ → EditPlace × String Global → Type 0
 IsMore t w key v before p =
-    (takes_key w.close key ≡ true) × IsEditPlace t (more_edit key v w) (place_after before p.place) × (string_bytes p.written ≡ (more_edit key v w).written)
+    (takes_key w.close key ≡ true) × IsEditPlace t (more_edit key v w) (place_after before p.0) × (string_bytes p.1 ≡ (more_edit key v w).written)
 
 -- the edits that put one more into the collection to which steps lead in document n, in a head after so many bytes; none, where there is no collection, or
 -- one that doesn't take it
-abbrev pub AreMore : ℕ → List Step → Option (List ℕ) → Node → Cut → ℕ → Option MorePut → Type 0
+abbrev pub AreMore : ℕ → List Step → Option (List ℕ) → Node → Cut → ℕ → Option (EditPlace × String Global) → Type 0
 AreMore n steps key v c before None = (flow_collection n steps c >>= flow_more (cut_text c) key v) ≡ None
 AreMore n steps key v c before (Some p) =
     (w : CollPieces) × (flow_collection n steps c ≡ Some w) × IsMore (cut_text c) w key v before p
 
 -- the edit that puts one more into a node, if it is a collection that takes it
-abbrev pub PutsMoreIn : Placed → Option (List ℕ) → Node → Option MorePut → Type 0
+abbrev pub PutsMoreIn : Placed → Option (List ℕ) → Node → Option (EditPlace × String Global) → Type 0
 PutsMoreIn q key v None = (placed_takes q key ≡ false) ⊎ (append_place q ≡ None)
 PutsMoreIn q key v (Some p) =
-    (placed_takes q key ≡ true) × (append_place q ≡ Some (edit_view p.place)) × (string_bytes p.written ≡ key_text (flow_key key) (flow_text v))
+    (placed_takes q key ≡ true) × (append_place q ≡ Some (edit_view p.0)) × (string_bytes p.1 ≡ key_text (flow_key key) (flow_text v))
 
 -- ---- ends of collections
 

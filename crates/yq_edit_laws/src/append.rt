@@ -38,17 +38,9 @@ fn entry_text(alloc: Global, key: Option<&str>, value: &Value) -> Result<String,
     }
 }
 
-/// The edit that puts an item or entry into a flow collection.
-#[derive(Drop)]
-pub struct MorePut {
-    /// The place, in the text that begins with the node in the head.
-    pub place: EditPlace,
-    /// What is written there, after what leads to it.
-    pub written: String,
-}
-
-/// The edit that puts an item or entry after the last one of a flow collection, or right after its
-/// bracket; `None` where a node is none, or takes no key, or no item.
+/// Where an item or entry is put after the last one of a flow collection, or right after its bracket, in the
+/// text that begins with the node in the head, and what is written there, after what leads to it; `None` where a
+/// node is none, or takes no key, or no item.
 ///
 /// # Errors
 /// [`AllocError`] where memory is refused.
@@ -57,7 +49,7 @@ pub fn more_in_node(
     node: &Inline<'_>,
     key: Option<&str>,
     value: &Value,
-) -> Result<Option<MorePut>, AllocError>
+) -> Result<Option<(EditPlace, String)>, AllocError>
     ensures { IfOk result (puts.PutsMoreIn (inline_view node.now) (borrowed key.entry)
         (value_node value.now)) }
 {
@@ -68,7 +60,7 @@ pub fn more_in_node(
         return Ok(None);
     };
     let written = entry_text(alloc, key, value)?;
-    Ok(Some(MorePut { place, written }))
+    Ok(Some((place, written)))
 }
 
 /// Whether a mapping, or else a sequence, takes an entry of a key, or an item.

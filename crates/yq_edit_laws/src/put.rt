@@ -95,14 +95,14 @@ pub fn put_in_flow<'d>(
         return Ok(None);
     };
     let found = cut.flow_part(alloc, path.doc, above, last)?;
-    let Some(part) = found else {
+    let Some((part, before)) = found else {
         return Ok(None);
     };
     let text = cut.text();
     let put = put_in_node(alloc, part.text, &part.node, value)?;
     let PartPut { place, written } = put;
     match written {
-        Some(written) => edit_at(alloc, text, part.before, place, written),
+        Some(written) => edit_at(alloc, text, before, place, written),
         None => Ok(Some(unchanged(alloc, cut)?)),
     }
 }

@@ -14,13 +14,6 @@ use yq_lookup::CutText;
 use yq_places::NodeAt;
 use yq_semantics::copied_steps;
 
-/// An empty collection, and the place of the one that it takes.
-#[derive(Drop)]
-pub struct EmptyPut {
-    pub place: Path,
-    pub value: Value,
-}
-
 /// The empty collection of the kind of this one.
 fn emptied(alloc: Global, node: &NodeAt<'_>) -> Option<Value>
     ensures { option_map values.value_node result ≡ spec.emptied_summary (node_view node.now) }
@@ -32,7 +25,7 @@ fn emptied(alloc: Global, node: &NodeAt<'_>) -> Option<Value>
     }
 }
 
-/// The empty collection that is put in the place of the one in which a path ends; `None` where the
+/// The path of the collection in which a path ends, and the empty one that is put in its place; `None` where the
 /// path has no step, or the steps above its last one lead to no sequence or mapping.
 ///
 /// # Errors
@@ -41,7 +34,7 @@ pub fn emptying(
     alloc: Global,
     cut: &CutText<'_, '_>,
     path: &Path,
-) -> Result<Option<EmptyPut>, AllocError>
+) -> Result<Option<(Path, Value)>, AllocError>
     ensures { IfOk result (λ o. option_map spec.emptied_view o ≡
         spec.emptying path.now.doc (cut_of cut.now) (standings.last_step (steps_of path.now))) }
 {
@@ -59,5 +52,5 @@ pub fn emptying(
         doc: path.doc,
         steps: copied_steps(alloc, above)?,
     };
-    Ok(Some(EmptyPut { place, value }))
+    Ok(Some((place, value)))
 }

@@ -1,5 +1,5 @@
 -- What is taken out with the first item or entry of a compact collection is in the text.
-use Rattle.std.proofs.Common.{rules, ◌≡◌, ℕ, zero, suc, ◌<◌, Bool, true, false, cond, List, [], ◌++◌, Some, refl, sym, ap, ◌∙◌, arith}
+use Rattle.std.proofs.Common.{rules, ◌≡◌, ℕ, zero, suc, ◌<◌, Bool, true, false, cond, List, ◌++◌, Some, refl, sym, ap, ◌∙◌, arith}
 use Rattle.std.{proofs.Common.append_assoc, proofs.lemmas.Bool.eqb-false, proofs.lemmas.List.take-append-drop, specs.List.slice_get}
 use Rattle.yq_core.{specs.Answers.◌>>=◌, specs.Paths.Step, specs.Text.{cut, cut_line, no_space, upto, line_len}, proofs.Bools.bind_some}
 use Rattle.yq_core.proofs.Binds.{not_then}
@@ -7,7 +7,7 @@ use Rattle.yq_outline.{specs.Ends.line_at_steps, specs.Lines.lines_of_rows}
 use Rattle.yq_row_table.{specs.Rows.{Part, Cut, cut_text}, specs.Reading.begins_gap}
 use Rattle.yq_documents.{specs.declared.path.Part.TheVariants.Entry, specs.Documents.document_parts, specs.Pieces.TextPiece}
 use Rattle.yq_documents.specs.LinesInRows.{RowLine, row_line}
-use Rattle.yq_places.specs.FirstPlaces.{less_spaces, end_spaces, FirstOut, first_out, first_removal}
+use Rattle.yq_places.specs.FirstPlaces.{less_spaces, end_spaces, first_out, first_removal, piece_between}
 use Rattle.yq_places.{specs.PathPieces.{printed_document, piece_in}, proofs.FirstLaws.spaces_parts}
 use Rattle.yq_places.{proofs.PieceTexts.{piece_text, document_whole, piece_whole}, proofs.PrintedTexts.map_some}
 use Rattle.yq_edit_rules.specs.RemovalChanges.{FirstStands}
@@ -15,7 +15,7 @@ use Rattle.yq_edit_rules.specs.RemovalChanges.{FirstStands}
 -- ---- what is taken out
 
 -- What is taken out, by the line of the item or entry and its piece.
-pub record IsFirstOut (c : Cut) (k : ℕ) (steps : List Step) (x : FirstOut) : Type 0 where
+pub record IsFirstOut (c : Cut) (k : ℕ) (steps : List Step) (x : TextPiece) : Type 0 where
   pub piece : TextPiece
   pub out : first_out piece ≡ x
   pub part : Part
@@ -31,39 +31,36 @@ some_line : (n : ℕ) → (n ≡ 0 → ⊥) → 0 < n
 some_line zero h = absurd (h refl)
 some_line (suc n) h = omega arith
 
-pub out_is : (c : Cut) (k : ℕ) (steps : List Step) (x : FirstOut) → first_removal k steps c ≡ Some x → IsFirstOut c k steps x
+pub out_is : (c : Cut) (k : ℕ) (steps : List Step) (x : TextPiece) → first_removal k steps c ≡ Some x → IsFirstOut c k steps x
 out_is c k steps x e = search (rules, map_some, bind_some, not_then, some_line, eqb-false)
 
--- the whole text of it
-abbrev out_text : FirstOut → List ℕ
-out_text x = x.before ++ (x.space ++ (x.entry ++ (x.break ++ (x.indent ++ x.behind))))
-
-out_whole : (p : TextPiece) → out_text (first_out p) ≡ piece_text p
+out_whole : (p : TextPiece) → piece_text (first_out p) ≡ piece_text p
 out_whole p = go (begins_gap (cut_line p.behind).1)
   where
     line : (cut_line p.behind).0 ++ (cut_line p.behind).1 ≡ p.behind
     line = take-append-drop (line_len p.behind) p.behind
 
-    next : (cut no_space (cut_line p.behind).1).0 ++ (cut no_space (cut_line p.behind).1).1 ≡ (cut_line p.behind).1
-    next = take-append-drop (upto no_space (cut_line p.behind).1) (cut_line p.behind).1
+    indent : (cut no_space (cut_line p.behind).1).0 ++ (cut no_space (cut_line p.behind).1).1 ≡ (cut_line p.behind).1
+    indent = take-append-drop (upto no_space (cut_line p.behind).1) (cut_line p.behind).1
+
+    after : (p.text ++ ((cut_line p.behind).0 ++ (cut no_space (cut_line p.behind).1).0)) ++ (cut no_space (cut_line p.behind).1).1 ≡ p.text ++ p.behind
+    after =
+        append_assoc p.text ((cut_line p.behind).0 ++ (cut no_space (cut_line p.behind).1).0) (cut no_space (cut_line p.behind).1).1
+        ∙ ap (λ (t : List ℕ). p.text ++ t) (append_assoc (cut_line p.behind).0 (cut no_space (cut_line p.behind).1).0 (cut no_space (cut_line p.behind).1).1 ∙ (ap (λ (t : List ℕ). (cut_line p.behind).0 ++ t) indent ∙ line))
 
     go : (b : Bool) →
-        out_text (cond b (record { before = less_spaces p.before; space = end_spaces p.before; entry = p.text; break = []; indent = []; behind = p.behind })
-        (record {
-          before = p.before;
-          space = [];
-          entry = p.text;
-          break = (cut_line p.behind).0;
-          indent = (cut no_space (cut_line p.behind).1).0;
-          behind = (cut no_space (cut_line p.behind).1).1;
-        })) ≡ piece_text p
-    go true = sym (append_assoc (less_spaces p.before) (end_spaces p.before) (p.text ++ p.behind)) ∙ ap (λ (t : List ℕ). t ++ (p.text ++ p.behind)) (sym (spaces_parts p.before))
-    go false = ap (λ (t : List ℕ). p.before ++ (p.text ++ t)) (ap (λ (t : List ℕ). (cut_line p.behind).0 ++ t) next ∙ line)
+        piece_text (cond b (piece_between (less_spaces p.before) (end_spaces p.before ++ p.text) p.behind)
+        (piece_between p.before (p.text ++ ((cut_line p.behind).0 ++ (cut no_space (cut_line p.behind).1).0))
+        (cut no_space (cut_line p.behind).1).1)) ≡ piece_text p
+    go true =
+        ap (λ (t : List ℕ). less_spaces p.before ++ t) (append_assoc (end_spaces p.before) p.text p.behind)
+        ∙ (sym (append_assoc (less_spaces p.before) (end_spaces p.before) (p.text ++ p.behind)) ∙ ap (λ (t : List ℕ). t ++ (p.text ++ p.behind)) (sym (spaces_parts p.before)))
+    go false = ap (λ (t : List ℕ). p.before ++ t) after
 
-pub piece_stands : (c : Cut) (k : ℕ) (steps : List Step) (x : FirstOut) (h : IsFirstOut c k steps x) → cut_text c ≡ piece_text h.piece
+pub piece_stands : (c : Cut) (k : ℕ) (steps : List Step) (x : TextPiece) (h : IsFirstOut c k steps x) → cut_text c ≡ piece_text h.piece
 piece_stands c k steps x h =
     let s = bind_some (printed_document k c) h.is in
     sym (document_whole k c s.0 s.1) ∙ sym (piece_whole Entry steps s.0 h.piece s.2)
 
 pub first_stands : FirstStands
-first_stands c k steps x e = let h = out_is c k steps x e in piece_stands c k steps x h ∙ (sym (out_whole h.piece) ∙ ap out_text h.out)
+first_stands c k steps x e = let h = out_is c k steps x e in piece_stands c k steps x h ∙ (sym (out_whole h.piece) ∙ ap piece_text h.out)

@@ -12,10 +12,10 @@ use Rattle.yq_row_table.{specs.Exchange.asked_behind, specs.Grammar.{unlimited, 
 use Rattle.yq_row_table.specs.Rows.{Row, behind_columns, dashes_text, behind_dashes, behind_indent, behind_gap, print_row, rows_text, Part}
 use Rattle.yq_row_table.{specs.Rows.{part_text, Cut, cut_text}, proofs.NodePieces.{BeginsAscii, before_ascii}, proofs.PlaceLaws.row_then}
 use Rattle.yq_row_table.{proofs.splices.SpliceTexts.{own_gap, own_end}, specs.Reading.begins_gap}
-use Rattle.yq_documents.{specs.declared.path.Part.TheVariants.Entry, specs.Documents.{document_parts, lead_of}}
+use Rattle.yq_documents.{specs.declared.path.Part.TheVariants.Entry, specs.Documents.{document_parts, lead_of}, specs.Pieces.TextPiece}
 use Rattle.yq_documents.{specs.Reading.{part_outline, read_at, root_of}, specs.LinesInRows.{RowLine, row_line}, proofs.PartRows.each}
 use Rattle.yq_documents.proofs.ReadLaws.{text_takes}
-use Rattle.yq_places.specs.FirstPlaces.{less_spaces, end_spaces, FirstOut, first_out, first_removal}
+use Rattle.yq_places.specs.FirstPlaces.{less_spaces, end_spaces, first_out, first_removal, piece_between}
 use Rattle.yq_places.{specs.PathPieces.{PrintedDocument, piece_in}, specs.RowPaths.IsReadable, proofs.RowPathLaws.document_fine}
 use Rattle.yq_edit_rules.{specs.Appends.inserted, specs.Changed.{IsChanged, put_document}, specs.Conditions.AreSpared}
 use Rattle.yq_edit_rules.{specs.DocumentRows.{IsDocumentPart, Known, behind_document}, specs.Moved.{emptied_row, moved_up}}
@@ -38,7 +38,7 @@ abbrev pub EndLastRow : List ℕ → List Row → Type 0
 EndLastRow trail rows = (init : List Row) × (last : Row) × (rows ≡ init ++ (last ∷ [])) × (length trail ≤ length (print_row last []))
 
 -- The rows that go with the first item or entry of a compact collection, and the row that is in their place.
-pub record IsRowLeft (c : Cut) (k : ℕ) (x : FirstOut) (old new : Part) : Type 0 where
+pub record IsRowLeft (c : Cut) (k : ℕ) (x : TextPiece) (old new : Part) : Type 0 where
   pub front : List Row
   pub first : Row
   pub others : List Row
@@ -57,10 +57,10 @@ pub record IsRowLeft (c : Cut) (k : ℕ) (x : FirstOut) (old new : Part) : Type 
   pub ends : IsOneBreak trail ⊎ EndLastRow trail (first ∷ others)
 
 -- What is taken out, with its rows.
-abbrev pub IsFirstGone : Cut → ℕ → List Step → FirstOut → Type 0
+abbrev pub IsFirstGone : Cut → ℕ → List Step → TextPiece → Type 0
 IsFirstGone c k steps x = (out : IsTakenOut c k steps (x.before ++ x.behind)) × IsRowLeft c k x out.old out.new
 
-module _ (c : Cut) (k : ℕ) (y : Step) (ys ss : List Step) (s : Step) (x : FirstOut) (same : y ∷ ys ≡ ss ++ (s ∷ [])) (read : read_at (cut_text c) ≡ Some c) (e : IsFirstOut c k (y ∷ ys) x)
+module _ (c : Cut) (k : ℕ) (y : Step) (ys ss : List Step) (s : Step) (x : TextPiece) (same : y ∷ ys ≡ ss ++ (s ∷ [])) (read : read_at (cut_text c) ≡ Some c) (e : IsFirstOut c k (y ∷ ys) x)
     (may : MayTakeOut c k (ss ++ (s ∷ []))) (size : length (x.before ++ x.behind) ≤ text_limit) where
   abbrev t : List ℕ
   t = cut_text c
@@ -163,9 +163,9 @@ module _ (c : Cut) (k : ℕ) (y : Step) (ys ss : List Step) (s : Step) (x : Firs
   readable new u is piece less = search (rules, is_utf8-from_IsUtf8)
 
   -- what is taken out, by whether a gap comes before the next row
-  abbrev either : Bool → FirstOut
-  either b = cond b (record { before = less_spaces e.piece.before; space = end_spaces e.piece.before; entry = e.piece.text; break = []; indent = []; behind = e.piece.behind })
-      (record { before = e.piece.before; space = []; entry = e.piece.text; break = ft.break; indent = (cut no_space next).0; behind = (cut no_space next).1 })
+  abbrev either : Bool → TextPiece
+  either b = cond b (piece_between (less_spaces e.piece.before) (end_spaces e.piece.before ++ e.piece.text) e.piece.behind)
+      (piece_between e.piece.before (e.piece.text ++ (ft.break ++ (cut no_space next).0)) (cut no_space next).1)
 
   -- a row in the place of others
   taken : (new : Row) (back : List Row) (u : List ℕ) → cut_text (put_document k (inserted fr.front (new ∷ []) back p) c) ≡ u → FirstEntry (lines_of_rows (new ∷ back)) →
@@ -282,21 +282,21 @@ module _ (c : Cut) (k : ℕ) (y : Step) (ys ss : List Step) (s : Step) (x : Firs
 
   out_as : first_out e.piece ≡ either (begins_gap next)
   out_as =
-      ap (λ (l : List ℕ × List ℕ). cond (begins_gap l.1) (record { before = less_spaces e.piece.before; space = end_spaces e.piece.before; entry = e.piece.text; break = []; indent = []; behind = e.piece.behind })
-      (record { before = e.piece.before; space = []; entry = e.piece.text; break = l.0; indent = (cut no_space l.1).0; behind = (cut no_space l.1).1 }))
+      ap (λ (l : List ℕ × List ℕ). cond (begins_gap l.1) (piece_between (less_spaces e.piece.before) (end_spaces e.piece.before ++ e.piece.text) e.piece.behind)
+      (piece_between e.piece.before (e.piece.text ++ (l.0 ++ (cut no_space l.1).0)) (cut no_space l.1).1))
       (ap cut_line ft.behind ∙ break_cut ft.break next ft.one)
 
   out_is_so : (b : Bool) → begins_gap next ≡ b → x ≡ either b
   out_is_so b is = sym e.out ∙ (out_as ∙ ap either is)
 
   by_gap : (b : Bool) → begins_gap next ≡ b → IsFirstGone c k (ss ++ (s ∷ [])) x
-  by_gap true is = subst (IsFirstGone c k (ss ++ (s ∷ []))) (sym (out_is_so true is)) (dropped (subst (λ (o : FirstOut). length (o.before ++ o.behind) ≤ text_limit) (out_is_so true is) size))
-  by_gap false is = subst (IsFirstGone c k (ss ++ (s ∷ []))) (sym (out_is_so false is)) (moved is (subst (λ (o : FirstOut). length (o.before ++ o.behind) ≤ text_limit) (out_is_so false is) size))
+  by_gap true is = subst (IsFirstGone c k (ss ++ (s ∷ []))) (sym (out_is_so true is)) (dropped (subst (λ (o : TextPiece). length (o.before ++ o.behind) ≤ text_limit) (out_is_so true is) size))
+  by_gap false is = subst (IsFirstGone c k (ss ++ (s ∷ []))) (sym (out_is_so false is)) (moved is (subst (λ (o : TextPiece). length (o.before ++ o.behind) ≤ text_limit) (out_is_so false is) size))
 
   pub first_taken : IsFirstGone c k (ss ++ (s ∷ [])) x
   first_taken = by_gap (begins_gap next) refl
 
-pub first_gone : (c : Cut) (k : ℕ) (steps : List Step) (x : FirstOut) → read_at (cut_text c) ≡ Some c → first_removal k steps c ≡ Some x → MayTakeOut c k steps → length (x.before ++ x.behind) ≤ text_limit → IsFirstGone c k steps x
+pub first_gone : (c : Cut) (k : ℕ) (steps : List Step) (x : TextPiece) → read_at (cut_text c) ≡ Some c → first_removal k steps c ≡ Some x → MayTakeOut c k steps → length (x.before ++ x.behind) ≤ text_limit → IsFirstGone c k steps x
 first_gone c k steps x read e may size = go steps refl (out_is c k steps x e)
   where
     go : (ts : List Step) → steps ≡ ts → IsFirstOut c k steps x → IsFirstGone c k steps x

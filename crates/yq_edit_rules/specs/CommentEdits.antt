@@ -2,7 +2,9 @@
 use Rattle.std.specs.Prelude.{ℕ, ◌==◌, ◌&&◌, not, List, [], ◌∷◌, ◌++◌, length, replicate, Option, Some, None, if◌then◌else◌}
 use Rattle.yq_core.{specs.Answers.◌>>=◌, specs.BlockWritten.break_text, specs.Paths.Step, specs.Text.is_empty}
 use Rattle.yq_row_table.specs.Rows.{Cut, behind_gap, cut_text, rows_text}
-use Rattle.yq_places.{specs.CommentPlaces.{LinesAbove, gap_above}, specs.FirstBreak.first_break}
+use Rattle.yq_documents.specs.Pieces.{TextPiece}
+use Rattle.yq_edit_rules.specs.PiecePuts.{piece_replaced}
+use Rattle.yq_places.{specs.CommentPlaces.gap_above, specs.FirstBreak.first_break}
 use Rattle.yq_places.specs.Standings.{Held, RowsOfEntry, before_entry, behind_entry, held, rows_of_entry}
 use Rattle.yq_semantics.specs.Meaning.{head_comment_lines}
 use Rattle.yq_text.specs.Script.{Segment, keep, put}
@@ -25,9 +27,9 @@ comment_put text h =
 abbrev pub line_comment_put : List ℕ → RowsOfEntry → Option (List Segment)
 line_comment_put text e = if e.line == length e.row.dashes then Some (comment_put text (held e)) else None
 
--- the lines above rows: the gap of the first one, and the comment that ends it (6.6)
-abbrev pub above_rows : RowsOfEntry → LinesAbove
-above_rows e = gap_above (before_entry e) e.row.gap e.row.column (behind_gap e.row (rows_text e.under (behind_entry e)))
+-- the column of the first of rows, and the comment that ends its gap (6.6)
+abbrev pub above_rows : RowsOfEntry → ℕ × TextPiece
+above_rows e = (e.row.column, gap_above (before_entry e) e.row.gap (behind_gap e.row (rows_text e.under (behind_entry e))))
 
 -- a line of a head comment: `#` in a column, and, where the text isn't empty, a space and the text; with a break (6.6)
 abbrev pub comment_line : ℕ → List ℕ → List ℕ → List ℕ
@@ -38,9 +40,9 @@ abbrev pub head_lines : ℕ → List ℕ → List (List ℕ) → List ℕ
 head_lines column br [] = []
 head_lines column br (text ∷ texts) = comment_line column br text ++ head_lines column br texts
 
--- the segments of a text in which other lines mean the comment above a row (own)
-abbrev pub head_comment_segments : List ℕ → List ℕ → LinesAbove → List Segment
-head_comment_segments br text w = keep w.before ∷ (put w.run (head_lines w.column br (head_comment_lines text)) ∷ (keep w.behind ∷ []))
+-- the segments of a text in which other lines mean the comment above a row in a column (own)
+abbrev pub head_comment_segments : List ℕ → List ℕ → ℕ × TextPiece → List Segment
+head_comment_segments br text w = piece_replaced w.1 (head_lines w.0 br (head_comment_lines text))
 
 -- HeadComment: above the row that a key or dash begins (6.6)
 abbrev pub head_comment_put : List ℕ → List ℕ → RowsOfEntry → Option (List Segment)

@@ -5,7 +5,7 @@ use Rattle.yq_row_table.specs.Rows.{Cut}
 use Rattle.yq_places.{specs.FirstPlaces.first_removal, specs.RemovalPlaces.removal_place}
 use Rattle.yq_places.specs.Standings.{Held, Standing, alone, beside, under, compact, block, root, no_rows, standing_at}
 use Rattle.yq_edit_rules.{specs.declared.layout.Layout.Layout, specs.BlockText.block_value, specs.ClosedTexts.lines_put_behind}
-use Rattle.yq_edit_rules.{specs.Layouts.layout_of, specs.Removing.rows_removed, specs.RemovingFirst.first_removed}
+use Rattle.yq_edit_rules.{specs.Layouts.layout_of, specs.PiecePuts.behind_lines, specs.Removing.{first_removed, rows_removed}}
 use Rattle.yq_text.specs.Script.{Segment, keep, put}
 use Rattle.yq_edit_rules.specs.Alone as single
 
@@ -25,18 +25,14 @@ behind_held h new =
     keep h.before ∷ (keep h.space ∷ (keep h.head ∷ (keep h.white ∷ (keep h.comment ∷
     (keep h.break ∷ (keep h.lines ∷ (keep h.last ∷ (put [] new ∷ (keep h.behind ∷ [])))))))))
 
--- these lines put after a text and the break that ends it, if one does
-abbrev pub behind_lines : (before old last new behind : List ℕ) → List Segment
-behind_lines before old last new behind = keep before ∷ (keep old ∷ (keep last ∷ (put [] new ∷ (keep behind ∷ []))))
-
 -- one more item or entry at the end of what is there, if that is a block collection (8.2)
 abbrev pub block_more : Layout → Option (List ℕ) → Node → Standing → Option (List Segment)
 block_more l key v (alone w) = None
 block_more l key v (beside h) = None
 block_more l key v (under h column) = Some (behind_held h (more_lines l key v column h.last))
-block_more l key v (compact p) = Some (behind_lines p.before p.old p.last (more_lines l key v p.column p.last) p.behind)
+block_more l key v (compact mark column w) = Some (behind_lines w (more_lines l key v column w.last))
 block_more l key v (block h indent) = None
-block_more l key v (root w) = Some (behind_lines w.before w.old w.last (more_lines l key v w.column w.last) w.behind)
+block_more l key v (root column w) = Some (behind_lines w (more_lines l key v column w.last))
 block_more l key v (no_rows w) = None
 
 -- the same where steps lead in document n

@@ -39,9 +39,9 @@ abbrev pub is_under_key : Standing → Bool
 is_under_key (alone w) = false
 is_under_key (beside h) = h.mark.keyed
 is_under_key (under h column) = h.mark.keyed
-is_under_key (compact p) = p.mark.keyed
+is_under_key (compact mark column w) = mark.keyed
 is_under_key (block h indent) = h.mark.keyed
-is_under_key (root w) = false
+is_under_key (root column w) = false
 is_under_key (no_rows w) = false
 
 -- whether a value asks for the step of such collections, where it is put under a key, or elsewhere (own)

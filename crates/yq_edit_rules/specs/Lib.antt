@@ -60,7 +60,7 @@ pub mod ReadsAfter
 pub mod Answers
 pub mod Done
 pub mod Removing
-pub mod RemovingFirst
+pub mod PiecePuts
 pub mod Replacing
 pub mod Layouts
 pub mod Local

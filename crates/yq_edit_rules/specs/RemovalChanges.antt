@@ -5,8 +5,8 @@ use Rattle.yq_core.specs.Anchors.{names_of}
 use Rattle.yq_outline.specs.Places.{FoundLine}
 use Rattle.yq_row_table.specs.Rows.{Part, Cut, cut_text}
 use Rattle.yq_documents.{specs.Documents.{document_parts, lead_of}, specs.Reading.{part_outline, read_at, root_of}, specs.TreeEdits.at_end}
-use Rattle.yq_places.specs.FirstPlaces.{FirstOut, first_removal}
-use Rattle.yq_places.specs.RemovalPlaces.{OwnRows, own_rows, Seam, Removal, removal_place, has_others}
+use Rattle.yq_documents.specs.Pieces.{TextPiece}
+use Rattle.yq_places.{specs.FirstPlaces.first_removal, specs.RemovalPlaces.{OwnRows, own_rows, Seam, Removal, removal_place, has_others}}
 use Rattle.yq_edit_rules.{specs.Changed.{IsChanged, KeepsRows, put_document}, specs.Conditions.AreSpared, specs.DocumentRows.IsDocumentPart}
 use Rattle.yq_edit_rules.{specs.EntryRows.HasWholeRows, specs.Rooms.is_block_root, specs.Siblings.{HasEntries, IsEntryAt, NodeLines}}
 
@@ -53,4 +53,4 @@ pub record MayTakeOut (c : Cut) (k : ℕ) (steps : List Step) : Type 0 where
 
 -- What is taken out with the first item or entry of a compact collection is in the text.
 abbrev pub FirstStands : Type 0
-FirstStands = (c : Cut) (k : ℕ) (steps : List Step) (x : FirstOut) → first_removal k steps c ≡ Some x → cut_text c ≡ x.before ++ (x.space ++ (x.entry ++ (x.break ++ (x.indent ++ x.behind))))
+FirstStands = (c : Cut) (k : ℕ) (steps : List Step) (x : TextPiece) → first_removal k steps c ≡ Some x → cut_text c ≡ x.before ++ (x.text ++ x.behind)

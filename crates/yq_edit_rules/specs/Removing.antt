@@ -2,7 +2,9 @@
 use Rattle.std.specs.Prelude.{ℕ, List, [], ◌∷◌, ◌++◌, replicate, Option, Some, None, if◌then◌else◌}
 use Rattle.yq_core.{specs.BlockRepair.{is_short, is_outdented_comment}, specs.Lines.is_blank}
 use Rattle.yq_core.specs.Text.{cut, no_white, past_white, joined, text_lines}
+use Rattle.yq_documents.specs.Pieces.{TextPiece}
 use Rattle.yq_places.specs.RemovalPlaces.{Seam, Removal}
+use Rattle.yq_edit_rules.specs.PiecePuts.{piece_replaced}
 use Rattle.yq_text.specs.Script.{Segment, keep, put}
 
 -- the white space in front of a line is replaced by so many spaces (own)
@@ -30,3 +32,7 @@ gap_mended (Some s) gap = lines_mended s (text_lines gap)
 -- the lines of an item or entry go, and the gap after them is mended (own)
 abbrev pub rows_removed : Removal → List Segment
 rows_removed x = keep x.before ∷ (put x.gone [] ∷ (gap_mended x.seam x.gap ++ (keep x.behind ∷ [])))
+
+-- the first item or entry of a compact collection goes, with what goes with it (8.2.1; own)
+abbrev pub first_removed : TextPiece → List Segment
+first_removed w = piece_replaced w []

@@ -7,10 +7,11 @@ use Rattle.yq_core.{specs.Writable.{can_write, is_string}, specs.Written.double,
 use Rattle.yq_core.specs.declared.style.Style.TheVariants.{Literal}
 use Rattle.yq_row_table.specs.Rows.{Cut}
 use Rattle.yq_places.specs.NodesAt.{node_in, scalar_in}
-use Rattle.yq_places.specs.Standings.{Compact, Held, Lone, BlockRoot, NoRows, Standing, alone, beside, under, compact, block, root, no_rows}
-use Rattle.yq_places.specs.Standings.{standing_at}
+use Rattle.yq_places.specs.Standings.{Held, LinesIn, Standing, alone, beside, under, compact, block, root, no_rows, standing_at}
+use Rattle.yq_documents.specs.Pieces.{TextPiece}
 use Rattle.yq_edit_rules.{specs.declared.layout.Layout.Layout, specs.BlockText.block_value}
 use Rattle.yq_edit_rules.{specs.ClosedTexts.{is_closed_text, lines_put_behind}, specs.Layouts.layout_of}
+use Rattle.yq_edit_rules.specs.PiecePuts.{lines_replaced, piece_replaced}
 use Rattle.yq_edit_rules.specs.WrittenValues.{Written, inline, compact_text, lines, value_text, written_at, written_under}
 use Rattle.yq_text.specs.Script.{Segment, keep, put}
 use Rattle.yq_core.specs.BlockWritten as literal
@@ -73,27 +74,23 @@ block_scalar_put has_text br h indent w (Some s) = if has_text && is_string s.ki
 
 -- ---- elsewhere
 
--- a text after a dash, in the place of a compact collection
-abbrev pub put_compact : Compact → List ℕ → List Segment
-put_compact p t = keep p.before ∷ (put p.old t ∷ (keep p.last ∷ (keep p.behind ∷ [])))
-
--- a value there: after a space, or a break and the lines (8.2.1)
-abbrev pub compact_put : List ℕ → Compact → Written → List Segment
-compact_put br p (inline t) = put_compact p (32 ∷ t)
-compact_put br p (compact_text t) = put_compact p (32 ∷ t)
-compact_put br p (lines t) = put_compact p (br ++ t)
+-- a value after a dash, in the place of the lines of a compact collection: after a space, or a break and the lines (8.2.1)
+abbrev pub compact_put : List ℕ → LinesIn → Written → List Segment
+compact_put br w (inline t) = lines_replaced w (32 ∷ t)
+compact_put br w (compact_text t) = lines_replaced w (32 ∷ t)
+compact_put br w (lines t) = lines_replaced w (br ++ t)
 
 -- a value in one line in the place of a lone node; a collection is in flow style (7)
-abbrev pub lone_put : Lone → Node → List Segment
-lone_put w v = keep w.before ∷ (put w.head (spaced_text w.head (value_text InBlock w.head v)) ∷ (keep w.behind ∷ []))
+abbrev pub lone_put : TextPiece → Node → List Segment
+lone_put w v = piece_replaced w (spaced_text w.text (value_text InBlock w.text v))
 
--- a value in block style in the place of a root that is a block collection (8.2, 9.1)
-abbrev pub root_put : Layout → Node → BlockRoot → List Segment
-root_put l v w = keep w.before ∷ (put w.old (block_value l w.column v) ∷ (keep w.last ∷ (keep w.behind ∷ [])))
+-- a value in block style in the place of a root that is a block collection in a column (8.2, 9.1)
+abbrev pub root_put : Layout → Node → (column : ℕ) → LinesIn → List Segment
+root_put l v column w = lines_replaced w (block_value l column v)
 
 -- the same on lines of its own after the gap of a document without rows (9.1)
-abbrev pub no_rows_put : Layout → Node → NoRows → List Segment
-no_rows_put l v w = keep w.before ∷ (put [] (lines_put_behind (is_closed_text w.before) (break_text l.br) (block_value l 0 v)) ∷ (keep w.behind ∷ []))
+abbrev pub no_rows_put : Layout → Node → TextPiece → List Segment
+no_rows_put l v w = piece_replaced w (lines_put_behind (is_closed_text w.before) (break_text l.br) (block_value l 0 v))
 
 -- ---- the table
 
@@ -102,9 +99,9 @@ abbrev pub value_put : (has_text : Bool) → Layout → Node → Standing → Li
 value_put has_text l v (alone w) = lone_put w v
 value_put has_text l v (beside h) = held_put (break_text l.br) h (written_at l h.mark h.head v)
 value_put has_text l v (under h column) = held_put (break_text l.br) h (written_under l h.mark v)
-value_put has_text l v (compact p) = compact_put (break_text l.br) p (written_at l p.mark [] v)
+value_put has_text l v (compact mark column w) = compact_put (break_text l.br) w (written_at l mark [] v)
 value_put has_text l v (block h indent) = block_scalar_put has_text (break_text l.br) h indent (written_at l h.mark [] v) (scalar_in v)
-value_put has_text l v (root w) = root_put l v w
+value_put has_text l v (root column w) = root_put l v column w
 value_put has_text l v (no_rows w) = no_rows_put l v w
 
 -- whether there is a scalar, and it holds more than line breaks: a block scalar that does has a text line (8.1)

@@ -4,15 +4,13 @@ use Rattle.yq_text.{specs.Limit.text_limit, specs.Script.{Segment, changes, keep
 use Rattle.yq_core.{specs.Paths.Step, specs.Text.is_empty, specs.Tree.Node, specs.declared.style.Place.TheVariants.Block as InBlock}
 use Rattle.yq_core.{specs.BlockWritten.break_text, specs.declared.block_types.Break.Break}
 use Rattle.yq_row_table.{specs.Rows.{Cut, Part, Row, cut_text}, specs.Seams.is_block, specs.View.slices}
-use Rattle.yq_documents.{specs.Documents.document_parts, specs.Reading.{documents, read_at}}
-use Rattle.yq_places.{specs.Standings.{Held, RowsOfEntry, held, rows_of_entry}, specs.NodesAt.node_in, specs.CommentPlaces.LinesAbove}
-use Rattle.yq_places.specs.FirstBreak.{first_break}
+use Rattle.yq_documents.{specs.Documents.document_parts, specs.Reading.{documents, read_at}, specs.Pieces.TextPiece}
+use Rattle.yq_places.{specs.Standings.{Held, RowsOfEntry, held, rows_of_entry}, specs.NodesAt.node_in, specs.FirstBreak.first_break}
 use Rattle.yq_edit_rules.{specs.Appends.inserted, specs.Changed.put_document, specs.Rooms.row_shape, specs.BlockReading.is_filled}
-use Rattle.yq_edit_rules.specs.CommentEdits.{above_rows, comment_put, comment_written, head_comment_segments, head_lines}
-use Rattle.yq_edit_rules.{specs.Edits.op_edits, specs.Operands.HasOperand, specs.ReplaceEdits.held_put, specs.Replacing.keeps_scalar}
-use Rattle.yq_edit_rules.specs.WrittenValues.{inline, value_text}
-use Rattle.yq_semantics.{specs.Fits.Fits, specs.Meaning.head_comment_lines, specs.Operations.{head_comment, line_comment, replace}}
-use Rattle.yq_semantics.specs.Rooms.{room_of}
+use Rattle.yq_edit_rules.specs.CommentEdits.{above_rows, comment_put, comment_written, head_comment_segments}
+use Rattle.yq_edit_rules.{specs.PiecePuts.piece_replaced, specs.Edits.op_edits, specs.Operands.HasOperand, specs.ReplaceEdits.held_put}
+use Rattle.yq_edit_rules.{specs.Replacing.keeps_scalar, specs.WrittenValues.{inline, value_text}}
+use Rattle.yq_semantics.{specs.Fits.Fits, specs.Operations.{head_comment, line_comment, replace}, specs.Rooms.room_of}
 
 -- In the cut of the text that segments make, the row of an item or entry of document n has given way to another one of its shape (own).
 pub record ChangesRow (n : ℕ) (c : Cut) (e : RowsOfEntry) (ss : List Segment) : Type 0 where
@@ -112,11 +110,9 @@ CommentPutsOne =
     (text : List ℕ) (h : Held) →
     PutsOne (comment_put text h) (comment_front text h) (comment_old text h) (comment_written text h.comment) (h.break ++ (h.lines ++ (h.last ++ h.behind)))
 
--- A head comment is its lines in the place of those of another one, or of none.
-abbrev pub HeadCommentPutsOne : Type 0
-HeadCommentPutsOne =
-    (br text : List ℕ) (w : LinesAbove) →
-    PutsOne (head_comment_segments br text w) w.before w.run (head_lines w.column br (head_comment_lines text)) w.behind
+-- A text in the place of a piece is one text in the place of another one, or of none.
+abbrev pub PiecePutsOne : Type 0
+PiecePutsOne = (w : TextPiece) (t : List ℕ) → PutsOne (piece_replaced w t) w.before w.text t w.behind
 
 -- These laws together (own).
 pub record RowEdits : Type 0 where
@@ -125,4 +121,4 @@ pub record RowEdits : Type 0 where
   pub head_comment : HeadCommentEdits
   pub inline_puts : InlinePutsOne
   pub comment_puts : CommentPutsOne
-  pub head_comment_puts : HeadCommentPutsOne
+  pub piece_puts : PiecePutsOne

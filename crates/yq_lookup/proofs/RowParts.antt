@@ -4,8 +4,7 @@ use Rattle.std.{proofs.Common.{sym, ap, ◌∙◌, subst, arith, append_assoc, l
 use Rattle.std.specs.Prelude.{option_and_then}
 use Rattle.yq_core.{specs.Answers.◌>>=◌, specs.Collections.{CollPieces, coll_along, coll_in}, specs.Paths.Step, specs.Piece.deeper}
 use Rattle.yq_core.{specs.Entries.{EntryPieces, entry_pieces_at, path_inside, tree_step}, specs.Inline.depth_limit}
-use Rattle.yq_core.{specs.Nodes.{FlowNode, IsFlowNode, anchored}, specs.Places.{Placed, locate}, specs.View.inline_view}
-use Rattle.yq_core.proofs.PathLaws.{path_holds}
+use Rattle.yq_core.{specs.Nodes.{FlowNode, IsFlowNode, anchored}, specs.Places.{Placed, locate}, proofs.PathLaws.path_holds}
 use Rattle.yq_row_table.specs.Rows.{parent_indent}
 use denote.Bor.{Bor}
 use Rattle.yq_documents.specs.Reading.{cut_of}
@@ -13,7 +12,7 @@ use Rattle.yq_inline.specs.Along.{along_view, as_item, front_read, located_along
 use Rattle.yq_inline.{specs.declared.along.NodeAlong.NodeAlong, specs.declared.in_front.NodeInFront.NodeInFront}
 use Rattle.yq_places.{specs.FlowNodes.{content_flow, flow_collection}, proofs.FlowNodeLaws.{content_more, entry_more, item_more, with_more}}
 use Rattle.yq_lookup.{specs.PartNodes.{IsPartNode, PartAgrees, part_at, coll_part}, specs.RowFronts.{IsFlowFront, IsRowFront}}
-use Rattle.yq_lookup.{specs.declared.flow_part.PartNode.PartNode, proofs.RowItems.before_is}
+use Rattle.yq_lookup.proofs.RowItems.{before_is}
 use Rattle.yq_core.specs.declared.path.Step as declared
 
 -- the items or entries of a node are those of its collection
@@ -75,12 +74,12 @@ module _ (t : List ℕ) (n : ℕ) (steps : List Step) (x : NodeInFront × ℕ ×
       go (u ∷ ps) e = let z = path_holds false (Some (deeper (parent_indent w.row))) depth_limit u (ps ++ (s ∷ [])) top y h.head.valid e in (z.0, z.2)
 
   -- the node that the code has read
-  module _ (f : PartNode) (m : NodeAlong) (node : f.node ≡ m.node) (text : f.text.now ≡ m.text.now) (at : f.before ≡ x.1 + (length x.0.text.now - length m.text.now)) where
-    stands : (y : EntryPieces) → entry_pieces_at all top ≡ Some y → along_view m ≡ located_from y → IsPartNode t (entry_more behind y) f
+  module _ (m : NodeAlong) (start : ℕ) (at : start ≡ x.1 + (length x.0.text.now - length m.text.now)) where
+    stands : (y : EntryPieces) → entry_pieces_at all top ≡ Some y → along_view m ≡ located_from y → IsPartNode t (entry_more behind y) (m, start)
     stands y there is =
         let b = before_is t n steps x w all y there in
         let v = valid y there in
-        let own : f.text.now ≡ node_from y = text ∙ ap (λ (z : List ℕ × Placed). z.0) is in
+        let own : m.text.now ≡ node_from y = ap (λ (z : List ℕ × Placed). z.0) is in
         record {
           front = take x.1 t ++ b.0;
           behind = behind;
@@ -91,13 +90,13 @@ module _ (t : List ℕ) (n : ℕ) (steps : List Step) (x : NodeInFront × ℕ ×
           rest_is = refl;
           valid = v.1;
           node_is = own;
-          view = ap inline_view node ∙ (ap (λ (z : List ℕ × Placed). z.1) is ∙ ap (λ (l : List ℕ). locate (length l) y.node y.rest) (sym own));
+          view = ap (λ (z : List ℕ × Placed). z.1) is ∙ ap (λ (l : List ℕ). locate (length l) y.node y.rest) (sym own);
         }
 
-    pub part_agrees : Some (along_view m) ≡ located_along all (front_read x.0) → PartAgrees t (part_at n steps s (cut_of t)) (Some f)
-    part_agrees e = subst (λ (o : Option EntryPieces). PartAgrees t o (Some f)) (sym part_is) (go (entry_pieces_at all top) refl (e ∙ ap (located_along all) h.read))
+    pub part_agrees : Some (along_view m) ≡ located_along all (front_read x.0) → PartAgrees t (part_at n steps s (cut_of t)) (Some (m, start))
+    part_agrees e = subst (λ (o : Option EntryPieces). PartAgrees t o (Some (m, start))) (sym part_is) (go (entry_pieces_at all top) refl (e ∙ ap (located_along all) h.read))
       where
-        go : (o : Option EntryPieces) → entry_pieces_at all top ≡ o → Some (along_view m) ≡ option_map located_from o → PartAgrees t (option_map (entry_more behind) o) (Some f)
+        go : (o : Option EntryPieces) → entry_pieces_at all top ≡ o → Some (along_view m) ≡ option_map located_from o → PartAgrees t (option_map (entry_more behind) o) (Some (m, start))
         go None there e = cc
         go (Some y) there e = stands y there (same_Some _ _ e)
 

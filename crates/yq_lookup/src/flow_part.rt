@@ -5,30 +5,19 @@ ghost use Rattle.yq_lookup.specs.PartNodes as spec;
 
 use crate::cut_text::CutText;
 use std::alloc::{AllocError, Global};
-use yq_core::{Inline, Step};
+use yq_core::Step;
 use yq_inline::{NodeAlong, read_part};
 
-/// The node of an item or entry of a flow collection, read alone.
-#[derive(Drop)]
-pub struct PartNode<'t> {
-    /// The node, with its places in the text that begins with it.
-    pub node: Inline<'t>,
-    /// The text that begins with the node: a piece of the text that was read.
-    pub text: &'t str,
-    /// How many bytes of that come before the piece.
-    pub before: usize,
-}
-
 impl<'t> CutText<'_, 't> {
-    /// The item or entry to which a step leads in the flow collection at a path of document `doc`, counted from 0, if there
-    /// is one.
+    /// The node of the item or entry to which a step leads in the flow collection at a path of document `doc`, counted
+    /// from 0, if there is one, and how many bytes come before it.
     pub fn flow_part(
         &self,
         alloc: Global,
         doc: usize,
         steps: &[Step],
         last: &Step,
-    ) -> Result<Option<PartNode<'t>>, AllocError>
+    ) -> Result<Option<(NodeAlong<'t>, usize)>, AllocError>
         ensures { IfOk result (spec.FindsPart self.now doc (map tree_step steps.now)
             (tree_step last.now)) }
     {
@@ -38,11 +27,7 @@ impl<'t> CutText<'_, 't> {
         let Some(found) = read_part(alloc, front, left, last)? else {
             return Ok(None);
         };
-        let NodeAlong { node, text } = found;
-        Ok(Some(PartNode {
-            node,
-            text,
-            before: start + (front.text.len() - text.len()),
-        }))
+        let before = start + (front.text.len() - found.text.len());
+        Ok(Some((found, before)))
     }
 }

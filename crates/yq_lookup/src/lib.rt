@@ -18,11 +18,10 @@ mod walks;
 
 pub use cut_text::CutText;
 pub use flow_ends::{FlowEnd, FlowNeighbours};
-pub use flow_part::PartNode;
 pub use knowledge::{Knowledge, StepSearches};
 pub use known_document::{KnownDocument, KnownDocuments};
 pub use laws::{comments_stand, contents_spell, entries_spell, pieces_exist, pieces_hold};
 pub use yq_places::{
-    BlockRoot, Compact, EntryMark, FirstRemoval, FlowHead, Held, HeldRow, LinesAbove, Lone, NoRows,
-    NodeAt, Removal, Seam, Standing, collection_along, split_break,
+    EntryMark, FlowHead, Held, HeldRow, LinesIn, NodeAt, Removal, Seam, Standing, TextPiece,
+    collection_along, line_end, split_break,
 };

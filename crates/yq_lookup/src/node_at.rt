@@ -14,9 +14,7 @@ use yq_core::{Kind, Step};
 use yq_documents::Path;
 use yq_inline::{NodeInFront, read_along};
 use yq_outline::{Head, ScalarContent};
-use yq_places::{
-    FlowHead, NodeAt, RowHead, block_node, head_node, is_text, node_place, place_line,
-};
+use yq_places::{FlowHead, NodeAt, block_node, head_node, is_text, node_place, place_line};
 use yq_row_heads::row_head;
 use yq_row_walk::head_place;
 
@@ -60,8 +58,8 @@ impl<'t> CutText<'_, 't> {
         match self.row_front(at.row) {
             Some((front, _)) => front_node(alloc, front, left),
             None => {
-                let head = self.row_head(alloc, at.row)?;
-                head_node(alloc, head.head, left)
+                let (head, _, _) = self.row_head(alloc, at.row)?;
+                head_node(alloc, head, left)
             }
         }
     }
@@ -118,7 +116,7 @@ impl<'t> CutText<'_, 't> {
         let Some(at) = place_line(&walk, place) else {
             return Ok(None);
         };
-        let RowHead { head, text, before } = self.row_head(alloc, at.row)?;
+        let (head, text, before) = self.row_head(alloc, at.row)?;
         match head {
             Head::Nothing => Ok(None),
             Head::Scalar(..) => Ok(None),
@@ -131,21 +129,22 @@ impl<'t> CutText<'_, 't> {
         }
     }
 
-    /// The head of row `i`, in which keys are fit.
-    pub(crate) fn row_head(&self, alloc: Global, i: usize) -> Result<RowHead<'t>, AllocError>
+    /// The head of row `i`, in which keys are fit, the text from it to the end of the row, and how many
+    /// bytes come before it.
+    pub(crate) fn row_head(
+        &self,
+        alloc: Global,
+        i: usize,
+    ) -> Result<(Head<'t>, &'t str, usize), AllocError>
         requires within { i < length (rows_of (cut_of self.now)) }
         requires fit { (r : RowOf) → slice_get (rows_of (cut_of self.now)) i ≡ Some r →
             content_is_fit r.content ≡ true }
         ensures { (r : RowOf) → slice_get (rows_of (cut_of self.now)) i ≡ Some r →
-            IfOk result (IsRowHead i r (cut_of self.now)) }
+            IfOk result (λ x. IsRowHead i r (cut_of self.now) x.0 x.1.now x.2) }
     {
         let row = self.rows.row(i);
         let (start, _) = head_place(self.rows, i);
         let text = self.rows.from_head(i);
-        Ok(RowHead {
-            head: row_head(alloc, text, &row, text)?,
-            text,
-            before: start,
-        })
+        Ok((row_head(alloc, text, &row, text)?, text, start))
     }
 }

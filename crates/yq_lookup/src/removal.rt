@@ -1,14 +1,15 @@
 //! What is taken out of a text with an item or entry of a block collection.
 ghost use Rattle.std.specs.Prelude.{◌≡◌, option_map};
+ghost use Rattle.yq_places.specs.StandingViews.{pieces_view};
 ghost use Rattle.yq_documents.{specs.Located.steps_of, specs.Reading.cut_of};
-ghost use Rattle.yq_places.specs.FirstViews.{first_view};
 ghost use Rattle.yq_places.specs.FirstPlaces as first;
 ghost use Rattle.yq_places.specs.RemovalPlaces as spec;
 ghost use Rattle.yq_places.specs.RemovalReading as reading;
 
 use crate::cut_text::CutText;
 use yq_documents::Path;
-use yq_places::{FirstRemoval, Removal, cut_at, first_out, own_rows, rows_out};
+use yq_places::{Removal, first_out, own_rows, rows_out};
+use yq_text::Halves;
 
 impl<'t> CutText<'_, 't> {
     /// Where the rows of the item or entry at a path begin and end, after where those of its document
@@ -33,12 +34,12 @@ impl<'t> CutText<'_, 't> {
         Some(rows_out(self.rows(), whole, marks))
     }
 
-    /// What is taken out of the text with the item or entry at a path, if it is the first one of a
-    /// compact collection: up to the next one, if its line is the next one; else from after the dash
+    /// The text before what is taken out with the item or entry at a path, that, and the text after it, if it
+    /// is the first one of a compact collection: up to the next one, if its line is the next one; else from after the dash
     /// to the end of the last line, before its break. None, where its line is the first one of a row, or
     /// it is in flow.
-    pub fn first_removal(&self, path: &Path) -> Option<FirstRemoval<'t>>
-        ensures { option_map first_view result ≡
+    pub fn first_removal(&self, path: &Path) -> Option<(Halves<'t>, Halves<'t>, Halves<'t>)>
+        ensures { option_map (λ x. pieces_view x.0 x.1 x.2) result ≡
             first.first_removal path.now.doc (steps_of path.now) (cut_of self.now) }
     {
         let whole = self.whole();
@@ -47,7 +48,6 @@ impl<'t> CutText<'_, 't> {
             return None;
         }
         let span = self.entry_place(path)?;
-        let (before, entry, behind) = cut_at(whole, span.start, span.end);
-        Some(first_out(before, entry, behind))
+        Some(first_out(whole, span.start, span.end))
     }
 }

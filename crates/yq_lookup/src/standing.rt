@@ -1,7 +1,6 @@
 //! What is in a text where paths lead, outside flow collections: at items, entries and roots, with the lines above them.
 ghost use Rattle.std.specs.Prelude.{◌≡◌, [], option_map};
 ghost use Rattle.yq_documents.{specs.Located.steps_of, specs.Reading.cut_of};
-ghost use Rattle.yq_places.specs.CommentViews.{above_view};
 ghost use Rattle.yq_places.specs.CommentPlaces as comments;
 ghost use Rattle.yq_places.specs.RootReading as roots;
 ghost use Rattle.yq_places.specs.StandingReading as reading;
@@ -12,7 +11,7 @@ use crate::cut_text::CutText;
 use crate::known_document::part_from;
 use yq_documents::{Path, rows_to};
 use yq_places::{
-    Held, LinesAbove, NoRows, RowsOfEntry, Standing, above, entry_along, entry_standing, held_in,
+    Held, RowsOfEntry, Standing, TextPiece, above, entry_along, entry_standing, held_in,
     rows_standing,
 };
 use yq_row_walk::row_start;
@@ -45,14 +44,18 @@ impl<'t> CutText<'_, 't> {
     }
 
     /// The text of document `doc`, if it has no rows.
-    fn no_rows(&self, doc: usize) -> Option<NoRows<'t>>
-        ensures { option_map row_agrees.no_rows_view result ≡
+    fn no_rows(&self, doc: usize) -> Option<TextPiece<'t>>
+        ensures { option_map row_agrees.piece_view result ≡
             roots.rowless_place doc (cut_of self.now) }
     {
         let whole = self.whole();
         let end = self.rowless_end(doc)?;
         let (before, behind) = whole.split_at(end);
-        Some(NoRows { before, behind })
+        Some(TextPiece {
+            before,
+            text: "",
+            behind,
+        })
     }
 
     /// What is at the root of document `doc`.
@@ -94,10 +97,11 @@ impl<'t> CutText<'_, 't> {
         Some(held_in(self.rows(), text, entry))
     }
 
-    /// The lines above the entry or item at a path, where its head comment is or would be. The
-    /// root has none, nor has what is in flow, nor what begins after a dash.
-    pub fn lines_above(&self, path: &Path) -> Option<LinesAbove<'t>>
-        ensures { option_map above_view result ≡
+    /// The column of the row that the entry or item at a path begins, and the run of comment lines above
+    /// it, where its head comment is or would be. The root has none, nor has what is in flow, nor what
+    /// begins after a dash.
+    pub fn lines_above(&self, path: &Path) -> Option<(usize, TextPiece<'t>)>
+        ensures { option_map (λ x. (x.0, row_agrees.piece_view x.1)) result ≡
             comments.lines_above path.now.doc (steps_of path.now) (cut_of self.now) }
     {
         let whole = self.whole();
@@ -109,6 +113,6 @@ impl<'t> CutText<'_, 't> {
         let row = self.rows.row(row_line.row);
         let gap = row.gap();
         let column = row.column();
-        Some(above(whole, start, gap, column))
+        Some((column, above(whole, start, gap)))
     }
 }

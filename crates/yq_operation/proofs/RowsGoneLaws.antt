@@ -11,7 +11,7 @@ use Rattle.yq_documents.specs.Reading.{read_at}
 use Rattle.yq_places.{specs.FirstPlaces.first_removal, specs.RemovalPlaces.{Removal, has_others_at, removal_place}}
 use Rattle.yq_places.{specs.RemovalReading.seam_view, specs.Standings.last_step, specs.declared.places.removal_place.Seam.Seam}
 use Rattle.yq_edit_rules.{proofs.RemovalChangeLaws.removal_stands, specs.Edits.{or_stay, part_removed, rows_or_sole}}
-use Rattle.yq_edit_rules.{specs.EntryEdits.one_removed, specs.Removing.{gap_mended, rows_removed}, specs.RemovingFirst.first_removed}
+use Rattle.yq_edit_rules.{specs.EntryEdits.one_removed, specs.Removing.{first_removed, gap_mended, rows_removed}}
 use Rattle.yq_semantics.specs.Operations.{remove}
 use Rattle.yq_edit_laws.{proofs.CutLaws.cut_read, specs.Valid.segments_by}
 use Rattle.yq_operation.specs.RowsGone.{IsSmall}

@@ -106,10 +106,10 @@ fn sole_removed<'d>(
     ensures { GivesSegments result (spec.sole_removed path.now.doc (cut_of cut.now)
         (last_step (steps_of path.now))) }
 {
-    let Some(empty) = emptying(alloc, cut, path)? else {
+    let Some((place, value)) = emptying(alloc, cut, path)? else {
         return Ok(None);
     };
-    replaced(alloc, cut, &empty.place, &empty.value)
+    replaced(alloc, cut, &place, &value)
 }
 
 /// One of several items or entries of a block collection taken out, or a sole one of any.

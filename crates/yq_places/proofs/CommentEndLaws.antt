@@ -7,9 +7,9 @@ use Rattle.yq_core.{specs.Answers.◌>>=◌, specs.Text.{joined, text_lines}, pr
 use Rattle.yq_row_table.{specs.Exchange.row_front, specs.Gap.IsGap, specs.Rows.{Row, behind_gap, print_row, Cut}}
 use Rattle.yq_row_table.{specs.View.{Slices, slices, rows_of, RowsView}, proofs.NodePieces.{BeginsAscii, before_ascii}}
 use Rattle.yq_row_table.{proofs.PlaceLaws.{row_front-append, row_in}, proofs.SliceLaws.content_slices}
-use Rattle.yq_documents.{specs.declared.path.Path.Path, specs.Located.steps_of, specs.Pieces.{before_run, last_run}, specs.Reading.cut_of}
-use Rattle.yq_documents.{specs.LinesInRows.{row_line_at, document_row}, proofs.RunLaws.run_split}
-use Rattle.yq_places.{specs.CommentPlaces.{LinesAbove, text_to_line_end, gap_above, above_row, lines_above}, specs.CommentViews.GapStands}
+use Rattle.yq_documents.{specs.declared.path.Path.Path, specs.Located.steps_of, specs.Pieces.{TextPiece, before_run, last_run}}
+use Rattle.yq_documents.{specs.Reading.cut_of, specs.LinesInRows.{row_line_at, document_row}, proofs.RunLaws.run_split}
+use Rattle.yq_places.{specs.CommentPlaces.{text_to_line_end, gap_above, above_row, lines_above}, specs.LineReading.GapStands}
 use Rattle.yq_places.{specs.PlacedRows.PlacedRow, specs.RowLineReading.{LineCounts, numbers}, specs.RowWalk.HasCut}
 use Rattle.yq_places.{proofs.CommentPieceLaws.{row_place, run_begins}, proofs.PlacedRowLaws.{row_line_placed, no_row_line_placed}}
 use Rattle.yq_places.{proofs.SeamLaws.{IsSeam, seam_boundary, seam_then, gap_seam, row_seam}, proofs.StartLaws.start_agrees}
@@ -74,9 +74,9 @@ module _ (t : List ℕ) (start : ℕ) (gap run : List ℕ) (h : GapStands t star
       subst (λ n. IsCharBoundary front n) (sym size) (subst (λ x. IsCharBoundary x (length (h.before ++ kept))) (sym (e ∙ parts))
       (before_ascii (h.before ++ kept) run (subst BeginsAscii (sym run_is) (run_ascii (text_lines gap)))))
 
-  pub above_is : (front before behind : List ℕ) (column : ℕ) → front ≡ take (start + length gap) t → behind ≡ drop (start + length gap) t → before ≡ take (start + length gap - length run) front →
-      (k : GapStands t start gap) → ◌≡◌ {A = LinesAbove} (record { before = before; run = run; column = column; behind = behind }) (gap_above k.before gap column k.rest)
-  above_is front before behind column e d b k =
+  pub above_is : (front before behind : List ℕ) → front ≡ take (start + length gap) t → behind ≡ drop (start + length gap) t → before ≡ take (start + length gap - length run) front →
+      (k : GapStands t start gap) → ◌≡◌ {A = TextPiece} (record { before = before; text = run; behind = behind }) (gap_above k.before gap k.rest)
+  above_is front before behind e d b k =
       let whole : front ≡ (h.before ++ kept) ++ run = e ∙ parts in
       let first : before ≡ h.before ++ kept = b ∙ ((λ i. take (size i) (whole i)) ∙ take-append_seam (h.before ++ kept) run) in
       let ends : h.before ≡ k.before =
@@ -121,8 +121,8 @@ module _ (t : List ℕ) (x : RowsView) (held : HasCut t x) (path : Path) (n : Li
         gap_is,
       )
 
-  pub lines_above_is : (start : ℕ) (gap text : List ℕ) (column : ℕ) (above : LinesAbove) (begins : start ≡ row_start n.0 x) (has : (y : Slices) → slice_get x.rows n.0 ≡ Some y → gap ≡ y.gap) (e : text ≡ t) (u : IsUtf8 t) →
-      ((y : Slices) → slice_get x.rows n.0 ≡ Some y → column ≡ y.column) → n.1 ≡ 0 → ((h : GapStands text start gap) → above ≡ gap_above h.before gap column h.rest) → Some above ≡ lines_above path.doc (steps_of path) (cut_of t)
+  pub lines_above_is : (start : ℕ) (gap text : List ℕ) (column : ℕ) (above : TextPiece) (begins : start ≡ row_start n.0 x) (has : (y : Slices) → slice_get x.rows n.0 ≡ Some y → gap ≡ y.gap) (e : text ≡ t) (u : IsUtf8 t) →
+      ((y : Slices) → slice_get x.rows n.0 ≡ Some y → column ≡ y.column) → n.1 ≡ 0 → ((h : GapStands text start gap) → above ≡ gap_above h.before gap h.rest) → Some (column, above) ≡ lines_above path.doc (steps_of path) (cut_of t)
   lines_above_is start gap text column above begins has e u columns first agrees =
       let k = (row_line_placed path (cut_of t) n row_line_is).1 in
       let g = gap_stands start gap text begins has e u in

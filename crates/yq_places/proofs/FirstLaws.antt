@@ -9,7 +9,7 @@ use Rattle.yq_core.{specs.Answers.◌>>=◌, proofs.Bools.bind_some, specs.Spans
 use Rattle.yq_row_table.{specs.Grammar.IsCut, specs.Rows.Cut}
 use Rattle.yq_documents.{specs.declared.path.Path.Path, specs.Located.steps_of, specs.Pieces.{TextPiece, piece_span}}
 use Rattle.yq_documents.{specs.Reading.all_documents, specs.LinesInRows.{RowLine, row_line_at}}
-use Rattle.yq_places.specs.FirstPlaces.{are_spaces, less_spaces, end_spaces, FirstOut, first_out, first_removal}
+use Rattle.yq_places.specs.FirstPlaces.{are_spaces, less_spaces, end_spaces, first_out, first_removal}
 use Rattle.yq_places.{specs.PathPieces.{printed_document, path_piece}, specs.RowLineReading.{LineCounts, numbers}}
 use Rattle.yq_places.{specs.EntryReading.line_entry_at, proofs.EntryPlaceLaws.row_line_entry, proofs.EntryPlacedLaws.entries_placed}
 use Rattle.yq_places.{proofs.PieceHolds.spans_are, proofs.PieceTexts.{document_whole, piece_whole}, proofs.PrintedTexts.map_some}
@@ -134,7 +134,7 @@ entry_stands t c path start end u cut sound k n there at =
 -- ---- what the code tells of it
 
 -- what is known of the line of an item or entry
-abbrev first_out_of : Option RowLine → Option TextPiece → Option FirstOut
+abbrev first_out_of : Option RowLine → Option TextPiece → Option TextPiece
 first_out_of o e = option_map first_out (o >>= λ s. cond (eqb s.line 0) None e)
 
 pub no_first_row_line : (path : Path) (c : Cut) (k : ℕ) → None ≡ option_map (numbers k) (row_line_at path c) → None ≡ first_removal path.doc (steps_of path) c

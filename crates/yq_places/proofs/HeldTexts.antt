@@ -5,15 +5,15 @@ use Rattle.std.{proofs.lemmas.List.{length-replicate, take_all}, proofs.lemmas.O
 use Rattle.std.{proofs.lemmas.Str.{IsCharBoundary-at_seam, IsUtf8-append}, specs.List.slice_get, specs.Str.{IsUtf8, IsCharBoundary}}
 use Rattle.yq_text.specs.Limit.{text_limit}
 use Rattle.yq_core.{specs.Text.is_empty, specs.Nodes.{empty, alias, scalar, coll, anchored}}
-use Rattle.yq_row_table.{specs.Exchange.row_front, specs.Offsets.row_length}
-use Rattle.yq_row_table.specs.Rows.{Content, Nothing, Inline, Block, Row, behind_columns, dashes_text, mark_column, print_row, rows_text}
-use Rattle.yq_row_table.{specs.Rows.Cut, specs.View.{Slices, slices, content_cut, last_dash, rows_of, RowsView, rows_view}}
-use Rattle.yq_places.specs.CommentPlaces.{LineEnd, end_in_line, text_to_line_end}
-use Rattle.yq_places.{specs.LineReading.{CutsLines, LinesIn, lines_between, line_list}, specs.PrintedLines.last_break}
-use Rattle.yq_places.{specs.RowPieces.{anchor_before, space_before}, specs.Standings.{Held, RowsOfEntry, before_entry, behind_entry, held}}
-use Rattle.yq_places.specs.StandingReading.{AreRowsOf}
-use Rattle.yq_places.proofs.EntryRowLaws.{head_ends, line_boundary_at, line_cut, pieces_at, stop_boundary, stop_is, through_is}
-use Rattle.yq_outline.{specs.Extents.{head_place, row_start}, specs.RowWalk.line_column, proofs.WalkLevels.{last_is, to_dash}}
+use Rattle.yq_row_table.specs.Exchange.{row_front}
+use Rattle.yq_row_table.specs.Rows.{Content, Nothing, Inline, Block, Row, behind_columns, dashes_text, mark_column, rows_text, Cut}
+use Rattle.yq_row_table.specs.View.{Slices, slices, content_cut, last_dash, rows_of, RowsView, rows_view}
+use Rattle.yq_places.{specs.CommentPlaces.{LineEnd, end_in_line, text_to_line_end}, specs.PrintedLines.last_break}
+use Rattle.yq_places.specs.RowPieces.{anchor_before, space_before}
+use Rattle.yq_places.specs.Standings.{Held, LinesIn, RowsOfEntry, before_entry, behind_entry, held, lines_between}
+use Rattle.yq_places.{specs.StandingReading.{AreRowsOf, EndsRows, rows_lines}, proofs.PrintedTexts.less_is}
+use Rattle.yq_places.proofs.EntryRowLaws.{head_ends, line_boundary_at, line_cut, pieces_at, through_is}
+use Rattle.yq_outline.{specs.Extents.head_place, specs.RowWalk.line_column, proofs.WalkLevels.{last_is, to_dash}}
 
 -- the column after dashes
 columns : (c : ℕ) (ns : List ℕ) → behind_columns c ns ≡ c + length (dashes_text ns [])
@@ -53,7 +53,7 @@ line_is r =
 
 module _ (t : List ℕ) (s : RowsView) (e : RowsOfEntry) (row end : ℕ) (h : AreRowsOf t s e row end) (u : IsUtf8 t) (place : ℕ × ℕ)
     (agrees : (c : Cut) → s ≡ rows_view c → (r : Row) → slice_get (rows_of c) row ≡ Some r → place ≡ head_place row c r)
-    (y : Slices) (there : slice_get s.rows row ≡ Some y) (stop : ℕ) (stop_agrees : (x : Slices) → slice_get s.rows (end - 1) ≡ Some x → stop ≡ row_start (end - 1) s + row_length x) where
+    (y : Slices) (there : slice_get s.rows row ≡ Some y) where
   same : slices e.row ≡ y
   same = same_Some _ _ (sym (pieces_at t s e row end h) ∙ there)
 
@@ -70,20 +70,19 @@ module _ (t : List ℕ) (s : RowsView) (e : RowsOfEntry) (row end : ℕ) (h : Ar
   from_is : place.1 + length y.tail ≡ length ((before_entry e ++ text_to_line_end e.row) ++ (slices e.row).tail)
   from_is = omega (arith, head_ends t s e row end h place agrees, ap (λ (z : Slices). length z.tail) same, length-append (before_entry e ++ text_to_line_end e.row) (slices e.row).tail)
 
-  pub lower_cut : (text : List ℕ) → text ≡ t → (tail : List ℕ) → tail ≡ y.tail → CutsLines text (place.1 + length tail) stop
-  lower_cut text is tail tail_is =
+  pub lower_ends : (tail : List ℕ) → tail ≡ y.tail → EndsRows t s (place.1 + length tail) end
+  lower_ends tail tail_is =
       let l : List ℕ = (before_entry e ++ text_to_line_end e.row) ++ (slices e.row).tail in
       let from : place.1 + length tail ≡ length l = omega (arith, from_is, ap length tail_is) in
-      let stops : stop ≡ length (before_entry e ++ print_row e.row (rows_text e.under [])) = stop_is t s e row end h stop stop_agrees in
       record {
-        before = l;
+        entry = e;
+        row = row;
+        rows = h;
+        front = l;
         own = (slices e.row).raw ++ rows_text e.under [];
-        behind = behind_entry e;
-        text = is ∙ line_cut t s e row end h;
+        text = through_is t s e row end h;
         from_is = from;
-        stop_is = stops ∙ ap length (through_is t s e row end h);
-        starts = subst (λ (z : List ℕ). IsCharBoundary z (place.1 + length tail)) (sym is) (subst (IsCharBoundary t) (sym from) (line_boundary_at t s e row end h u));
-        stops = subst (λ (z : List ℕ). IsCharBoundary z stop) (sym is) (subst (IsCharBoundary t) (sym stops) (stop_boundary t s e row end h u));
+        starts = subst (IsCharBoundary t) (sym from) (line_boundary_at t s e row end h u);
       }
 
   pub tail_fits : (tail : List ℕ) → tail ≡ y.tail → place.1 + length tail ≤ text_limit
@@ -92,10 +91,10 @@ module _ (t : List ℕ) (s : RowsView) (e : RowsOfEntry) (row end : ℕ) (h : Ar
       let lower : List ℕ = (slices e.row).raw ++ rows_text e.under [] in
       omega (arith, from_is, ap length tail_is, ap length (line_cut t s e row end h), length-append l (lower ++ behind_entry e), h.cut.size)
 
-  pub lower_is : (text : List ℕ) (is : text ≡ t) (tail : List ℕ) (tail_is : tail ≡ y.tail) (lower : LinesIn) → ((k : CutsLines text (place.1 + length tail) stop) → lower ≡ line_list k) →
+  pub lower_is : (tail : List ℕ) (tail_is : tail ≡ y.tail) (lower : LinesIn) → ((k : EndsRows t s (place.1 + length tail) end) → lower ≡ rows_lines k) →
       lower ≡ lines_between ((before_entry e ++ text_to_line_end e.row) ++ (slices e.row).tail) ((slices e.row).raw ++ rows_text e.under []) (behind_entry e)
-  unfolding lower_cut
-  lower_is text is tail tail_is lower says = says (lower_cut text is tail tail_is)
+  unfolding lower_ends
+  lower_is tail tail_is lower says = says (lower_ends tail tail_is)
 
   size : (space head : List ℕ) → space ≡ space_before y → head ≡ y.head → place.1 - (length space + length head) ≡ length front
   size space head a b =
@@ -143,10 +142,11 @@ module _ (t : List ℕ) (s : RowsView) (e : RowsOfEntry) (row end : ℕ) (h : Ar
       let x : Slices = slices e.row in
       (λ i. take (size space head a b i) ((is ∙ line_is_front) i)) ∙ take-append_seam front ((space_before x ++ x.head) ++ x.tail)
 
-  pub held_is : (column dashes : ℕ) (keyed noted : Bool) (before space head break last : List ℕ) (tail : LineEnd) (lower : LinesIn) →
+  pub held_is : (column dashes : ℕ) (keyed noted none : Bool) (before space head break last : List ℕ) (tail : LineEnd) (lower : LinesIn) →
       column ≡ line_column dashes y → dashes ≡ length e.row.dashes → keyed ≡ not (is_empty y.colon) → tail ≡ end_in_line [] y.tail →
       noted ≡ (not (is_empty y.anchor) || not (is_empty tail.comment)) → lower ≡ lines_between ((before_entry e ++ text_to_line_end e.row) ++ (slices e.row).tail) ((slices e.row).raw ++ rows_text e.under []) (behind_entry e) →
-      space ≡ space_before y → head ≡ y.head → before ≡ take (place.1 - (length space + length head)) lower.before → break ≡ cond lower.none [] tail.behind → last ≡ cond lower.none tail.behind lower.last →
+      space ≡ space_before y → head ≡ y.head → before ≡ take (place.1 - (length space + length head)) lower.before → none ≡ is_empty (lower.lines ++ lower.last) →
+      break ≡ cond none [] tail.behind → last ≡ cond none tail.behind lower.last →
       ◌≡◌ {A = Held} (record {
         mark = record { column = column; keyed = keyed; noted = noted };
         before = before;
@@ -160,7 +160,7 @@ module _ (t : List ℕ) (s : RowsView) (e : RowsOfEntry) (row end : ℕ) (h : Ar
         last = last;
         behind = lower.behind;
       }) (held e)
-  held_is column dashes keyed noted before space head break last tail lower columns_are dashes_are keyed_is tail_is noted_is lower_is space_is head_is before_cut break_is last_is_it =
+  held_is column dashes keyed noted none before space head break last tail lower columns_are dashes_are keyed_is tail_is noted_is lower_is space_is head_is before_cut none_is break_is last_is_it =
       let r : Row = e.row in
       let end : tail ≡ end_in_line [] (slices r).tail = tail_is ∙ ap (λ (z : Slices). end_in_line [] z.tail) (sym same) in
       let a : column ≡ mark_column r = columns_are ∙ (ap (line_column dashes) (sym same) ∙ mark_column_is r dashes dashes_are) in
@@ -169,9 +169,10 @@ module _ (t : List ℕ) (s : RowsView) (e : RowsOfEntry) (row end : ℕ) (h : Ar
       let f : before ≡ front = before_cut ∙ before_is lower.before space head (ap (λ (z : LinesIn). z.before) lower_is) space_is head_is in
       let g : space ≡ space_before (slices r) = space_is ∙ ap space_before (sym same) in
       let k : head ≡ (slices r).head = head_is ∙ ap (λ (z : Slices). z.head) (sym same) in
-      let m : break ≡ cond (is_empty ((slices r).raw ++ rows_text e.under [])) [] (end_in_line [] (slices r).tail).behind = break_is ∙ (λ i. cond (lower_is i).none [] (end i).behind) in
+      let nothing : none ≡ is_empty ((slices r).raw ++ rows_text e.under []) = none_is ∙ (ap (λ (z : LinesIn). is_empty (z.lines ++ z.last)) lower_is ∙ ap is_empty (less_is ((slices r).raw ++ rows_text e.under []))) in
+      let m : break ≡ cond (is_empty ((slices r).raw ++ rows_text e.under [])) [] (end_in_line [] (slices r).tail).behind = break_is ∙ (λ i. cond (nothing i) [] (end i).behind) in
       let n : last ≡ cond (is_empty ((slices r).raw ++ rows_text e.under [])) (end_in_line [] (slices r).tail).behind
-      (last_break ((slices r).raw ++ rows_text e.under [])) = last_is_it ∙ (λ i. cond (lower_is i).none (end i).behind (lower_is i).last) in
+      (last_break ((slices r).raw ++ rows_text e.under [])) = last_is_it ∙ (λ i. cond (nothing i) (end i).behind (lower_is i).last) in
       λ i. record {
         mark = record { column = a i; keyed = b i; noted = d i };
         before = f i;

@@ -72,5 +72,6 @@ mod EntryRowLaws
 mod HeldTexts
 pub mod HeldRowLaws
 pub mod StandingViewLaws
+mod CutLaws
 mod LoneLaws
 pub mod RootStandingLaws

@@ -1,22 +1,22 @@
 -- Nodes alone on their lines, and collections after dashes, by the rows that the code has found.
-use Rattle.std.proofs.Common.{◌≡◌, ℕ, ◌+◌, ◌-◌, ◌<◌, ◌≤◌, true, List, [], ◌∷◌, ◌++◌, length, length-append, take, drop, replicate, Some}
-use Rattle.std.{proofs.Common.{refl, sym, ap, ◌∙◌, subst, arith, append_assoc}, proofs.Math.Seq.{drop-append_seam, take-append_seam}}
+use Rattle.std.proofs.Common.{◌≡◌, ℕ, ◌+◌, ◌<◌, ◌≤◌, true, List, [], ◌∷◌, ◌++◌, length, length-append, take, drop, replicate, Some, refl}
+use Rattle.std.{proofs.Common.{sym, ap, ◌∙◌, subst, arith, append_assoc}, proofs.Math.Seq.{drop-append_seam, take-append_seam}}
 use Rattle.std.{proofs.lemmas.Bool.{and_parts, false≢true}, proofs.lemmas.Option.same_Some, proofs.lemmas.Str.IsCharBoundary-at_seam}
 use Rattle.std.{specs.List.slice_get, specs.Str.{IsUtf8, IsCharBoundary}}
 use Rattle.yq_text.specs.Limit.{text_limit}
 use Rattle.yq_core.specs.Text.{is_empty}
 use Rattle.yq_outline.{specs.Positions.has_no_mark, specs.Lines.line_mark, specs.Extents.{head_place, row_start}}
-use Rattle.yq_row_table.{specs.Exchange.row_front, specs.Grammar.IsMark, specs.Offsets.row_length}
+use Rattle.yq_row_table.{specs.Exchange.row_front, specs.Grammar.IsMark}
 use Rattle.yq_row_table.specs.Rows.{Content, Nothing, Inline, Block, Row, dashes_text, parent_indent, print_row, rows_text, Cut}
 use Rattle.yq_row_table.specs.View.{Slices, slices, content_cut, rows_of, RowsView, rows_view}
 use Rattle.yq_row_table.proofs.NodePieces.{before_ascii, behind_ascii, tail_ascii}
-use Rattle.yq_documents.specs.Reading.{cut_of}
+use Rattle.yq_documents.{specs.Pieces.TextPiece, specs.Reading.cut_of}
 use Rattle.yq_places.{specs.CommentPlaces.text_to_line_end, specs.RowPieces.upto_dash, specs.EntryReading.line_begin}
-use Rattle.yq_places.specs.LineReading.{CutsLines, LinesIn, lines_between, line_list}
-use Rattle.yq_places.specs.Standings.{Lone, RowsOfEntry, before_entry, behind_entry, dash_text, is_alone, lone}
-use Rattle.yq_places.{specs.StandingReading.AreRowsOf, proofs.CommentEndLaws.row_text_parts, proofs.DashLaws.{front_is, row_cut}}
-use Rattle.yq_places.proofs.EntryRowLaws.{cut_in_two, first_at, head_ends, pieces_at, row_valid, stop_boundary, stop_is, text}
-use Rattle.yq_places.{proofs.LineEndLaws.line_tail, proofs.RowStarts.line_begins}
+use Rattle.yq_places.specs.Standings.{LinesIn, RowsOfEntry, before_entry, behind_entry, compact_lines, dash_text, is_alone, lone}
+use Rattle.yq_places.{specs.StandingReading.{AreRowsOf, EndsRows, rows_lines}, proofs.CommentEndLaws.row_text_parts}
+use Rattle.yq_places.proofs.DashLaws.{front_is, row_cut}
+use Rattle.yq_places.{proofs.EntryRowLaws.{cut_in_two, first_at, head_ends, pieces_at, row_valid, text}, proofs.LineEndLaws.line_tail}
+use Rattle.yq_places.proofs.RowStarts.{line_begins}
 use Rattle.yq_row_table.specs.Rows as rows
 
 raw_none : (m : rows.RowMark) (x : Content) (rest : List ℕ) → IsMark m x rest → has_no_mark (line_mark m) ≡ true → (content_cut x).5 ≡ []
@@ -72,7 +72,7 @@ module _ (t : List ℕ) (s : RowsView) (e : RowsOfEntry) (row end : ℕ) (h : Ar
       subst (IsCharBoundary front) (sym start) (IsCharBoundary-at_seam front before head (front_is_text u front is cut ∙ ap (λ (z : List ℕ). before ++ z) own) utf8)
 
   pub lone_is : (u front first last head : List ℕ) → u ≡ t → front ≡ take place.1 u → last ≡ drop place.1 u → first ≡ take place.0 front → head ≡ y.head → is_alone e.row ≡ true →
-      ◌≡◌ {A = Lone} (record { before = first; head = head; behind = last }) (lone (before_entry e) e.row (rows_text e.under (behind_entry e)))
+      ◌≡◌ {A = TextPiece} (record { before = first; text = head; behind = last }) (lone (before_entry e) e.row (rows_text e.under (behind_entry e)))
   lone_is u front first last head is cut rest before_cut head_is a =
       let x : Slices = slices e.row in
       let b : first ≡ before = before_cut ∙ ((λ i. take (start i) (front_is_text u front is cut i)) ∙ take-append_seam before x.head) in
@@ -80,13 +80,13 @@ module _ (t : List ℕ) (s : RowsView) (e : RowsOfEntry) (row end : ℕ) (h : Ar
       let l : last ≡ x.tail ++ rows_text e.under (behind_entry e) =
       rest ∙ (((λ i. drop (stop i) ((is ∙ whole) i)) ∙ drop-append_seam (before ++ x.head) behind) ∙ ap (λ (z : List ℕ). x.tail ++ (z ++ rows_text e.under (behind_entry e))) none) in
       let own : head ≡ x.head = head_is ∙ ap (λ (z : Slices). z.head) (sym same) in
-      λ i. record { before = b i; head = own i; behind = l i }
+      λ i. record { before = b i; text = own i; behind = l i }
 
 -- ---- a collection after a dash
 
 module _ (t : List ℕ) (s : RowsView) (e : RowsOfEntry) (row end : ℕ) (h : AreRowsOf t s e row end) (u : IsUtf8 t) (line : ℕ)
-    (line_is : line ≡ e.line) (less : e.line < length e.row.dashes) (y : Slices) (there : slice_get s.rows row ≡ Some y) (start stop : ℕ)
-    (start_agrees : (x : Slices) → slice_get s.rows row ≡ Some x → start ≡ line_begin (row_start row s) x line) (stop_agrees : (x : Slices) → slice_get s.rows (end - 1) ≡ Some x → stop ≡ row_start (end - 1) s + row_length x) where
+    (line_is : line ≡ e.line) (less : e.line < length e.row.dashes) (y : Slices) (there : slice_get s.rows row ≡ Some y) (start : ℕ)
+    (start_agrees : (x : Slices) → slice_get s.rows row ≡ Some x → start ≡ line_begin (row_start row s) x line) where
   abbrev front : List ℕ
   front = before_entry e ++ row_front (upto_dash e.line e.row)
 
@@ -116,22 +116,20 @@ module _ (t : List ℕ) (s : RowsView) (e : RowsOfEntry) (row end : ℕ) (h : Ar
   pub dash_fits : start + 1 ≤ text_limit
   dash_fits = omega (arith, size, ap length cut, length-append front (dash_text e ++ behind_entry e), h.cut.size)
 
-  pub dash_cut : (v : List ℕ) → v ≡ t → CutsLines v (start + 1) stop
-  dash_cut v is =
-      let stops : stop ≡ length (before_entry e ++ print_row e.row (rows_text e.under [])) = stop_is t s e row end h stop stop_agrees in
-      record {
-        before = front;
-        own = dash_text e;
-        behind = behind_entry e;
-        text = is ∙ cut;
-        from_is = size;
-        stop_is = stops ∙ ap length through;
-        starts = subst (λ (z : List ℕ). IsCharBoundary z (start + 1)) (sym (is ∙ cut))
-            (subst (IsCharBoundary (front ++ (dash_text e ++ behind_entry e))) (sym size)
-            (behind_ascii front (dash_text e ++ behind_entry e) (subst IsUtf8 cut u) (record { front = upto; last = 45; is = dash_is; ascii = omega arith })));
-        stops = subst (λ (z : List ℕ). IsCharBoundary z stop) (sym is) (subst (IsCharBoundary t) (sym stops) (stop_boundary t s e row end h u));
-      }
+  pub dash_ends : EndsRows t s (start + 1) end
+  dash_ends = record {
+    entry = e;
+    row = row;
+    rows = h;
+    front = front;
+    own = dash_text e;
+    text = through;
+    from_is = size;
+    starts = subst (λ (z : List ℕ). IsCharBoundary z (start + 1)) (sym cut)
+        (subst (IsCharBoundary (front ++ (dash_text e ++ behind_entry e))) (sym size)
+        (behind_ascii front (dash_text e ++ behind_entry e) (subst IsUtf8 cut u) (record { front = upto; last = 45; is = dash_is; ascii = omega arith })));
+  }
 
-  pub dash_lines : (v : List ℕ) (is : v ≡ t) (lower : LinesIn) → ((k : CutsLines v (start + 1) stop) → lower ≡ line_list k) → lower ≡ lines_between front (dash_text e) (behind_entry e)
-  unfolding dash_cut
-  dash_lines v is lower says = says (dash_cut v is)
+  pub dash_lines : (lower : LinesIn) → ((k : EndsRows t s (start + 1) end) → lower ≡ rows_lines k) → lower ≡ compact_lines e
+  unfolding dash_ends
+  dash_lines lower says = says dash_ends

@@ -10,10 +10,10 @@ use Rattle.yq_row_table.{specs.Grammar.{unlimited, AreRows, IsCut, no_rows}, spe
 use Rattle.yq_row_table.{specs.Rows.{Row, rows_text, Part, part_text, Cut, last, marked}, specs.Splices.nth_part}
 use Rattle.yq_row_table.{specs.View.{Slices, slices, Bound, bounds_from, bounds_of, rows_of, RowsView, rows_view}, specs.RowStarts.part_end}
 use Rattle.yq_outline.{specs.Extents.bound_length, proofs.LengthLaws.part-length}
-use Rattle.yq_documents.specs.PartNumbers.{part_number, document_part, rows_to}
+use Rattle.yq_documents.{specs.Pieces.TextPiece, specs.PartNumbers.{part_number, document_part, rows_to}}
 use Rattle.yq_documents.{proofs.PartNumberLaws.{document_found, document_missing, end_agrees}, specs.Reading.cut_of}
 use Rattle.yq_places.{specs.PlacedRows.{before_part, placed_at, placed_document}, specs.RootReading.{if_rowless, rowless_place, rowless_at}}
-use Rattle.yq_places.{specs.Standings.NoRows, proofs.CommentPieceLaws.gap_end, proofs.PlacedPartLaws.{map_some, part_stands}}
+use Rattle.yq_places.{proofs.CommentPieceLaws.gap_end, proofs.PlacedPartLaws.{map_some, part_stands}}
 use Rattle.yq_places.{proofs.RemovalLines.{LineSeam, lies_in, seam_join}, proofs.RemovalViewLaws.line_boundary}
 
 -- ---- the sums of the code
@@ -59,7 +59,7 @@ ends_at (suc i) n (marked p marker c) b e =
 
 pub no_end : (c : Cut) (i : ℕ) → None ≡ document_part i c → None ≡ rowless_at i c
 no_end c i e =
-    sym (ap (λ (o : Option Part). option_map (λ (x : NoRows). length x.before) (option_map (λ (p : Part). placed_at (part_number i c) c) o >>= if_rowless)) (document_missing c i e))
+    sym (ap (λ (o : Option Part). option_map (λ (x : TextPiece). length x.before) (option_map (λ (p : Part). placed_at (part_number i c) c) o >>= if_rowless)) (document_missing c i e))
 
 -- where a document ends, by the bound of its part
 module _ (s : RowsView) (c : Cut) (i k first : ℕ) (b : Bound) (is : s ≡ rows_view c) (number : Some k ≡ document_part i c) (from : first ≡ rows_to k c) (bound : slice_get s.bounds k ≡ Some b) where
@@ -75,7 +75,7 @@ module _ (s : RowsView) (c : Cut) (i k first : ℕ) (b : Bound) (is : s ≡ rows
       ap (λ (o : Option Part). option_map (λ (p : Part). placed_at (part_number i c) c) o >>= if_rowless) d.1 ∙ ap (λ j. if_rowless (placed_at j c)) (sym d.2)
 
   pub written_none : (first ≡ b.rows → ⊥) → None ≡ rowless_at i c
-  written_none some = sym (ap (option_map (λ (x : NoRows). length x.before)) (placed ∙ cond-false _ _ _ (go (nth_part k c).rows refl)))
+  written_none some = sym (ap (option_map (λ (x : TextPiece). length x.before)) (placed ∙ cond-false _ _ _ (go (nth_part k c).rows refl)))
     where
       go : (rs : List Row) → (nth_part k c).rows ≡ rs → no_rows rs ≡ false
       go [] none = absurd (some (omega (arith, from, size, ap length none)))
@@ -88,16 +88,17 @@ module _ (s : RowsView) (c : Cut) (i k first : ℕ) (b : Bound) (is : s ≡ rows
       (λ j. sum_by row_length (take (size j) (is j).rows) + sum_by bound_length (take k (is j).bounds) + length b.end) ∙ ends_at k 0 c b at in
       let text : part_text (nth_part k c) [] ≡ (nth_part k c).end = ap (λ (rs : List Row). rows_text rs ((nth_part k c).end ++ [])) rows ∙ append-nil (nth_part k c).end in
       ap Some (lengths ∙ ap (λ x. length (before_part k c ++ x)) text)
-      ∙ sym (ap (option_map (λ (x : NoRows). length x.before)) (placed ∙ cond-true _ _ _ (ap no_rows rows)))
+      ∙ sym (ap (option_map (λ (x : TextPiece). length x.before)) (placed ∙ cond-true _ _ _ (ap no_rows rows)))
 
 -- ---- the place in the text
 
 -- A text in two at the place of a root that isn't written.
-record IsUnwritten (t : List ℕ) (w : NoRows) : Type 0 where
+record IsUnwritten (t : List ℕ) (w : TextPiece) : Type 0 where
   pub text : t ≡ w.before ++ w.behind
+  pub none : w.text ≡ []
   pub seam : LineSeam w.before w.behind
 
-unwritten_is : (t : List ℕ) (i : ℕ) (w : NoRows) → IsCut t (cut_of t) → rowless_place i (cut_of t) ≡ Some w → IsUnwritten t w
+unwritten_is : (t : List ℕ) (i : ℕ) (w : TextPiece) → IsCut t (cut_of t) → rowless_place i (cut_of t) ≡ Some w → IsUnwritten t w
 unwritten_is t i w cut e =
     let c : Cut = cut_of t in
     let d = bind_some (placed_document i c) e in
@@ -109,6 +110,7 @@ unwritten_is t i w cut e =
     let gap = gap_end d.0.part.end d.0.behind (subst (λ (rs : List Row). AreRows unlimited rs d.0.part.end d.0.behind) rows lies.rows) in
     subst (IsUnwritten t) (same_Some _ _ g.1) (record {
       text = cut.text ∙ (st.text ∙ (ap (λ x. d.0.before ++ x) part ∙ sym (append_assoc d.0.before d.0.part.end d.0.behind)));
+      none = refl;
       seam = seam_join d.0.before d.0.part.end d.0.behind (subst (LineSeam d.0.before) part lies.seam) gap;
     })
   where
@@ -118,15 +120,15 @@ unwritten_is t i w cut e =
 
 pub unwritten_boundary : (t : List ℕ) (i end : ℕ) → IsCut t (cut_of t) → IsUtf8 t → Some end ≡ rowless_at i (cut_of t) → IsCharBoundary t end
 unwritten_boundary t i end cut u e =
-    let w = map_some (λ (x : NoRows). length x.before) (rowless_place i (cut_of t)) end (sym e) in
+    let w = map_some (λ (x : TextPiece). length x.before) (rowless_place i (cut_of t)) end (sym e) in
     let x = unwritten_is t i w.0 cut w.1 in
     subst (λ (y : List ℕ). IsCharBoundary y end) (sym x.text) (subst (IsCharBoundary (w.0.before ++ w.0.behind)) w.2 (line_boundary w.0.before w.0.behind x.seam (subst IsUtf8 x.text u)))
 
 pub rowless_agrees : (t : List ℕ) (i end : ℕ) (before behind : List ℕ) → IsCut t (cut_of t) → Some end ≡ rowless_at i (cut_of t) → before ≡ take end t → behind ≡ drop end t →
-    Some (record { before = before; behind = behind }) ≡ rowless_place i (cut_of t)
+    Some (record { before = before; text = []; behind = behind }) ≡ rowless_place i (cut_of t)
 rowless_agrees t i end before behind cut e first second =
-    let w = map_some (λ (x : NoRows). length x.before) (rowless_place i (cut_of t)) end (sym e) in
+    let w = map_some (λ (x : TextPiece). length x.before) (rowless_place i (cut_of t)) end (sym e) in
     let x = unwritten_is t i w.0 cut w.1 in
     let a : before ≡ w.0.before = first ∙ ((λ j. take (sym w.2 j) (x.text j)) ∙ take-append_seam w.0.before w.0.behind) in
     let b : behind ≡ w.0.behind = second ∙ ((λ j. drop (sym w.2 j) (x.text j)) ∙ drop-append_seam w.0.before w.0.behind) in
-    (λ j. Some (record { before = a j; behind = b j })) ∙ sym w.1
+    (λ j. Some (record { before = a j; text = sym x.none j; behind = b j })) ∙ sym w.1

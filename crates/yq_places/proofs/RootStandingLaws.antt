@@ -1,18 +1,17 @@
 -- What is at roots, by the rows that the code has found.
-use Rattle.std.proofs.Common.{◌≡◌, ℕ, ◌+◌, ◌-◌, true, false, cond, List, [], ◌∷◌, ◌++◌, length, replicate, Option, Some, None, option_map}
-use Rattle.std.{proofs.Common.{refl, sym, ap, ◌∙◌, subst, arith, append_assoc, append-nil}, proofs.lemmas.Bool.{cond-false, cond-true}}
+use Rattle.std.proofs.Common.{◌≡◌, ℕ, ◌+◌, true, false, cond, List, [], ◌∷◌, ◌++◌, length, replicate, Option, Some, None, option_map, refl}
+use Rattle.std.{proofs.Common.{sym, ap, ◌∙◌, subst, arith, append_assoc, append-nil}, proofs.lemmas.Bool.{cond-false, cond-true}}
 use Rattle.std.{proofs.lemmas.Option.{none-some, same_Some}, specs.List.slice_get, specs.Str.{IsUtf8, IsCharBoundary}}
 use Rattle.yq_core.specs.Answers.{◌>>=◌}
-use Rattle.yq_row_table.{specs.Grammar.{IsCut, no_rows as has_none}, specs.Offsets.row_length}
+use Rattle.yq_row_table.specs.Grammar.{IsCut, no_rows as has_none}
 use Rattle.yq_row_table.specs.Rows.{Part, Row, behind_indent, print_row, rows_text, Cut, cut_text}
 use Rattle.yq_row_table.specs.View.{Slices, slices, RowsView, rows_view}
-use Rattle.yq_documents.{specs.Reading.cut_of, specs.LinesInRows.document_row}
-use Rattle.yq_places.{specs.EntryReading.{before_line, line_begin}, specs.LineReading.{CutsLines, LinesIn, lines_between, line_list}}
-use Rattle.yq_places.{specs.PlacedRows.{PlacedPart, placed_document}, specs.RootReading.{if_rowless, rowless_at, rowless_place}}
-use Rattle.yq_places.specs.RowWalk.{document_row_range}
-use Rattle.yq_places.specs.Standings.{NoRows, RowsOfEntry, alone, before_entry, behind_entry, block_root, is_alone, lone, no_rows, root}
-use Rattle.yq_places.{specs.Standings.{root_standing, standing_at}, specs.StandingReading.{IsRootOf, root_entry}}
-use Rattle.yq_places.{proofs.EntryRowLaws.{cut_in_two, first_at, pieces_at, stop_boundary, stop_is}, proofs.PlacedPartLaws.placed_is}
+use Rattle.yq_documents.{specs.LinesInRows.document_row, specs.Pieces.TextPiece, specs.Reading.cut_of}
+use Rattle.yq_places.{specs.EntryReading.{before_line, line_begin}, specs.PlacedRows.{PlacedPart, placed_document}}
+use Rattle.yq_places.{specs.RootReading.{if_rowless, rowless_at, rowless_place}, specs.RowWalk.document_row_range}
+use Rattle.yq_places.specs.Standings.{LinesIn, RowsOfEntry, alone, before_entry, behind_entry, is_alone, lone, no_rows, root, root_lines}
+use Rattle.yq_places.{specs.Standings.{root_standing, standing_at}, specs.StandingReading.{EndsRows, IsRootOf, root_entry, rows_lines}}
+use Rattle.yq_places.{proofs.EntryRowLaws.{first_at, pieces_at}, proofs.PlacedPartLaws.placed_is}
 use Rattle.yq_places.{proofs.PlacedRowLaws.{document_placed, part_of}, proofs.RowStarts.line_begins, proofs.SeamLaws.line_boundary}
 use Rattle.yq_places.proofs.WalkDocuments.{Found}
 use Rattle.yq_outline.{specs.Extents.row_start, specs.declared.line_position.Stretch.Stretch, proofs.WalkRows.rows_length}
@@ -20,23 +19,23 @@ use Rattle.yq_outline.{specs.Extents.row_start, specs.declared.line_position.Str
 -- ---- documents without rows
 
 -- the text of a document without rows
-abbrev unwritten : PlacedPart → NoRows
-unwritten d = record { before = d.before ++ d.part.end; behind = d.behind }
+abbrev unwritten : PlacedPart → TextPiece
+unwritten d = record { before = d.before ++ d.part.end; text = []; behind = d.behind }
 
 pub no_bare : (n : ℕ) (c : Cut) → None ≡ rowless_at n c → None ≡ rowless_place n c
 no_bare n c e = go (rowless_place n c) e
   where
-    go : (o : Option NoRows) → None ≡ option_map (λ (x : NoRows). length x.before) o → None ≡ o
+    go : (o : Option TextPiece) → None ≡ option_map (λ (x : TextPiece). length x.before) o → None ≡ o
     go None e = refl
     go (Some w) e = absurd (none-some _ e)
 
-pub bare_stands : (n : ℕ) (c : Cut) (w : NoRows) → Some w ≡ rowless_place n c → Some (no_rows w) ≡ standing_at n [] c
+pub bare_stands : (n : ℕ) (c : Cut) (w : TextPiece) → Some w ≡ rowless_place n c → Some (no_rows w) ≡ standing_at n [] c
 bare_stands n c w e = go (placed_document n c) e
   where
     in_rows : (d : PlacedPart) (rs : List Row) → d.part.rows ≡ rs → Some w ≡ if_rowless d → Some (no_rows w) ≡ Some (root_standing d d.part.rows)
     in_rows d [] is e =
         let same : w ≡ unwritten d = same_Some _ _ (e ∙ ap (λ (x : List Row). cond (has_none x) (Some (unwritten d)) None) is) in
-        ap (λ (x : NoRows). Some (no_rows x)) same ∙ ap (λ (x : List Row). Some (root_standing d x)) (sym is)
+        ap (λ (x : TextPiece). Some (no_rows x)) same ∙ ap (λ (x : List Row). Some (root_standing d x)) (sym is)
     in_rows d (r ∷ rs) is e = absurd (none-some _ (sym (e ∙ ap (λ (x : List Row). cond (has_none x) (Some (unwritten d)) None) is)))
 
     go : (o : Option PlacedPart) → Some w ≡ (o >>= if_rowless) → Some (no_rows w) ≡ option_map (λ (d : PlacedPart). root_standing d d.part.rows) o
@@ -98,14 +97,13 @@ module _ (t : List ℕ) (s : RowsView) (d : Stretch) (h : IsRootOf t s d) where
   pub root_alone : is_alone h.row ≡ true → alone (lone (before_entry e) h.row (rows_text h.under (behind_entry e))) ≡ root_standing h.part (h.row ∷ h.under)
   root_alone a =
       ap (λ (x : List ℕ). alone (lone x h.row (rows_text h.under (h.part.part.end ++ h.part.behind)))) (append-nil h.part.before)
-      ∙ sym (cond-true (is_alone h.row) (alone (lone h.part.before h.row (rows_text h.under (h.part.part.end ++ h.part.behind)))) (root (block_root h.part h.row h.under)) a)
+      ∙ sym (cond-true (is_alone h.row) (alone (lone h.part.before h.row (rows_text h.under (h.part.part.end ++ h.part.behind)))) (root h.row.column (root_lines h.part h.row h.under)) a)
 
-  pub root_block : is_alone h.row ≡ false → root (block_root h.part h.row h.under) ≡ root_standing h.part (h.row ∷ h.under)
-  root_block a = sym (cond-false (is_alone h.row) (alone (lone h.part.before h.row (rows_text h.under (h.part.part.end ++ h.part.behind)))) (root (block_root h.part h.row h.under)) a)
+  pub root_block : is_alone h.row ≡ false → root h.row.column (root_lines h.part h.row h.under) ≡ root_standing h.part (h.row ∷ h.under)
+  root_block a = sym (cond-false (is_alone h.row) (alone (lone h.part.before h.row (rows_text h.under (h.part.part.end ++ h.part.behind)))) (root h.row.column (root_lines h.part h.row h.under)) a)
 
-  module _ (u : IsUtf8 t) (start stop : ℕ)
-      (start_agrees : (x : Slices) → slice_get s.rows d.first ≡ Some x → start ≡ line_begin (row_start d.first s) x 0)
-      (stop_agrees : (x : Slices) → slice_get s.rows (d.end - 1) ≡ Some x → stop ≡ row_start (d.end - 1) s + row_length x) where
+  module _ (u : IsUtf8 t) (start : ℕ)
+      (start_agrees : (x : Slices) → slice_get s.rows d.first ≡ Some x → start ≡ line_begin (row_start d.first s) x 0) where
     abbrev before : List ℕ
     before = h.part.before ++ (h.row.gap ++ replicate h.row.column 32)
 
@@ -122,24 +120,23 @@ module _ (t : List ℕ) (s : RowsView) (d : Stretch) (h : IsRootOf t s d) where
         ∙ (ap (λ (x : RowsView). line_begin (row_start d.first x) (slices h.row) 0) h.is.rows_view_is
         ∙ line_begins (cut_of t) d.first 0 h.row (first_at t s e d.first d.end h.is).there (omega arith))
 
-    pub root_cut : (v : List ℕ) → v ≡ t → CutsLines v start stop
-    root_cut v is =
+    pub root_ends : EndsRows t s start d.end
+    root_ends =
         let c : Cut = cut_of t in
         let at = first_at t s e d.first d.end h.is in
-        let stops : stop ≡ length (before_entry e ++ print_row h.row (rows_text h.under [])) = stop_is t s e d.first d.end h.is stop stop_agrees in
         let front : before_line d.first 0 h.row c ≡ before =
         (λ i. (at.before_is ∙ append-nil h.part.before) i ++ (h.row.gap ++ append-nil (replicate h.row.column 32) i)) in
         record {
-          before = before;
+          entry = e;
+          row = d.first;
+          rows = h.is;
+          front = before;
           own = own;
-          behind = h.part.part.end ++ h.part.behind;
-          text = is ∙ (cut_in_two t s e d.first d.end h.is ∙ (ap (λ (x : List ℕ). x ++ (h.part.part.end ++ h.part.behind)) through ∙ append_assoc before own (h.part.part.end ++ h.part.behind)));
+          text = through;
           from_is = begins ∙ ap length front;
-          stop_is = stops ∙ ap length through;
-          starts = subst (λ (z : List ℕ). IsCharBoundary z start) (sym (is ∙ h.is.cut.text)) (subst (IsCharBoundary (cut_text c)) (sym begins) (line_boundary c d.first 0 h.row (subst IsUtf8 h.is.cut.text u) h.is.cut.parts at.there));
-          stops = subst (λ (z : List ℕ). IsCharBoundary z stop) (sym is) (subst (IsCharBoundary t) (sym stops) (stop_boundary t s e d.first d.end h.is u));
+          starts = subst (λ (z : List ℕ). IsCharBoundary z start) (sym h.is.cut.text) (subst (IsCharBoundary (cut_text c)) (sym begins) (line_boundary c d.first 0 h.row (subst IsUtf8 h.is.cut.text u) h.is.cut.parts at.there));
         }
 
-    pub root_lines : (v : List ℕ) (is : v ≡ t) (lower : LinesIn) → ((k : CutsLines v start stop) → lower ≡ line_list k) → lower ≡ lines_between before own (h.part.part.end ++ h.part.behind)
-    unfolding root_cut
-    root_lines v is lower says = says (root_cut v is)
+    pub lines_there : (lower : LinesIn) → ((k : EndsRows t s start d.end) → lower ≡ rows_lines k) → lower ≡ root_lines h.part h.row h.under
+    unfolding root_ends
+    lines_there lower says = says root_ends

@@ -8,8 +8,8 @@ use Rattle.yq_row_table.{specs.Grammar.IsMark, specs.Removal.{block_numbers, blo
 use Rattle.yq_row_table.specs.Rows.{Content, Row, dashes_text, print_row, rows_text, Cut}
 use Rattle.yq_row_table.{specs.View.{Slices, slices, colon_of, content_cut, last_dash, RowsView}, proofs.seams.SeamLaws.rows_text-append}
 use Rattle.yq_documents.specs.Reading.{cut_of}
-use Rattle.yq_places.specs.Standings.{RowsOfEntry, alone, before_entry, behind_entry, behind_mark, below, beside, block, compact}
-use Rattle.yq_places.specs.Standings.{compact_in, entry_standing, held, is_alone, lone, standing_at, under}
+use Rattle.yq_places.specs.Standings.{RowsOfEntry, alone, before_entry, behind_entry, behind_mark, below, beside, block, compact_in}
+use Rattle.yq_places.specs.Standings.{entry_standing, held, is_alone, lone, standing_at, under}
 use Rattle.yq_places.{specs.StandingReading.{AreRowsOf, IsEntryIn, numbers_at}, specs.StandingViews.{held_at, held_if_last}}
 use Rattle.yq_places.{proofs.EntryNumbers.{FoundEntry, no_entry}, proofs.LinesCutLaws.none_is, proofs.RemovalTexts.texts_then}
 use Rattle.yq_row_table.specs.Rows as rows
@@ -110,7 +110,7 @@ some_head e x h2 head is = search (rules, false≢true, cond-false)
 
 module _ (t : List ℕ) (s : RowsView) (e : RowsOfEntry) (m : declared.RowsOfEntry) (h : IsEntryIn t s e m) where
   mark_here : m.line ≡ m.dashes → behind_mark e e.row.content ≡ entry_standing e
-  mark_here same = sym (cond-true (eqb e.line (length e.row.dashes)) (behind_mark e e.row.content) (compact (compact_in e)) (eq-eqb e.line (length e.row.dashes) (sym h.line ∙ (same ∙ h.dashes))))
+  mark_here same = sym (cond-true (eqb e.line (length e.row.dashes)) (behind_mark e e.row.content) (compact_in e) (eq-eqb e.line (length e.row.dashes) (sym h.line ∙ (same ∙ h.dashes))))
 
   pub block_here : m.line ≡ m.dashes → (b : BlockText) → block_of e.row.content ≡ Some b → block (held e) b.indent.columns ≡ entry_standing e
   block_here same b is = block_mark e e.row.content b is ∙ mark_here same

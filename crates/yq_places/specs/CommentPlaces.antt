@@ -2,7 +2,7 @@
 use Rattle.std.specs.Prelude.{ℕ, ◌==◌, List, ◌++◌, Option, Some, None, if◌then◌else◌}
 use Rattle.yq_core.{specs.Answers.◌>>=◌, specs.Paths.Step, specs.Text.{ends_line, joined, text_lines, no_white, past_white}}
 use Rattle.yq_row_table.{specs.Exchange.row_front, specs.Rows.{Row, behind_gap, Cut}, specs.View.slices}
-use Rattle.yq_documents.specs.Pieces.{before_run, last_run}
+use Rattle.yq_documents.specs.Pieces.{TextPiece, before_run, last_run}
 use Rattle.yq_places.specs.PlacedRows.{PlacedRow, row_of_path}
 use Rattle.yq_core.specs.Text as text
 
@@ -27,28 +27,15 @@ text_to_line_end r = let s = slices r in row_front r ++ (s.space ++ (s.anchor ++
 abbrev pub end_of_line : PlacedRow → LineEnd
 end_of_line w = let s = slices w.row in end_in_line (w.before ++ text_to_line_end w.row) (s.tail ++ (s.raw ++ w.behind))
 
--- The lines above a row: the text before the run of comment lines that ends them, that run, which may be nothing, the row's column, and
--- the text from the row's line on (6.6; own).
-pub record LinesAbove : Type 0 where
-  pub before : List ℕ
-  pub run : List ℕ
-  pub column : ℕ
-  pub behind : List ℕ
+-- the run of comment lines, which may be nothing, that ends a gap between two texts (6.6; own)
+abbrev pub gap_above : (before gap rest : List ℕ) → TextPiece
+gap_above before gap rest = record { before = before ++ joined (before_run (text_lines gap)); text = joined (last_run (text_lines gap)); behind = rest }
 
--- the lines of a gap between two texts, above a row in a column (6.6; own)
-abbrev pub gap_above : List ℕ → List ℕ → ℕ → List ℕ → LinesAbove
-gap_above before gap column rest = record {
-  before = before ++ joined (before_run (text_lines gap));
-  run = joined (last_run (text_lines gap));
-  column = column;
-  behind = rest;
-}
+-- a row's column, and the run of comment lines above it (6.6; own)
+abbrev pub above_row : PlacedRow → ℕ × TextPiece
+above_row w = (w.row.column, gap_above w.before w.row.gap (behind_gap w.row w.behind))
 
--- the lines above a row (6.6; own)
-abbrev pub above_row : PlacedRow → LinesAbove
-above_row w = gap_above w.before w.row.gap w.row.column (behind_gap w.row w.behind)
-
--- the lines above the entry or item to which steps lead in document n, where its head comment is or would be, if its line is the
--- first one of its row (6.6; own)
-abbrev pub lines_above : ℕ → List Step → Cut → Option LinesAbove
+-- the same of the row that the entry or item begins to which steps lead in document n, where its head comment is or would be, if its line
+-- is the first one of its row (6.6; own)
+abbrev pub lines_above : ℕ → List Step → Cut → Option (ℕ × TextPiece)
 lines_above n steps c = row_of_path n steps c >>= λ w. if w.line == 0 then Some (above_row w) else None

@@ -1,5 +1,6 @@
 -- Where the first item or entry of a compact collection is in a text, and what is taken out of the text with it (YAML 1.2.2, 8.2.1; own).
-use Rattle.std.specs.Prelude.{ℕ, ◌==◌, ◌&&◌, Bool, true, List, [], ◌∷◌, length, drop, slice_get, Option, None, option_map, if◌then◌else◌}
+use Rattle.std.specs.Prelude.{ℕ, ◌==◌, ◌&&◌, Bool, true, List, [], ◌∷◌, ◌++◌, length, drop, slice_get, Option, None, option_map}
+use Rattle.std.specs.Prelude.{if◌then◌else◌}
 use Rattle.yq_core.{specs.Answers.◌>>=◌, specs.Paths.Step, specs.Text.{cut, cut_line, no_space}}
 use Rattle.yq_row_table.{specs.Rows.Cut, specs.Reading.begins_gap}
 use Rattle.yq_documents.{specs.declared.path.Part.TheVariants.Entry, specs.Documents.document_parts, specs.Pieces.TextPiece}
@@ -29,26 +30,18 @@ line_row_line n steps c = slice_get (document_parts c) n >>= λ p. row_line_of s
 abbrev pub first_entry : ℕ → List Step → Cut → Option TextPiece
 first_entry n steps c = line_row_line n steps c >>= λ s. if s.line == 0 then None else (printed_document n c >>= piece_in Entry steps)
 
--- What is taken out with the first item or entry of a compact collection, between the text before and the text after: spaces, the item or
--- entry, its break and the next one's spaces, of which all but the second may be nothing (8.2.1; own).
-pub record FirstOut : Type 0 where
-  pub before : List ℕ
-  pub space : List ℕ
-  pub entry : List ℕ
-  pub break : List ℕ
-  pub indent : List ℕ
-  pub behind : List ℕ
+-- a piece between two texts (own)
+abbrev pub piece_between : (before text behind : List ℕ) → TextPiece
+piece_between before text behind = record { before = before; text = text; behind = behind }
 
 -- what is taken out with such an item or entry: where a gap is after its last line, what comes after the dash up to the end of that line,
 -- before its break; else all up to the next one (8.2.1; own)
-abbrev pub first_out : TextPiece → FirstOut
+abbrev pub first_out : TextPiece → TextPiece
 first_out p =
     let line = cut_line p.behind in
     let next = cut no_space line.1 in
-    if begins_gap line.1
-    then record { before = less_spaces p.before; space = end_spaces p.before; entry = p.text; break = []; indent = []; behind = p.behind }
-    else record { before = p.before; space = []; entry = p.text; break = line.0; indent = next.0; behind = next.1 }
+    if begins_gap line.1 then piece_between (less_spaces p.before) (end_spaces p.before ++ p.text) p.behind else piece_between p.before (p.text ++ (line.0 ++ next.0)) next.1
 
 -- what is taken out with the item or entry to which steps lead in document n, if it is the first one of a compact collection (8.2.1; own)
-abbrev pub first_removal : ℕ → List Step → Cut → Option FirstOut
+abbrev pub first_removal : ℕ → List Step → Cut → Option TextPiece
 first_removal n steps c = option_map first_out (first_entry n steps c)

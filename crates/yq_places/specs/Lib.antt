@@ -29,7 +29,6 @@ pub mod PieceLaws
 pub mod Existence
 pub mod RemovalPlaces
 pub mod FirstPlaces
-pub mod FirstViews
 pub mod RemovalReading
 pub mod CollectionEnds
 pub mod Steps
@@ -39,7 +38,6 @@ pub mod RowPieces
 pub mod RootReading
 pub mod RowWalk
 pub mod CommentPlaces
-pub mod CommentViews
 pub mod FirstBreak
 pub mod FlowNodes
 pub mod NodesAt

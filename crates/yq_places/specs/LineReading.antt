@@ -1,26 +1,12 @@
--- Reading (own; a reader may skip it): lines cut out of a text, as the code cuts them.
-use Rattle.std.{specs.Prelude.{◌≡◌, ◌⊎◌, ℕ, Bool, List, [], ◌∷◌, ◌++◌, length}, specs.Str.IsCharBoundary}
-use Rattle.yq_text.specs.Halves.{whole}
-use Rattle.yq_core.specs.Text.{is_empty}
-use Rattle.yq_places.{specs.CommentPlaces.LineEnd, specs.PrintedLines.{last_break, less_break}}
-use Rattle.yq_places.specs.declared.places.lines_cut.LinesCut as declared_lines
-use Rattle.yq_places.specs.declared.places.lines_cut.TailCut as declared_tail
+-- Reading (own; a reader may skip it): lines and gaps in a text, as the code cuts them.
+use Rattle.std.{specs.Prelude.{◌≡◌, ◌⊎◌, ℕ, ◌+◌, ◌-◌, List, [], ◌∷◌, ◌++◌, length, drop, take}, specs.Str.{IsCharBoundary, IsUtf8}}
+use Rattle.yq_text.{specs.Halves.whole, specs.declared.halves.Halves.Halves}
+use Rattle.yq_documents.specs.Pieces.{TextPiece}
+use Rattle.yq_places.{specs.FirstPlaces.{first_out, piece_between}, specs.Standings.{LinesIn, lines_between}}
 
 -- LF, CR LF or nothing (5.4).
 abbrev pub IsLastBreak : List ℕ → Type 0
 IsLastBreak t = (t ≡ []) ⊎ ((t ≡ 10 ∷ []) ⊎ (t ≡ 13 ∷ (10 ∷ [])))
-
--- Lines of a text: what is before them, whether there are none, they less their last break, that break, and what is after.
-pub record LinesIn : Type 0 where
-  pub before : List ℕ
-  pub none : Bool
-  pub lines : List ℕ
-  pub last : List ℕ
-  pub behind : List ℕ
-
--- lines between two texts
-abbrev pub lines_between : List ℕ → List ℕ → List ℕ → LinesIn
-lines_between before own behind = record { before = before; none = is_empty own; lines = less_break own; last = last_break own; behind = behind }
 
 -- Lines are in a text from a place on up to another one, in bytes.
 pub record CutsLines (t : List ℕ) (from stop : ℕ) : Type 0 where
@@ -37,10 +23,28 @@ pub record CutsLines (t : List ℕ) (from stop : ℕ) : Type 0 where
 abbrev pub line_list : {t : List ℕ} {from stop : ℕ} → CutsLines t from stop → LinesIn
 line_list h = lines_between h.before h.own h.behind
 
--- lines that the code lends
-abbrev pub lines_view : declared_lines.LinesCut → LinesIn
-lines_view x = record { before = whole x.before; none = x.none; lines = whole x.lines; last = x.last.now; behind = whole x.behind }
+-- A gap is in a text from a place on, in bytes, up to a whole character.
+pub record GapStands (t : List ℕ) (start : ℕ) (gap : List ℕ) : Type 0 where
+  pub before : List ℕ
+  pub rest : List ℕ
+  pub text : t ≡ before ++ (gap ++ rest)
+  pub start_is : start ≡ length before
+  pub end : IsCharBoundary t (start + length gap)
 
--- the end of a line that the code lends
-abbrev pub tail_view : declared_tail.TailCut → LineEnd
-tail_view x = record { before = []; white = x.white.now; comment = x.comment.now; behind = x.line_break.now }
+-- the piece of a text from a place on up to another one, in bytes
+abbrev pub piece_at : (start end : ℕ) → List ℕ → TextPiece
+piece_at start end t = piece_between (take start t) (take (end - start) (drop start t)) (drop (end - start) (drop start t))
+
+-- Whole characters are in a text between two others.
+pub record LiesBetween (t before behind : List ℕ) : Type 0 where
+  pub own : List ℕ
+  pub text : t ≡ before ++ (own ++ behind)
+  pub utf8 : IsUtf8 own
+
+-- This is what is between two texts in another one, each of which is in two halves.
+abbrev pub CutsBetween : (t before behind : Halves) → TextPiece → Type 0
+CutsBetween t before behind p = (h : LiesBetween (whole t) (whole before) (whole behind)) → p ≡ piece_between (whole before) h.own (whole behind)
+
+-- what is taken out with the first item or entry of a compact collection, by where that begins and ends
+abbrev pub first_out_at : (start end : ℕ) → List ℕ → TextPiece
+first_out_at start end t = first_out (piece_at start end t)

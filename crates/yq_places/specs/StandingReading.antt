@@ -1,9 +1,11 @@
 -- Reading (own; a reader may skip it): the rows of items and entries, as the code counts them.
+use Rattle.std.specs.Str.{IsCharBoundary}
 use Rattle.std.specs.Prelude.{◌≡◌, ℕ, suc, ◌+◌, ◌≤◌, List, [], ◌∷◌, ◌++◌, length, drop, slice_get, Option, Some, option_map}
 use Rattle.yq_core.{specs.Answers.◌>>=◌, specs.Paths.Step}
-use Rattle.yq_row_table.{specs.Grammar.IsCut, specs.Rows.{Row, Cut}, specs.View.{RowsView, rows_view}}
+use Rattle.yq_row_table.{specs.Grammar.IsCut, specs.Rows.{Row, Cut, print_row, rows_text}, specs.View.{RowsView, rows_view}}
 use Rattle.yq_documents.{specs.Documents.document_parts, specs.Reading.cut_of, specs.LinesInRows.{RowLine, document_row, row_line_of}}
-use Rattle.yq_places.{specs.PlacedRows.{PlacedPart, placed_document}, specs.Standings.{RowsOfEntry, under_count}}
+use Rattle.yq_places.specs.PlacedRows.{PlacedPart, placed_document}
+use Rattle.yq_places.specs.Standings.{LinesIn, RowsOfEntry, before_entry, behind_entry, lines_between, under_count}
 use Rattle.yq_outline.specs.declared.line_position.Stretch.{Stretch}
 use Rattle.yq_places.specs.declared.places.rows_of_entry.RowsOfEntry as declared
 
@@ -55,6 +57,21 @@ pub record BeginsRows (t : List ℕ) (s : RowsView) (row : ℕ) : Type 0 where
   pub entry : RowsOfEntry
   pub end : ℕ
   pub is : AreRowsOf t s entry row end
+
+-- From a place on is the end of the rows of an item or entry, up to row number `end`, which isn't one of them.
+pub record EndsRows (t : List ℕ) (s : RowsView) (from end : ℕ) : Type 0 where
+  pub entry : RowsOfEntry
+  pub row : ℕ
+  pub rows : AreRowsOf t s entry row end
+  pub front : List ℕ
+  pub own : List ℕ
+  pub text : before_entry entry ++ print_row entry.row (rows_text entry.under []) ≡ front ++ own
+  pub from_is : from ≡ length front
+  pub starts : IsCharBoundary t from
+
+-- these lines
+abbrev pub rows_lines : {t : List ℕ} {s : RowsView} {from end : ℕ} → EndsRows t s from end → LinesIn
+rows_lines h = lines_between h.front h.own (behind_entry h.entry)
 
 -- all rows of a document, as those of an item or entry
 abbrev pub root_entry : PlacedPart → Row → List Row → RowsOfEntry

@@ -1,19 +1,18 @@
 -- What the code tells of what is at a place (own).
 use Rattle.std.specs.Prelude.{◌≡◌, ℕ, ◌+◌, ◌==◌, ◌&&◌, not, true, false, List, length, Option, Some, None, if◌then◌else◌}
-use Rattle.yq_text.specs.Halves.{whole}
+use Rattle.yq_text.{specs.Halves.whole, specs.declared.halves.Halves.Halves}
+use Rattle.yq_places.specs.FirstPlaces.{piece_between}
+use Rattle.yq_places.specs.Standings.{MarkPieces, Held, LinesIn, Standing, RowsOfEntry, alone, beside, under, compact, block, root, no_rows}
+use Rattle.yq_places.specs.Standings.{held, rows_of_entry}
 use Rattle.yq_core.{specs.Answers.◌>>=◌, specs.Paths.Step, specs.Text.is_empty}
 use Rattle.yq_row_table.{specs.Rows.{Cut, Row}, specs.Seams.is_block, specs.View.slices}
-use Rattle.yq_documents.{specs.LinesInRows.document_row, specs.RowReading.is_block_head}
+use Rattle.yq_documents.{specs.LinesInRows.document_row, specs.Pieces.TextPiece, specs.RowReading.is_block_head}
 use Rattle.yq_outline.{specs.Extents.{head_place, lines_before_mark}, specs.declared.line_position.Position.Position}
-use Rattle.yq_places.specs.Standings.{MarkPieces, Held, Lone, Compact, BlockRoot, NoRows, Standing, RowsOfEntry, alone, beside, under}
-use Rattle.yq_places.specs.Standings.{compact, block, root, no_rows, held, rows_of_entry}
 use Rattle.yq_places.specs.declared.places.held.Held as declared_held
 use Rattle.yq_places.specs.declared.places.held_row.HeldRow as declared_row
 use Rattle.yq_places.specs.declared.places.held.EntryMark as declared_mark
-use Rattle.yq_places.specs.declared.places.standing.BlockRoot as declared_root
-use Rattle.yq_places.specs.declared.places.standing.Compact as declared_compact
-use Rattle.yq_places.specs.declared.places.standing.Lone as declared_lone
-use Rattle.yq_places.specs.declared.places.standing.NoRows as declared_no_rows
+use Rattle.yq_places.specs.declared.places.piece.TextPiece as declared_piece
+use Rattle.yq_places.specs.declared.places.lines_cut.LinesIn as declared_lines
 use Rattle.yq_places.specs.declared.places.standing.Standing as declared
 
 -- a key or dash that the code lends
@@ -35,31 +34,27 @@ held_view h = record {
   behind = whole h.behind;
 }
 
--- a lone node that the code lends
-abbrev pub lone_view : declared_lone.Lone → Lone
-lone_view w = record { before = whole w.before; head = w.head.now; behind = whole w.behind }
+-- a piece that the code lends
+abbrev pub piece_view : declared_piece.TextPiece → TextPiece
+piece_view w = record { before = whole w.before; text = w.text.now; behind = whole w.behind }
 
--- a collection after a dash that the code lends
-abbrev pub compact_view : declared_compact.Compact → Compact
-compact_view p = record { mark = held_mark_view p.mark; column = p.column; before = whole p.before; old = whole p.old; last = p.last.now; behind = whole p.behind }
+-- a piece between two texts that the code lends, each in two halves
+abbrev pub pieces_view : (before text behind : Halves) → TextPiece
+pieces_view before text behind = piece_between (whole before) (whole text) (whole behind)
 
--- a root that the code lends
-abbrev pub root_view : declared_root.BlockRoot → BlockRoot
-root_view w = record { column = w.column; before = whole w.before; old = whole w.old; last = w.last.now; behind = whole w.behind }
-
--- a document without rows that the code lends
-abbrev pub no_rows_view : declared_no_rows.NoRows → NoRows
-no_rows_view w = record { before = whole w.before; behind = whole w.behind }
+-- lines that the code lends
+abbrev pub lines_view : declared_lines.LinesIn → LinesIn
+lines_view x = record { before = whole x.before; lines = whole x.lines; last = x.last.now; behind = whole x.behind }
 
 -- what is at a place, as the code lends it
 abbrev pub standing_view : declared.Standing → Standing
-standing_view (declared.TheVariants.Alone w) = alone (lone_view w)
+standing_view (declared.TheVariants.Alone w) = alone (piece_view w)
 standing_view (declared.TheVariants.Beside h) = beside (held_view h)
 standing_view (declared.TheVariants.Under h column) = under (held_view h) column
-standing_view (declared.TheVariants.Compact p) = compact (compact_view p)
+standing_view (declared.TheVariants.Compact m column w) = compact (held_mark_view m) column (lines_view w)
 standing_view (declared.TheVariants.Block h indent) = block (held_view h) indent
-standing_view (declared.TheVariants.Root w) = root (root_view w)
-standing_view (declared.TheVariants.NoRows w) = no_rows (no_rows_view w)
+standing_view (declared.TheVariants.Root column w) = root column (lines_view w)
+standing_view (declared.TheVariants.NoRows w) = no_rows (piece_view w)
 
 -- what the key or dash of rows holds, if its line is the last one of its row
 abbrev pub held_if_last : RowsOfEntry → Option Held

@@ -7,7 +7,7 @@ use Rattle.yq_outline.{specs.Positions.has_no_mark, specs.Lines.line_mark, specs
 use Rattle.yq_row_table.specs.Exchange.{row_front}
 use Rattle.yq_row_table.specs.Rows.{Content, Nothing, Inline, Block, Cut, Row, behind_columns, behind_dashes, behind_indent, mark_column}
 use Rattle.yq_row_table.{specs.Rows.{print_row, rows_text}, specs.View.{Slices, slices}}
-use Rattle.yq_documents.specs.LinesInRows.{RowLine, row_line_of}
+use Rattle.yq_documents.{specs.LinesInRows.{RowLine, row_line_of}, specs.Pieces.TextPiece}
 use Rattle.yq_places.{specs.CommentPlaces.{LineEnd, end_in_line}, specs.FlowNodes.flow_collection}
 use Rattle.yq_places.{specs.PlacedRows.{PlacedPart, placed_document}, specs.PrintedLines.{last_break, less_break}}
 use Rattle.yq_places.specs.RowPieces.{anchor_before, past_dash, space_before, upto_dash}
@@ -86,47 +86,29 @@ pub record Held : Type 0 where
   pub last : List ℕ
   pub behind : List ℕ
 
--- A node that is alone on its line, under a key or dash or as a root: the text before it, with its anchor; the node without that, which is
--- never nothing; and the text after (7, 8.2).
-pub record Lone : Type 0 where
+-- Lines of a text less their last break: the text before them, they, that break, and the text after (5.4, 8.2).
+pub record LinesIn : Type 0 where
   pub before : List ℕ
-  pub head : List ℕ
-  pub behind : List ℕ
-
--- A collection that begins on the line of a dash: the dash; the column of its items or entries; the text up to the dash, with it; what is
--- after it up to the end of the last line; the break of that; and the text after (8.2.1).
-pub record Compact : Type 0 where
-  pub mark : MarkPieces
-  pub column : ℕ
-  pub before : List ℕ
-  pub old : List ℕ
+  pub lines : List ℕ
   pub last : List ℕ
   pub behind : List ℕ
 
--- A block collection that is a root: its column; the text before it; its own, up to the last break; that break; and the text after (8.2, 9.1).
-pub record BlockRoot : Type 0 where
-  pub column : ℕ
-  pub before : List ℕ
-  pub old : List ℕ
-  pub last : List ℕ
-  pub behind : List ℕ
+-- lines between two texts
+abbrev pub lines_between : (before own behind : List ℕ) → LinesIn
+lines_between before own behind = record { before = before; lines = less_break own; last = last_break own; behind = behind }
 
--- A document without rows: the text up to the end of its gap, and the text after (7.2, 9.1).
-pub record NoRows : Type 0 where
-  pub before : List ℕ
-  pub behind : List ℕ
-
--- What is outside flow collections: a node alone on its line; one after a key or dash on its line, or nothing; a block collection on the
--- lines under a key or dash, by its column; one that begins on the line of its dash; a block scalar, by its text's indentation in columns; a
--- root that is a block collection; or no rows.
+-- What is outside flow collections: a node alone on its line, without its anchor, which is never nothing; a node after a key or dash on its
+-- line, or nothing; a block collection on the lines under a key or dash, by its column; one that begins on the line of its dash, by that,
+-- its column, and the lines from after the dash on; a block scalar, by its text's indentation in columns; a root that is a block collection,
+-- by its column; or a document without rows, with nothing after its gap (7, 8.2, 9.1).
 pub data Standing : Type 0 where
-  alone : Lone → Standing
+  alone : TextPiece → Standing
   beside : Held → Standing
   under : Held → (column : ℕ) → Standing
-  compact : Compact → Standing
+  compact : MarkPieces → (column : ℕ) → LinesIn → Standing
   block : Held → (indent : ℕ) → Standing
-  root : BlockRoot → Standing
-  no_rows : NoRows → Standing
+  root : (column : ℕ) → LinesIn → Standing
+  no_rows : TextPiece → Standing
 
 -- ---- by rows
 
@@ -154,9 +136,9 @@ abbrev pub held : RowsOfEntry → Held
 held e = let s = slices e.row in held_by e s (end_in_line [] s.tail) (s.raw ++ rows_text e.under [])
 
 -- the node in a row that is alone on its line, between two texts
-abbrev pub lone : List ℕ → Row → List ℕ → Lone
+abbrev pub lone : List ℕ → Row → List ℕ → TextPiece
 lone before r behind =
-    let s = slices r in record { before = before ++ (row_front r ++ (s.space ++ (s.anchor ++ s.apart))); head = s.head; behind = s.tail ++ behind }
+    let s = slices r in record { before = before ++ (row_front r ++ (s.space ++ (s.anchor ++ s.apart))); text = s.head; behind = s.tail ++ behind }
 
 -- whether a row is a node that is alone on its line (8.2)
 abbrev pub is_alone : Row → Bool
@@ -178,41 +160,34 @@ behind_mark e (Block space anchor b) = block (held e) b.indent.columns
 abbrev pub dash_text : RowsOfEntry → List ℕ
 dash_text e = past_dash (drop e.line e.row.dashes) (behind_dashes e.row (rows_text e.under []))
 
--- the collection that begins on the line of a dash (8.2.1)
-abbrev pub compact_in : RowsOfEntry → Compact
-compact_in e = record {
-  mark = record {
-    column = behind_columns e.row.column (take e.line e.row.dashes);
-    keyed = false;
-    noted = (mark_in e.row (slices e.row) (end_in_line [] (slices e.row).tail)).noted;
-  };
-  column = behind_columns e.row.column (take (suc e.line) e.row.dashes);
-  before = before_entry e ++ row_front (upto_dash e.line e.row);
-  old = less_break (dash_text e);
-  last = last_break (dash_text e);
-  behind = behind_entry e;
+-- the dash of a line that is not the last one of its row (8.2.1)
+abbrev pub compact_mark : RowsOfEntry → MarkPieces
+compact_mark e = record {
+  column = behind_columns e.row.column (take e.line e.row.dashes);
+  keyed = false;
+  noted = (mark_in e.row (slices e.row) (end_in_line [] (slices e.row).tail)).noted;
 }
+
+-- the lines from after that dash on
+abbrev pub compact_lines : RowsOfEntry → LinesIn
+compact_lines e = lines_between (before_entry e ++ row_front (upto_dash e.line e.row)) (dash_text e) (behind_entry e)
+
+-- the collection that begins on the line of that dash (8.2.1)
+abbrev pub compact_in : RowsOfEntry → Standing
+compact_in e = compact (compact_mark e) (behind_columns e.row.column (take (suc e.line) e.row.dashes)) (compact_lines e)
 
 -- what is at an item or entry, by its rows: a line that is not the last one of its row is that of a dash with a compact collection (8.2.1)
 abbrev pub entry_standing : RowsOfEntry → Standing
-entry_standing e = if e.line == length e.row.dashes then behind_mark e e.row.content else compact (compact_in e)
+entry_standing e = if e.line == length e.row.dashes then behind_mark e e.row.content else compact_in e
 
--- a root that is a block collection, by the rows of its document
-abbrev pub block_root : PlacedPart → Row → List Row → BlockRoot
-block_root d r rs =
-    let t = behind_indent r (rows_text rs []) in
-    record {
-      column = r.column;
-      before = d.before ++ (r.gap ++ replicate r.column 32);
-      old = less_break t;
-      last = last_break t;
-      behind = d.part.end ++ d.behind;
-    }
+-- the lines of a root that is a block collection, by the rows of its document
+abbrev pub root_lines : PlacedPart → Row → List Row → LinesIn
+root_lines d r rs = lines_between (d.before ++ (r.gap ++ replicate r.column 32)) (behind_indent r (rows_text rs [])) (d.part.end ++ d.behind)
 
 -- what is at the root of a document, by its rows (9.1)
 abbrev pub root_standing : PlacedPart → List Row → Standing
-root_standing d [] = no_rows (record { before = d.before ++ d.part.end; behind = d.behind })
-root_standing d (r ∷ rs) = if is_alone r then alone (lone d.before r (rows_text rs (d.part.end ++ d.behind))) else root (block_root d r rs)
+root_standing d [] = no_rows (record { before = d.before ++ d.part.end; text = []; behind = d.behind })
+root_standing d (r ∷ rs) = if is_alone r then alone (lone d.before r (rows_text rs (d.part.end ++ d.behind))) else root r.column (root_lines d r rs)
 
 -- what is in document n where steps lead, outside flow collections
 abbrev pub standing_at : ℕ → List Step → Cut → Option Standing

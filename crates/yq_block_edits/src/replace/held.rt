@@ -1,18 +1,17 @@
 //! A value in the place of what a key or dash holds, or of a compact collection.
-ghost use Rattle.std.specs.Prelude.{◌≡◌, ℕ, List, false, IfOk, string_bytes};
+ghost use Rattle.std.specs.Prelude.{◌≡◌, ℕ, List, false};
 ghost use Rattle.yq_core.specs.Values.{value_node};
-ghost use Rattle.yq_places.specs.StandingViews.{compact_view};
 ghost use Rattle.yq_edit_rules.{specs.BlockReading.is_filled as filled, specs.declared.layout.Layout.Layout as LayoutOf};
 ghost use Rattle.yq_block_edits.specs.SegmentsPut.{IsExchange, text_held, value_compact, value_over, value_below, filled_held};
-ghost use Rattle.yq_edit_rules.specs.ReplaceEdits as spec;
 
 use crate::apart;
+use crate::pieces::replace_lines;
 use std::alloc::{AllocError, Global};
 use yq_core::{Place, Value};
 use yq_edit_rules::{
     Layout, behind_space, break_and_lines, compact_text, is_filled, takes_compact, value_text,
 };
-use yq_places::{Compact, Held};
+use yq_places::{EntryMark, Held, LinesIn};
 use yq_text::{Halves, Segment, Segments};
 
 /// A text on one line in the place of the head; lines below go.
@@ -122,40 +121,23 @@ pub(crate) fn under_put<'t>(
     put_inline(alloc, held, text)
 }
 
-/// A text in the place of a compact collection.
-fn put_behind<'t>(
-    alloc: Global,
-    compact: &Compact<'t>,
-    text: String,
-) -> Result<Segments<'t>, AllocError>
-    ensures { IfOk result (λ ss. ss ≡
-        spec.put_compact (compact_view compact.now) (string_bytes text)) }
-{
-    let segments = vec![in alloc;
-        Segment::Keep(compact.before),
-        Segment::Put(compact.old, text),
-        Segment::Keep(Halves::of(compact.last)),
-        Segment::Keep(compact.behind),
-    ]?;
-    Ok(Segments::new(segments))
-}
-
-/// A value after a dash, in the place of a compact collection.
+/// A value after a dash, in the place of the lines of a compact collection.
 pub(crate) fn compact_put<'t>(
     alloc: Global,
     layout: &Layout,
-    compact: &Compact<'t>,
+    mark: EntryMark,
+    compact: &LinesIn<'t>,
     value: &Value,
 ) -> Result<Segments<'t>, AllocError>
-    ensures { IsExchange result (value_compact layout.now compact.now value.now) }
+    ensures { IsExchange result (value_compact layout.now mark compact.now value.now) }
 {
     let text = if !is_filled(value) {
         let text = value_text(alloc, Place::Block, b"", value)?;
         behind_space(alloc, &text)?
-    } else if takes_compact(compact.mark) {
-        compact_text(alloc, layout, compact.mark, value)?
+    } else if takes_compact(mark) {
+        compact_text(alloc, layout, mark, value)?
     } else {
-        break_and_lines(alloc, layout, compact.mark, value)?
+        break_and_lines(alloc, layout, mark, value)?
     };
-    put_behind(alloc, compact, text)
+    replace_lines(alloc, compact, text)
 }

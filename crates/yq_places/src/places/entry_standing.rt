@@ -8,10 +8,11 @@ ghost use Rattle.yq_places.specs.StandingViews as row_agrees;
 
 use crate::places::halves::is_text;
 use crate::places::held::{held_in, mark_of};
-use crate::places::lines_cut::{cut_lines, cut_tail};
-use crate::places::row_place::{line_start, row_stop};
+use crate::places::lines_cut::{line_end, lines_from};
+use crate::places::piece::TextPiece;
+use crate::places::row_place::line_start;
 use crate::places::rows_of_entry::RowsOfEntry;
-use crate::places::standing::{Compact, Lone, Standing};
+use crate::places::standing::Standing;
 use yq_outline::Position;
 use yq_row_table::{Row, Rows};
 use yq_row_walk::{head_place, line_column};
@@ -26,11 +27,11 @@ pub fn is_alone(row: &Row<'_>) -> bool
 }
 
 /// The node in row `i`, which is alone on its line.
-pub fn lone_in<'t>(rows: &Rows<'t>, text: Halves<'t>, i: usize) -> Lone<'t>
+pub fn lone_in<'t>(rows: &Rows<'t>, text: Halves<'t>, i: usize) -> TextPiece<'t>
     requires { BeginsRows (whole text) rows.now i }
     ensures { (e : spec.RowsOfEntry) (end : ℕ) → AreRowsOf (whole text.entry) rows.now e i end →
         spec.is_alone e.row ≡ true →
-        row_agrees.lone_view result ≡ spec.lone (spec.before_entry e) e.row
+        row_agrees.piece_view result ≡ spec.lone (spec.before_entry e) e.row
         (rows_text e.under (spec.behind_entry e)) }
 {
     let row = rows.row(i);
@@ -38,19 +39,19 @@ pub fn lone_in<'t>(rows: &Rows<'t>, text: Halves<'t>, i: usize) -> Lone<'t>
     let (start, end) = head_place(rows, i);
     let (front, behind) = text.split_at(end);
     let (before, _) = front.split_at(start);
-    Lone {
+    TextPiece {
         before,
-        head,
+        text: head,
         behind,
     }
 }
 
 /// The collection that begins on the line of a dash.
-fn compact_in<'t>(rows: &Rows<'t>, text: Halves<'t>, at: RowsOfEntry) -> Compact<'t>
+fn compact_in<'t>(rows: &Rows<'t>, text: Halves<'t>, at: RowsOfEntry) -> Standing<'t>
     requires entry { HasEntry (whole text) rows.now at }
     requires dash { at.line < at.dashes }
     ensures { (e : spec.RowsOfEntry) → IsEntryIn (whole text.entry) rows.now e at →
-        row_agrees.compact_view result ≡ spec.compact_in e }
+        row_agrees.standing_view result ≡ spec.compact_in e }
 {
     is_text(text);
     let row = rows.row(at.row);
@@ -58,17 +59,10 @@ fn compact_in<'t>(rows: &Rows<'t>, text: Halves<'t>, at: RowsOfEntry) -> Compact
         row: at.row,
         line: at.line,
     };
-    let stop = row_stop(rows, at.end - 1);
-    let lower = cut_lines(text, line_start(rows, position) + 1, stop);
-    let tail = cut_tail(&row);
-    Compact {
-        mark: mark_of(&row, at.line, false, tail.comment),
-        column: line_column(&row, at.line + 1),
-        before: lower.before,
-        old: lower.lines,
-        last: lower.last,
-        behind: lower.behind,
-    }
+    let lower = lines_from(rows, text, line_start(rows, position) + 1, at.end);
+    let (_, comment, _) = line_end(row.tail());
+    let mark = mark_of(&row, at.line, false, comment);
+    Standing::Compact(mark, line_column(&row, at.line + 1), lower)
 }
 
 /// What comes after a key or dash after which no node is written on its line.
@@ -95,7 +89,7 @@ pub fn entry_standing<'t>(rows: &Rows<'t>, text: Halves<'t>, at: RowsOfEntry) ->
         row_agrees.standing_view result ≡ spec.entry_standing e }
 {
     if at.line != at.dashes {
-        return Standing::Compact(compact_in(rows, text, at));
+        return compact_in(rows, text, at);
     }
     match rows.block(at.row) {
         Some((_, indent)) => Standing::Block(held_in(rows, text, at), indent),

@@ -1,54 +1,34 @@
 //! What is taken out of a text with the first item or entry of a compact collection.
-ghost use Rattle.std.specs.Prelude.{◌≡◌};
+ghost use Rattle.std.{specs.Prelude.{◌≡◌, ◌≤◌, ◌-◌, drop}, specs.Str.IsCharBoundary};
 ghost use Rattle.yq_text.specs.Halves.{whole};
-ghost use Rattle.yq_places.specs.FirstViews.{first_view, piece_between};
-ghost use Rattle.yq_places.specs.FirstPlaces as spec;
+ghost use Rattle.yq_places.{specs.LineReading.first_out_at, specs.StandingViews.pieces_view};
 
-use crate::places::halves::{begins_gap, split_end_spaces, split_line, split_spaces};
+use crate::places::halves::{begins_gap, is_text, split_end_spaces, split_line, split_spaces};
+use crate::places::written::{cut_at, cut_between};
 use yq_text::Halves;
 
-/// What is taken out of a text with the first item or entry of a compact collection.
-#[derive(Clone, Copy)]
-pub struct FirstRemoval<'d> {
-    /// The text before what goes.
-    pub before: Halves<'d>,
-    /// The spaces after the dash, if they go.
-    pub space: Halves<'d>,
-    /// The item or entry, which goes.
-    pub entry: Halves<'d>,
-    /// The break after it, if that goes.
-    pub line: Halves<'d>,
-    /// The spaces before the next one, if they go.
-    pub indent: Halves<'d>,
-    /// The text after what goes.
-    pub behind: Halves<'d>,
-}
-
-/// What is taken out with an item or entry between two texts.
-pub fn first_out<'d>(before: Halves<'d>, own: Halves<'d>, behind: Halves<'d>) -> FirstRemoval<'d>
-    ensures { first_view result ≡
-        spec.first_out (piece_between
-        (whole before.entry) (whole own.entry) (whole behind.entry)) }
+/// The text before what is taken out with an item or entry, that, and the text after it, by where the item
+/// or entry begins and ends.
+pub fn first_out<'t>(
+    text: Halves<'t>,
+    start: usize,
+    end: usize,
+) -> (Halves<'t>, Halves<'t>, Halves<'t>)
+    requires order { start ≤ end }
+    requires start { IsCharBoundary (whole text) start }
+    requires end { IsCharBoundary (drop start (whole text)) (end - start) }
+    ensures { pieces_view result.0 result.1 result.2 ≡ first_out_at start end (whole text.entry) }
 {
+    let (before, own, behind) = cut_at(text, start, end);
+    is_text(own);
     let (line, next) = split_line(behind);
     if begins_gap(next) {
-        let (before, space) = split_end_spaces(before);
-        return FirstRemoval {
-            before,
-            space,
-            entry: own,
-            line: Halves::of(""),
-            indent: Halves::of(""),
-            behind,
-        };
+        let (before, spaces) = split_end_spaces(before);
+        is_text(spaces);
+        return cut_between(text, before, behind);
     }
-    let (indent, behind) = split_spaces(next);
-    FirstRemoval {
-        before,
-        space: Halves::of(""),
-        entry: own,
-        line,
-        indent,
-        behind,
-    }
+    let (indent, rest) = split_spaces(next);
+    is_text(line);
+    is_text(indent);
+    cut_between(text, before, rest)
 }

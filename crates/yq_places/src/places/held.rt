@@ -10,8 +10,7 @@ ghost use Rattle.yq_places.specs.Standings as spec;
 ghost use Rattle.yq_places.specs.StandingViews as row_agrees;
 
 use crate::places::halves::is_text;
-use crate::places::lines_cut::{cut_lines, cut_tail, either};
-use crate::places::row_place::row_stop;
+use crate::places::lines_cut::{either, line_end, lines_from};
 use crate::places::rows_of_entry::RowsOfEntry;
 use yq_row_table::{Row, Rows};
 use yq_row_walk::{head_place, line_column};
@@ -96,22 +95,22 @@ pub fn held_in<'t>(rows: &Rows<'t>, text: Halves<'t>, at: RowsOfEntry) -> Held<'
     is_text(text);
     let row = rows.row(at.row);
     let (_, end) = head_place(rows, at.row);
-    let stop = row_stop(rows, at.end - 1);
-    let lower = cut_lines(text, end + row.tail().len(), stop);
+    let lower = lines_from(rows, text, end + row.tail().len(), at.end);
+    let none = lower.is_empty();
     let space = space_before(&row);
     let head = row.head();
     let (before, _) = lower.before.split_at(end - (space.len() + head.len()));
-    let tail = cut_tail(&row);
+    let (white, comment, line_break) = line_end(row.tail());
     Held {
-        mark: mark_of(&row, at.dashes, has_key(&row), tail.comment),
+        mark: mark_of(&row, at.dashes, has_key(&row), comment),
         before,
         space,
         head,
-        white: tail.white,
-        comment: tail.comment,
-        line_break: either(lower.none, "", tail.line_break),
+        white,
+        comment,
+        line_break: either(none, "", line_break),
         lines: lower.lines,
-        last: either(lower.none, tail.line_break, lower.last),
+        last: either(none, line_break, lower.last),
         behind: lower.behind,
     }
 }

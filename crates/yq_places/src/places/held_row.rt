@@ -1,14 +1,11 @@
 //! Keys and dashes whose line is the last one of its row, with that row and what it holds after them.
-ghost use Rattle.std.specs.Prelude.{[], ◌≡◌, ◌<◌, ◌&&◌, length, not, slice_get, IfSome, Some};
+ghost use Rattle.std.specs.Prelude.{◌≡◌, ◌<◌, ◌&&◌, length, not, slice_get, IfSome, Some};
 ghost use Rattle.yq_core.specs.Text.{is_empty};
 ghost use Rattle.yq_row_table.{specs.Rows.{Cut, Row as RowOf}, specs.View.{rows_of, rows_view}};
 ghost use Rattle.yq_documents.specs.RowReading.{is_block_head};
 ghost use Rattle.yq_outline.specs.Extents.{IsRowsView};
-ghost use Rattle.yq_places.specs.CommentPlaces.{end_in_line};
 ghost use Rattle.yq_places.specs.StandingViews as row_agrees;
 
-use yq_core::lines::split_at_break;
-use yq_core::text::split_white;
 use yq_documents::is_block_head;
 use yq_outline::Position;
 use yq_row_table::Rows;
@@ -27,18 +24,6 @@ pub struct HeldRow<'t> {
     pub head: &'t str,
     /// The end of the line after that, with its break.
     pub tail: &'t str,
-}
-
-impl<'t> HeldRow<'t> {
-    /// The white space that ends its line, or comes before the line's comment, and that comment, if the
-    /// line has one.
-    pub fn line_end(&self) -> (&'t str, &'t str)
-        ensures white { result.0.now ≡ (end_in_line [] self.now.tail.now).white }
-        ensures comment { result.1.now ≡ (end_in_line [] self.now.tail.now).comment }
-    {
-        let (white, line) = split_white(self.tail);
-        (white, split_at_break(line).0)
-    }
 }
 
 /// Whether the head of a row is an inline node.

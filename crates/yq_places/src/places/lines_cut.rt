@@ -1,35 +1,35 @@
 //! Lines cut out of a text, and the ends of lines.
-ghost use Rattle.std.specs.Prelude.{[], ◌≡◌, if◌then◌else◌};
+ghost use Rattle.std.specs.Prelude.{[], ◌≡◌, ◌++◌, if◌then◌else◌};
 ghost use Rattle.yq_text.specs.Halves.{whole};
-ghost use Rattle.yq_row_table.specs.View.{row_view};
-ghost use Rattle.yq_places.specs.CommentPlaces.{end_in_line};
+ghost use Rattle.yq_core.specs.Text.{is_empty};
+ghost use Rattle.yq_places.{specs.CommentPlaces.end_in_line, specs.StandingReading.{EndsRows, rows_lines}, specs.StandingViews.lines_view};
 ghost use Rattle.yq_places.specs.LineReading as reading;
 
-use crate::places::halves::split_break;
+use crate::places::halves::{is_text, split_break};
+use crate::places::row_place::row_stop;
 use crate::places::written::cut_at;
 use yq_core::lines::split_at_break;
 use yq_core::text::split_white;
-use yq_row_table::Row;
+use yq_row_table::Rows;
 use yq_text::Halves;
 
-/// Lines of a text, less their last break, with what is before and after them.
+/// Lines of a text, less their last break, between the text before them and the text after them.
 #[derive(Clone, Copy)]
-pub struct LinesCut<'t> {
+pub struct LinesIn<'t> {
     pub before: Halves<'t>,
-    /// Whether there are none.
-    pub none: bool,
     pub lines: Halves<'t>,
     /// The break of the last one.
     pub last: &'t str,
     pub behind: Halves<'t>,
 }
 
-/// The end of a row's line: the white space and the comment that end it, and its break.
-#[derive(Clone, Copy)]
-pub struct TailCut<'t> {
-    pub white: &'t str,
-    pub comment: &'t str,
-    pub line_break: &'t str,
+impl LinesIn<'_> {
+    /// Whether there are none.
+    pub fn is_empty(&self) -> bool
+        ensures { result ≡ is_empty ((lines_view self.now).lines ++ (lines_view self.now).last) }
+    {
+        self.lines.is_empty() && self.last.is_empty()
+    }
 }
 
 /// A break that ends a text, as one string.
@@ -45,33 +45,41 @@ fn last_break<'t>(end: Halves<'_>) -> &'t str
 }
 
 /// Lines from a place on up to another one, in bytes.
-pub fn cut_lines<'t>(text: Halves<'t>, from: usize, stop: usize) -> LinesCut<'t>
+fn cut_lines<'t>(text: Halves<'t>, from: usize, stop: usize) -> LinesIn<'t>
     requires { reading.CutsLines (whole text) from stop }
     ensures { (h : reading.CutsLines (whole text.entry) from stop) →
-        reading.lines_view result ≡ reading.line_list h }
+        lines_view result ≡ reading.line_list h }
 {
     let (before, own, behind) = cut_at(text, from, stop);
     let (lines, last) = split_break(own);
-    LinesCut {
+    LinesIn {
         before,
-        none: own.is_empty(),
         lines,
         last: last_break(last),
         behind,
     }
 }
 
-/// The end of the line of a row's mark.
-pub fn cut_tail<'t>(row: &Row<'t>) -> TailCut<'t>
-    ensures { reading.tail_view result ≡ end_in_line [] (row_view row.now).tail }
+/// Lines from a place on in the rows of an item or entry, up to their end, after which row `end` comes.
+pub fn lines_from<'t>(rows: &Rows<'t>, text: Halves<'t>, from: usize, end: usize) -> LinesIn<'t>
+    requires { EndsRows (whole text) rows.now from end }
+    ensures { (h : EndsRows (whole text.entry) rows.now from end) →
+        lines_view result ≡ rows_lines h }
 {
-    let (white, line) = split_white(row.tail());
+    is_text(text);
+    cut_lines(text, from, row_stop(rows, end - 1))
+}
+
+/// The white space and the comment that end a line, and its break, of which each may be nothing: where
+/// this is all after what is written in the line.
+pub fn line_end(tail: &str) -> (&str, &str, &str)
+    ensures white { result.0.now ≡ (end_in_line [] tail.now).white }
+    ensures comment { result.1.now ≡ (end_in_line [] tail.now).comment }
+    ensures line_break { result.2.now ≡ (end_in_line [] tail.now).behind }
+{
+    let (white, line) = split_white(tail);
     let (comment, line_break) = split_at_break(line);
-    TailCut {
-        white,
-        comment,
-        line_break,
-    }
+    (white, comment, line_break)
 }
 
 /// The first of two texts, or the second one.

@@ -7,18 +7,19 @@ ghost use Rattle.yq_places.specs.StandingViews as row_agrees;
 
 use crate::places::entry_standing::{is_alone, lone_in};
 use crate::places::halves::is_text;
-use crate::places::lines_cut::cut_lines;
-use crate::places::row_place::{line_start, row_stop};
-use crate::places::standing::{BlockRoot, Standing};
+use crate::places::lines_cut::lines_from;
+use crate::places::row_place::line_start;
+use crate::places::standing::Standing;
 use yq_outline::{Position, Stretch};
 use yq_row_table::Rows;
 use yq_text::Halves;
 
 /// The root of a document as a block collection: from its first key or dash to its last line.
-fn block_root_in<'t>(rows: &Rows<'t>, text: Halves<'t>, document: Stretch) -> BlockRoot<'t>
+fn block_root_in<'t>(rows: &Rows<'t>, text: Halves<'t>, document: Stretch) -> Standing<'t>
     requires { IsRootOf (whole text) rows.now document }
     ensures { (h : IsRootOf (whole text.entry) rows.now document) →
-        row_agrees.root_view result ≡ spec.block_root h.part h.row h.under }
+        row_agrees.standing_view result ≡
+        spec.root h.row.column (spec.root_lines h.part h.row h.under) }
 {
     is_text(text);
     let position = Position {
@@ -26,15 +27,8 @@ fn block_root_in<'t>(rows: &Rows<'t>, text: Halves<'t>, document: Stretch) -> Bl
         line: 0,
     };
     let column = rows.row(document.first).column();
-    let stop = row_stop(rows, document.end - 1);
-    let lower = cut_lines(text, line_start(rows, position), stop);
-    BlockRoot {
-        column,
-        before: lower.before,
-        old: lower.lines,
-        last: lower.last,
-        behind: lower.behind,
-    }
+    let start = line_start(rows, position);
+    Standing::Root(column, lines_from(rows, text, start, document.end))
 }
 
 /// What is at the root of a document with rows.
@@ -46,6 +40,6 @@ pub fn rows_standing<'t>(rows: &Rows<'t>, text: Halves<'t>, document: Stretch) -
     if is_alone(&rows.row(document.first)) {
         Standing::Alone(lone_in(rows, text, document.first))
     } else {
-        Standing::Root(block_root_in(rows, text, document))
+        block_root_in(rows, text, document)
     }
 }

@@ -1,7 +1,9 @@
 //! A text in three pieces.
 ghost use Rattle.std.{specs.Prelude.{◌≡◌, ◌≤◌, ◌-◌, drop, take}, specs.Str.IsCharBoundary};
 ghost use Rattle.yq_text.specs.Halves.{whole};
+ghost use Rattle.yq_places.{specs.LineReading.{CutsBetween, LiesBetween}, specs.StandingViews.pieces_view};
 
+use crate::places::halves::is_text;
 use yq_text::Halves;
 
 /// A text in three pieces, of which the second one begins and ends at these places.
@@ -20,4 +22,18 @@ pub fn cut_at<'t>(
     let (before, rest) = text.split_at(start);
     let (middle, behind) = rest.split_at(end - start);
     (before, middle, behind)
+}
+
+/// A text in three pieces, of which the first and the last one are these.
+pub fn cut_between<'t>(
+    text: Halves<'t>,
+    before: Halves<'_>,
+    behind: Halves<'_>,
+) -> (Halves<'t>, Halves<'t>, Halves<'t>)
+    requires { LiesBetween (whole text) (whole before) (whole behind) }
+    ensures { CutsBetween text.entry before.entry behind.entry
+        (pieces_view result.0 result.1 result.2) }
+{
+    is_text(behind);
+    cut_at(text, before.len(), text.len() - behind.len())
 }

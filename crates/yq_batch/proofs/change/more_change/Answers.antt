@@ -42,13 +42,14 @@ returns c =
     subst (λ (b : Bool). ChangesBy b (operation_of c.args.op.now) c.args.at.now
     (record {
       place = c.moved_place.result;
-      lead = c.in-Some-put.field-0.place.lead;
-      written = Some c.in-Some-put.field-0.written;
+      lead = c.in-Some-put.place.lead;
+      written = Some c.in-Some-put.written;
       steps =
           c.in-Some.left;
     })) (sym place.more)
-    (adds_at c.args.at.now (operation_of c.args.op.now) c.in-Append.path.doc (steps_of c.in-Append.path) (map tree_step c.in-Some.left.now) (borrowed c.as_deref.result) (value_node c.in-Append.value) c.in-Some-put.field-0 _
+    (adds_at c.args.at.now (operation_of c.args.op.now) c.in-Append.path.doc (steps_of c.in-Append.path) (map tree_step c.in-Some.left.now)
+    (borrowed c.as_deref.result) (value_node c.in-Append.value) (c.in-Some-put.place, c.in-Some-put.written) _
     (ap operation_of c.in-Append.is
     ∙ ap (λ (k : Option (List ℕ)). append c.in-Append.path.doc (steps_of c.in-Append.path) k (value_node c.in-Append.value))
     (sym c.as_deref.ensures.value)) c.operand_holds.ensures c.if-path-at.false steps h refl
-    (λ i. record { start = place.start i; end = place.end i; lead = c.in-Some-put.field-0.place.lead.now }) refl)
+    (λ i. record { start = place.start i; end = place.end i; lead = c.in-Some-put.place.lead.now }) refl)

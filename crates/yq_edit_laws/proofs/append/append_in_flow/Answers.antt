@@ -7,8 +7,7 @@ use Rattle.yq_documents.{specs.Located.steps_of, specs.Reading.cut_of}
 use Rattle.yq_places.specs.FlowNodes.{flow_collection}
 use Rattle.yq_lookup.specs.FlowEnds.{FlowEndAgrees}
 use Rattle.yq_edit_rules.specs.Answers.{GivesSegments}
-use Rattle.yq_edit_laws.{specs.EditPlaces.{edit_segments, moved_on}, proofs.AppendAnswers.{end_found, no_more, not_taken, taken}}
-use Rattle.yq_edit_laws.proofs.FlowAnswers.{whole_text}
+use Rattle.yq_edit_laws.{specs.EditPlaces.{edit_segments, moved_on}, proofs.AppendAnswers.{end_found, taken}, proofs.FlowAnswers.whole_text}
 use Rattle.yq_edit_laws.proofs.append.append_in_flow.Goals as goal
 
 pub edit_at-requires : goal.edit_at-requires

@@ -1,5 +1,5 @@
-use Rattle.std.{proofs.Common.{ℕ, List, ◌-◌, Some, take, drop, sym, ap, ◌∙◌, subst}, specs.Str.{IsUtf8, IsCharBoundary}}
-use Rattle.yq_places.{specs.FirstPlaces.first_out, specs.FirstViews.piece_between, specs.RowLineReading.line_view}
+use Rattle.std.{proofs.Common.{ℕ, List, ◌-◌, Some, drop, sym, ap, ◌∙◌, subst}, specs.Str.{IsUtf8, IsCharBoundary}}
+use Rattle.yq_places.{specs.FirstPlaces.{first_out, piece_between}, specs.LineReading.piece_at, specs.RowLineReading.line_view}
 use Rattle.yq_places.proofs.FirstLaws.{entry_stands, first_is, no_first_entry, no_first_row_line, other_first_line}
 use Rattle.yq_documents.specs.Reading.{cut_of}
 use Rattle.yq_lookup.proofs.cut_text.CutText.first_removal.Goals as goal
@@ -16,22 +16,22 @@ returns-in_err-span c =
     (no_first_entry c.args.self.now (cut_of c.args.self.now) c.args.path.now _ (line_view c.in_ok-row_line.row_line) c.whole-whole.ensures.cut
     c.whole-whole.ensures.documents c.in_ok-row_line.ensures c.in_err-span.ensures)
 
-pub cut_at-requires-clause-order : goal.cut_at-requires-clause-order
-cut_at-requires-clause-order c =
+pub first_out-requires-clause-order : goal.first_out-requires-clause-order
+first_out-requires-clause-order c =
     let u : IsUtf8 c.args.self.now = c.whole-whole.ensures.utf8 in
     (entry_stands c.args.self.now (cut_of c.args.self.now) c.args.path.now c.in_ok-span.span.start c.in_ok-span.span.end u c.whole-whole.ensures.cut
     c.whole-whole.ensures.documents _ (line_view c.in_ok-row_line.row_line) c.in_ok-row_line.ensures c.in_ok-span.ensures).order
 
-pub cut_at-requires-clause-start : goal.cut_at-requires-clause-start
-cut_at-requires-clause-start c =
+pub first_out-requires-clause-start : goal.first_out-requires-clause-start
+first_out-requires-clause-start c =
     let u : IsUtf8 c.args.self.now = c.whole-whole.ensures.utf8 in
     let h = entry_stands c.args.self.now (cut_of c.args.self.now) c.args.path.now c.in_ok-span.span.start c.in_ok-span.span.end u
     c.whole-whole.ensures.cut c.whole-whole.ensures.documents _ (line_view c.in_ok-row_line.row_line) c.in_ok-row_line.ensures
     c.in_ok-span.ensures in
     subst (λ (t : List ℕ). IsCharBoundary t c.in_ok-span.span.start) (sym c.whole-whole.ensures.text) h.begins
 
-pub cut_at-requires-clause-end : goal.cut_at-requires-clause-end
-cut_at-requires-clause-end c =
+pub first_out-requires-clause-end : goal.first_out-requires-clause-end
+first_out-requires-clause-end c =
     let u : IsUtf8 c.args.self.now = c.whole-whole.ensures.utf8 in
     let h = entry_stands c.args.self.now (cut_of c.args.self.now) c.args.path.now c.in_ok-span.span.start c.in_ok-span.span.end u
     c.whole-whole.ensures.cut c.whole-whole.ensures.documents _ (line_view c.in_ok-row_line.row_line) c.in_ok-row_line.ensures
@@ -46,8 +46,5 @@ returns c =
     let u : IsUtf8 t = c.whole-whole.ensures.utf8 in
     let h = entry_stands t (cut_of t) c.args.path.now from c.in_ok-span.span.end u c.whole-whole.ensures.cut c.whole-whole.ensures.documents _ (line_view c.in_ok-row_line.row_line) c.in_ok-row_line.ensures c.in_ok-span.ensures in
     let text = c.whole-whole.ensures.text in
-    let before = c.cut_at.ensures.before ∙ (ap (take from) text ∙ h.before_is) in
-    let entry = c.cut_at.ensures.middle ∙ (ap (λ (y : List ℕ). take size (drop from y)) text ∙ h.text_is) in
-    let behind = c.cut_at.ensures.behind ∙ (ap (λ (y : List ℕ). drop size (drop from y)) text ∙ h.behind_is) in
-    ap Some (c.first_out.ensures ∙ (λ i. first_out (piece_between (before i) (entry i) (behind i))))
+    ap Some (c.first_out.ensures ∙ (ap (λ (y : List ℕ). first_out (piece_at from c.in_ok-span.span.end y)) text ∙ (λ i. first_out (piece_between (h.before_is i) (h.text_is i) (h.behind_is i)))))
     ∙ first_is c.args.path.now (cut_of t) _ (line_view c.in_ok-row_line.row_line) h.piece c.in_ok-row_line.ensures c.if-row_line-eq0.false h.is

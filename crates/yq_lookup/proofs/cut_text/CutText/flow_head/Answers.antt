@@ -60,7 +60,7 @@ returns-in-Nothing-clause-found c =
     (Some (line_number d k.document.stand.rows q)) (c.in-Some-node_place.ensures.found k.document)
     (c.in-Some-place_line.ensures.found k.document.stand) in
     let head = c.in_ok-head.ensures (row_is rows d (cut_of t) k q at) (row_in_cut rows d (cut_of t) k q at) in
-    other_head t rows (cut_of t) c.args.doc d cut c.in-Some.ensures.cut.rows f q at steps left (sym leads) (length c.in_ok-head.field-0.text.now) (ap head_flow (sym c.in-Nothing.is) ∙ head.flow)
+    other_head t rows (cut_of t) c.args.doc d cut c.in-Some.ensures.cut.rows f q at steps left (sym leads) (length c.in_ok-head.text.now) (ap head_flow (sym c.in-Nothing.is) ∙ head.flow)
 
 pub returns-in-Scalar-clause-found : goal.returns-in-Scalar-clause-found
 returns-in-Scalar-clause-found c =
@@ -78,7 +78,7 @@ returns-in-Scalar-clause-found c =
     (Some (line_number d k.document.stand.rows q)) (c.in-Some-node_place.ensures.found k.document)
     (c.in-Some-place_line.ensures.found k.document.stand) in
     let head = c.in_ok-head.ensures (row_is rows d (cut_of t) k q at) (row_in_cut rows d (cut_of t) k q at) in
-    other_head t rows (cut_of t) c.args.doc d cut c.in-Some.ensures.cut.rows f q at steps left (sym leads) (length c.in_ok-head.field-0.text.now) (ap head_flow (sym c.in-Scalar.is) ∙ head.flow)
+    other_head t rows (cut_of t) c.args.doc d cut c.in-Some.ensures.cut.rows f q at steps left (sym leads) (length c.in_ok-head.text.now) (ap head_flow (sym c.in-Scalar.is) ∙ head.flow)
 
 pub returns-clause-whole : goal.returns-clause-whole
 returns-clause-whole c =
@@ -100,9 +100,9 @@ returns-clause-whole c =
     let there = row_in_cut rows d (cut_of t) k q at in
     let head = c.in_ok-head.ensures row there in
     head_for t rows (cut_of t) c.args.doc d cut c.in-Some.ensures.cut.rows f q at steps left (sym leads) _ refl
-    (row_text t (cut_of t) q.row row c.in_ok-head.field-0.before utf8 cut there head.before c.in_ok-head.field-0.text.now head.text)
-    (row_start t (cut_of t) q.row row c.in_ok-head.field-0.before utf8 cut there head.before)
-    head.text
+    (row_text t (cut_of t) q.row row c.in_ok-head.before utf8 cut there head.before_is c.in_ok-head.text.now head.text_is)
+    (row_start t (cut_of t) q.row row c.in_ok-head.before utf8 cut there head.before_is)
+    head.text_is
     (ap head_flow (sym c.in-Inline.is) ∙ head.flow)
 
 pub returns-clause-found : goal.returns-clause-found

@@ -12,16 +12,16 @@ returns-in_default-2 c =
     no_part_agrees c.args.self.now c.args.doc (map tree_step c.args.steps.now) (c.in-Some.front, c.in-Some.start, c.in-Some.left) c.in-Some.ensures
     (tree_step c.args.last.now) (ap (option_map along_view) (sym c.in_default-2.is) ∙ c.in_ok-found.ensures)
 
-pub overflow_sub-result : goal.overflow_sub-result
-overflow_sub-result c =
+pub overflow_sub-before : goal.overflow_sub-before
+overflow_sub-before c =
     inner_within c.args.self.now c.args.doc (map tree_step c.args.steps.now) (c.in-Some.front, c.in-Some.start, c.in-Some.left) c.in-Some.ensures
     (map tree_step c.in-Some.left.now ++ (tree_step c.args.last.now ∷ [])) c.in-Some-2.found (ap (option_map along_view) (sym c.in-Some-2.is) ∙ c.in_ok-found.ensures)
 
-pub overflow_add-result : goal.overflow_add-result
-overflow_add-result c =
+pub overflow_add-before : goal.overflow_add-before
+overflow_add-before c =
     omega (arith, row_within c.args.self.now c.args.doc (map tree_step c.args.steps.now) (c.in-Some.front, c.in-Some.start, c.in-Some.left) c.in-Some.ensures)
 
 pub returns : goal.returns
 returns c =
     part_agrees c.args.self.now c.args.doc (map tree_step c.args.steps.now) (c.in-Some.front, c.in-Some.start, c.in-Some.left) c.in-Some.ensures
-    (tree_step c.args.last.now) _ c.in-Some-2.found refl refl refl (ap (option_map along_view) (sym c.in-Some-2.is) ∙ c.in_ok-found.ensures)
+    (tree_step c.args.last.now) c.in-Some-2.found _ refl (ap (option_map along_view) (sym c.in-Some-2.is) ∙ c.in_ok-found.ensures)

@@ -1,6 +1,6 @@
 use Rattle.std.{proofs.Common.{option_map, sym, ap, ◌∙◌, subst}, proofs.lemmas.Option.same_Some, specs.Str.IsUtf8}
 use Rattle.yq_text.specs.Halves.{whole}
-use Rattle.yq_places.{specs.CommentViews.above_view, specs.RowLineReading.{line_view, numbers}}
+use Rattle.yq_places.{specs.RowLineReading.{line_view, numbers}, specs.StandingViews.piece_view}
 use Rattle.yq_places.{proofs.CommentEndLaws.{no_lines_above, other_lines_above, gap_stands, lines_above_is}, proofs.RowLineSpans.row_within}
 use Rattle.yq_documents.{specs.Located.steps_of, specs.Reading.cut_of, specs.LinesInRows.{document_row, row_line_at}}
 use Rattle.yq_row_table.specs.View.{Slices}
@@ -8,7 +8,7 @@ use Rattle.yq_places.specs.CommentPlaces as spec
 use Rattle.yq_lookup.proofs.cut_text.CutText.lines_above.Goals as goal
 
 pub returns-in_err-row_line : goal.returns-in_err-row_line
-returns-in_err-row_line c = ap (option_map above_view) c.from_residual.ensures ∙ no_lines_above c.args.path.now (cut_of c.args.self.now) (document_row c.args.path.now.doc (cut_of c.args.self.now)) c.in_err-row_line.ensures
+returns-in_err-row_line c = ap (option_map (λ x. (x.0, piece_view x.1))) c.from_residual.ensures ∙ no_lines_above c.args.path.now (cut_of c.args.self.now) (document_row c.args.path.now.doc (cut_of c.args.self.now)) c.in_err-row_line.ensures
 
 pub returns-then-row_line-ne0 : goal.returns-then-row_line-ne0
 returns-then-row_line-ne0 c = other_lines_above c.args.path.now (cut_of c.args.self.now) (line_view c.in_ok-row_line.row_line) c.in_ok-row_line.ensures c.if-row_line-ne0.true

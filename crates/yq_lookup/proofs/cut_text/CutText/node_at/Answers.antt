@@ -51,7 +51,7 @@ returns-in_ok-head-in-None c =
     let left : List Step = map tree_step c.in-Some-node_place.left.now in
     let agrees = walk_place t c.args.doc c.in-Some.walk _ (node_among steps) c.in-Some.ensures.cut c.in-Some.ensures.place
     (λ k. head_agrees rows d (cut_of t) k q at steps left (place_view d k.document.stand.rows c.in-Some-node_place.place)
-    (head_view c.in_ok-head-in-None.head.head) (c.in-Some-node_place.ensures.found k.document) (c.in-Some-place_line.ensures.found k.document.stand)
+    (head_view c.in_ok-head-in-None.head) (c.in-Some-node_place.ensures.found k.document) (c.in-Some-place_line.ensures.found k.document.stand)
     (c.in_ok-head-in-None.ensures (row_is rows d (cut_of t) k q at) (row_in_cut rows d (cut_of t) k q at)).view)
     ∙ node_is (cut_of t) c.args.doc steps 0 c.in-Some.ensures.cut.sound in
     IfOk-weaker c.head_node.result _ _ (λ o is. is ∙ agrees) c.head_node.ensures

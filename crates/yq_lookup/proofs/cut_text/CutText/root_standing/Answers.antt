@@ -1,12 +1,12 @@
 use Rattle.std.proofs.Common.{[], Some, option_map, sym, ap, ◌∙◌}
 use Rattle.yq_documents.specs.Reading.{cut_of}
-use Rattle.yq_places.{specs.Standings.standing_at, specs.StandingViews.no_rows_view}
+use Rattle.yq_places.{specs.Standings.standing_at, specs.StandingViews.piece_view}
 use Rattle.yq_places.proofs.RootStandingLaws.{bare_stands, none_stands, root_found}
 use Rattle.yq_lookup.proofs.CutRows.{walk_found}
 use Rattle.yq_lookup.proofs.cut_text.CutText.root_standing.Goals as goal
 
 pub returns-in-Some : goal.returns-in-Some
-returns-in-Some c = bare_stands c.args.doc (cut_of c.args.self.now) (no_rows_view c.in-Some.place) (sym (ap (option_map no_rows_view) c.in-Some.is) ∙ c.no_rows.ensures)
+returns-in-Some c = bare_stands c.args.doc (cut_of c.args.self.now) (piece_view c.in-Some.place) (sym (ap (option_map piece_view) c.in-Some.is) ∙ c.no_rows.ensures)
 
 pub returns-in_err-walk-in-None : goal.returns-in_err-walk-in-None
 returns-in_err-walk-in-None c = rw c.from_residual.ensures (none_stands c.args.doc (cut_of c.args.self.now) c.in_err-walk-in-None.ensures.place)
@@ -17,7 +17,7 @@ rows_standing-requires c =
     let f = walk_found c.args.self.now c.args.doc c.in_ok-walk-in-None.walk c.in_ok-walk-in-None.ensures.cut c.in_ok-walk-in-None.ensures.place in
     (rw (← c.whole-text.ensures.text) at
     (root_found c.args.self.now c.in_ok-walk-in-None.walk.rows.now c.args.doc d c.whole-text.ensures.cut c.in_ok-walk-in-None.ensures.cut.rows f
-    (sym (ap (option_map no_rows_view) c.in-None.is) ∙ c.no_rows.ensures))).is
+    (sym (ap (option_map piece_view) c.in-None.is) ∙ c.no_rows.ensures))).is
 
 pub returns-in_ok-walk-in-None : goal.returns-in_ok-walk-in-None
 returns-in_ok-walk-in-None c =
@@ -25,5 +25,5 @@ returns-in_ok-walk-in-None c =
     let f = walk_found c.args.self.now c.args.doc c.in_ok-walk-in-None.walk c.in_ok-walk-in-None.ensures.cut c.in_ok-walk-in-None.ensures.place in
     let r = rw (← c.whole-text.ensures.text) at
     (root_found c.args.self.now c.in_ok-walk-in-None.walk.rows.now c.args.doc d c.whole-text.ensures.cut c.in_ok-walk-in-None.ensures.cut.rows f
-    (sym (ap (option_map no_rows_view) c.in-None.is) ∙ c.no_rows.ensures)) in
+    (sym (ap (option_map piece_view) c.in-None.is) ∙ c.no_rows.ensures)) in
     ap Some (c.rows_standing.ensures r.is) ∙ (sym r.place ∙ ap (λ t. standing_at c.args.doc [] (cut_of t)) c.whole-text.ensures.text)

@@ -42,4 +42,4 @@ returns c = λ r is.
     let pieces = slices_are (cut_of t) c.self.inside.rows.now c.args.i (row_view c.row-row.result) r h.rows c.row-row.ensures is in
     let own = pieces_from c.from_head-text.result.now (row_view c.row-row.result) r pieces (c.from_head-text.ensures (row_view c.row-row.result) c.row-row.ensures) in
     let alone = has_head t (cut_of t) c.args.i r h.cut is (row_view c.row-row.result) c.from_head-text.result.now pieces own (c.requires.fit r is) in
-    record { view = c.in_ok-row_head.ensures.view alone; flow = c.in_ok-row_head.ensures.flow alone; text = own; before = at }
+    record { view = c.in_ok-row_head.ensures.view alone; flow = c.in_ok-row_head.ensures.flow alone; text_is = own; before_is = at }

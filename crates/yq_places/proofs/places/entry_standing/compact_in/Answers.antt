@@ -1,29 +1,25 @@
-use Rattle.std.{proofs.Common.{[], ◌≡◌, ◌∙◌, ◌+◌, ◌<◌, suc, not, ◌||◌, length, refl, sym, ap, arith}, proofs.lemmas.Option.same_Some}
+use Rattle.std.{proofs.Common.{List, ℕ, [], ◌≡◌, ◌∙◌, ◌+◌, ◌<◌, suc, not, ◌||◌, length, sym, ap, arith}, proofs.lemmas.Option.same_Some}
 use Rattle.yq_text.specs.Halves.{whole}
 use Rattle.yq_core.specs.Text.{is_empty}
 use Rattle.yq_row_table.specs.View.{Slices, row_view}
-use Rattle.yq_places.{specs.CommentPlaces.end_in_line, specs.LineReading.lines_view}
-use Rattle.yq_places.{proofs.EntryRowLaws.{column_fits, last_within, pieces_at, row_within, is_view}, proofs.HeldTexts.column_is}
-use Rattle.yq_places.proofs.LoneLaws.{dash_cut, dash_fits, dash_lines}
+use Rattle.yq_places.{specs.CommentPlaces.end_in_line, specs.Standings.compact, specs.StandingViews.lines_view}
+use Rattle.yq_places.{proofs.EntryRowLaws.{column_fits, pieces_at, row_within, is_view}, proofs.HeldTexts.column_is}
+use Rattle.yq_places.proofs.LoneLaws.{dash_ends, dash_fits, dash_lines}
 use Rattle.yq_outline.specs.RowWalk.{line_column}
 use Rattle.yq_places.proofs.places.entry_standing.compact_in.Goals as goal
 
 pub row-row-requires : goal.row-row-requires
 row-row-requires c = let h = c.requires.entry in row_within (whole c.args.text) c.args.rows.now h.entry c.args.at.row c.args.at.end h.is.rows
 
-pub row_stop-stop-requires-clause-within : goal.row_stop-stop-requires-clause-within
-row_stop-stop-requires-clause-within c = let h = c.requires.entry in last_within (whole c.args.text) c.args.rows.now h.entry c.args.at.row c.args.at.end h.is.rows
-
 pub line_start-requires-clause-within : goal.line_start-requires-clause-within
 line_start-requires-clause-within c = let h = c.requires.entry in row_within (whole c.args.text) c.args.rows.now h.entry c.args.at.row c.args.at.end h.is.rows
 
-pub cut_lines-lower-requires : goal.cut_lines-lower-requires
-cut_lines-lower-requires c =
+pub lines_from-lower-requires : goal.lines_from-lower-requires
+lines_from-lower-requires c =
     let h = c.requires.entry in
     let less : h.entry.line < length h.entry.row.dashes = omega (arith, c.requires.dash, h.is.line, h.is.dashes) in
-    dash_cut (whole c.args.text) c.args.rows.now h.entry c.args.at.row c.args.at.end h.is.rows c.is_text.ensures c.args.at.line h.is.line less
-    (row_view c.row-row.result) c.row-row.ensures c.line_start.result c.row_stop-stop.result c.line_start.ensures c.row_stop-stop.ensures
-    (whole c.args.text) refl
+    dash_ends (whole c.args.text) c.args.rows.now h.entry c.args.at.row c.args.at.end h.is.rows c.is_text.ensures c.args.at.line h.is.line less
+    (row_view c.row-row.result) c.row-row.ensures c.line_start.result c.line_start.ensures
 
 pub returns : goal.returns
 returns c = λ e h.
@@ -32,13 +28,15 @@ returns c = λ e h.
     let less : e.line < length e.row.dashes = omega (arith, c.requires.dash, h.line, h.dashes) in
     let row = same_Some _ _ (sym (pieces_at t s e c.args.at.row c.args.at.end h.rows) ∙ c.row-row.ensures) in
     let lower = dash_lines t s e c.args.at.row c.args.at.end h.rows c.is_text.ensures c.args.at.line h.line less (row_view c.row-row.result)
-    c.row-row.ensures c.line_start.result c.row_stop-stop.result c.line_start.ensures c.row_stop-stop.ensures t refl
-    (lines_view c.cut_lines-lower.result) c.cut_lines-lower.ensures in
-    let first = c.mark_of.ensures.column ∙ ((λ i. line_column (h.line i) (sym row i)) ∙ column_is e.row e.line (omega (arith, less))) in
+    c.row-row.ensures c.line_start.result c.line_start.ensures (lines_view c.lines_from-lower.result) c.lines_from-lower.ensures in
+    let first = c.mark_of-mark.ensures.column ∙ ((λ i. line_column (h.line i) (sym row i)) ∙ column_is e.row e.line (omega (arith, less))) in
     let next : c.args.at.line + 1 ≡ suc e.line = omega (arith, h.line) in
     let second = c.line_column.ensures.value ∙ ((λ i. line_column (next i) (sym row i)) ∙ column_is e.row (suc e.line) (omega (arith, less))) in
-    let noted = c.mark_of.ensures.noted ∙ (λ i. not (is_empty (sym row i).anchor) || not (is_empty ((c.cut_tail-tail.ensures ∙ ap (λ (y : Slices). end_in_line [] y.tail) (sym row)) i).comment)) in
-    λ i. record { mark = record { column = first i; keyed = c.mark_of.ensures.keyed i; noted = noted i }; column = second i; before = (lower i).before; old = (lower i).lines; last = (lower i).last; behind = (lower i).behind }
+    let noted = c.mark_of-mark.ensures.noted
+    ∙ (λ i. not (is_empty (sym row i).anchor) || not
+    (is_empty ((c.line_end.ensures.comment
+    ∙ ap (λ (t : List ℕ). (end_in_line [] t).comment) (c.tail.ensures ∙ ap (λ (y : Slices). y.tail) (sym row))) i))) in
+    λ i. compact (record { column = first i; keyed = c.mark_of-mark.ensures.keyed i; noted = noted i }) (second i) (lower i)
 
 pub overflow_add-line_start : goal.overflow_add-line_start
 overflow_add-line_start c =
@@ -47,18 +45,14 @@ overflow_add-line_start c =
     omega (
       arith,
       dash_fits (whole c.args.text) c.args.rows.now h.entry c.args.at.row c.args.at.end h.is.rows c.is_text.ensures c.args.at.line
-          h.is.line less (row_view c.row-row.result) c.row-row.ensures c.line_start.result c.row_stop-stop.result c.line_start.ensures
-          c.row_stop-stop.ensures,
+          h.is.line less (row_view c.row-row.result) c.row-row.ensures c.line_start.result c.line_start.ensures,
     )
 
-pub mark_of-requires : goal.mark_of-requires
-mark_of-requires c = let h = c.requires.entry in column_fits (whole c.args.text) c.args.rows.now h.entry c.args.at.row c.args.at.end h.is.rows (row_view c.row-row.result) c.row-row.ensures
+pub mark_of-mark-requires : goal.mark_of-mark-requires
+mark_of-mark-requires c = let h = c.requires.entry in column_fits (whole c.args.text) c.args.rows.now h.entry c.args.at.row c.args.at.end h.is.rows (row_view c.row-row.result) c.row-row.ensures
 
 pub line_column-requires : goal.line_column-requires
 line_column-requires c = let h = c.requires.entry in column_fits (whole c.args.text) c.args.rows.now h.entry c.args.at.row c.args.at.end h.is.rows (row_view c.row-row.result) c.row-row.ensures
-
-pub row_stop-stop-requires-clause-rows_view : goal.row_stop-stop-requires-clause-rows_view
-row_stop-stop-requires-clause-rows_view c = let h = c.requires.entry in is_view (whole c.args.text) c.args.rows.now h.entry c.args.at.row c.args.at.end h.is.rows
 
 pub line_start-requires-clause-rows_view : goal.line_start-requires-clause-rows_view
 line_start-requires-clause-rows_view c = let h = c.requires.entry in is_view (whole c.args.text) c.args.rows.now h.entry c.args.at.row c.args.at.end h.is.rows

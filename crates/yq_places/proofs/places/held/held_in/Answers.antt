@@ -1,9 +1,9 @@
-use Rattle.std.{proofs.Common.{ℕ, refl, ap, ◌∙◌, arith}, specs.Str.IsUtf8}
+use Rattle.std.{proofs.Common.{ℕ, List, [], ◌≡◌, ap, ◌∙◌, arith}, specs.Str.IsUtf8}
 use Rattle.yq_text.specs.Halves.{whole}
 use Rattle.yq_row_table.specs.View.{row_view}
-use Rattle.yq_places.specs.LineReading.{LinesIn, lines_view, tail_view}
-use Rattle.yq_places.proofs.EntryRowLaws.{column_fits, last_within, row_within, is_view}
-use Rattle.yq_places.proofs.HeldTexts.{before_boundary, held_is, lower_cut, lower_is, space_fits, tail_fits}
+use Rattle.yq_places.{specs.CommentPlaces.{LineEnd, end_in_line}, specs.Standings.LinesIn, specs.StandingViews.lines_view}
+use Rattle.yq_places.proofs.EntryRowLaws.{column_fits, row_within, is_view}
+use Rattle.yq_places.proofs.HeldTexts.{before_boundary, held_is, lower_ends, lower_is, space_fits, tail_fits}
 use Rattle.yq_places.proofs.places.held.held_in.Goals as goal
 
 pub row-row-requires : goal.row-row-requires
@@ -12,14 +12,11 @@ row-row-requires c = let h = c.requires in row_within (whole c.args.text) c.args
 pub head_place-end-requires-clause-within : goal.head_place-end-requires-clause-within
 head_place-end-requires-clause-within c = let h = c.requires in row_within (whole c.args.text) c.args.rows.now h.entry c.args.at.row c.args.at.end h.is.rows
 
-pub row_stop-stop-requires-clause-within : goal.row_stop-stop-requires-clause-within
-row_stop-stop-requires-clause-within c = let h = c.requires in last_within (whole c.args.text) c.args.rows.now h.entry c.args.at.row c.args.at.end h.is.rows
-
-pub cut_lines-lower-requires : goal.cut_lines-lower-requires
-cut_lines-lower-requires c =
+pub lines_from-lower-requires : goal.lines_from-lower-requires
+lines_from-lower-requires c =
     let h = c.requires in
-    lower_cut (whole c.args.text) c.args.rows.now h.entry c.args.at.row c.args.at.end h.is.rows c.is_text.ensures (c.head_place-end.result.0, c.head_place-end.result.1) c.head_place-end.ensures
-    (row_view c.row-row.result) c.row-row.ensures c.row_stop-stop.result c.row_stop-stop.ensures (whole c.args.text) refl c.tail.result.now c.tail.ensures
+    lower_ends (whole c.args.text) c.args.rows.now h.entry c.args.at.row c.args.at.end h.is.rows c.is_text.ensures (c.head_place-end.result.0, c.head_place-end.result.1) c.head_place-end.ensures
+    (row_view c.row-row.result) c.row-row.ensures c.tail.result.now c.tail.ensures
 
 pub overflow_add-end : goal.overflow_add-end
 overflow_add-end c =
@@ -27,14 +24,14 @@ overflow_add-end c =
     omega (
       arith,
       tail_fits (whole c.args.text) c.args.rows.now h.entry c.args.at.row c.args.at.end h.is.rows c.is_text.ensures (c.head_place-end.result.0, c.head_place-end.result.1) c.head_place-end.ensures
-          (row_view c.row-row.result) c.row-row.ensures c.row_stop-stop.result c.row_stop-stop.ensures c.tail.result.now c.tail.ensures,
+          (row_view c.row-row.result) c.row-row.ensures c.tail.result.now c.tail.ensures,
     )
 
 pub overflow_sub-end : goal.overflow_sub-end
 overflow_sub-end c =
     let h = c.requires in
     space_fits (whole c.args.text) c.args.rows.now h.entry c.args.at.row c.args.at.end h.is.rows c.is_text.ensures (c.head_place-end.result.0, c.head_place-end.result.1) c.head_place-end.ensures
-    (row_view c.row-row.result) c.row-row.ensures c.row_stop-stop.result c.row_stop-stop.ensures c.space_before-space.result.now c.head-head.result.now c.space_before-space.ensures c.head-head.ensures
+    (row_view c.row-row.result) c.row-row.ensures c.space_before-space.result.now c.head-head.result.now c.space_before-space.ensures c.head-head.ensures
 
 pub split_at-requires : goal.split_at-requires
 split_at-requires c =
@@ -44,10 +41,10 @@ split_at-requires c =
     let u : IsUtf8 t = c.is_text.ensures in
     let place : ℕ × ℕ = (c.head_place-end.result.0, c.head_place-end.result.1) in
     let lower = lower_is t s h.entry c.args.at.row c.args.at.end h.is.rows u place c.head_place-end.ensures (row_view c.row-row.result)
-    c.row-row.ensures c.row_stop-stop.result c.row_stop-stop.ensures t refl c.tail.result.now c.tail.ensures
-    (lines_view c.cut_lines-lower.result) c.cut_lines-lower.ensures in
+    c.row-row.ensures c.tail.result.now c.tail.ensures
+    (lines_view c.lines_from-lower.result) c.lines_from-lower.ensures in
     before_boundary t s h.entry c.args.at.row c.args.at.end h.is.rows u place c.head_place-end.ensures (row_view c.row-row.result) c.row-row.ensures
-    c.row_stop-stop.result c.row_stop-stop.ensures (whole c.cut_lines-lower.result.before) c.space_before-space.result.now c.head-head.result.now
+    (whole c.lines_from-lower.result.before) c.space_before-space.result.now c.head-head.result.now
     c.tail.result.now
     (ap (λ (z : LinesIn). z.before) lower) c.space_before-space.ensures c.head-head.ensures c.tail.ensures c.space_before-space.utf8 c.head-head.utf8 c.tail.utf8
 
@@ -61,17 +58,24 @@ returns c = λ e h.
     let u : IsUtf8 t = c.is_text.ensures in
     let place : ℕ × ℕ = (c.head_place-end.result.0, c.head_place-end.result.1) in
     let lower = lower_is t s e c.args.at.row c.args.at.end h.rows u place c.head_place-end.ensures (row_view c.row-row.result) c.row-row.ensures
-    c.row_stop-stop.result c.row_stop-stop.ensures t refl c.tail.result.now c.tail.ensures (lines_view c.cut_lines-lower.result)
-    c.cut_lines-lower.ensures in
-    held_is t s e c.args.at.row c.args.at.end h.rows u place c.head_place-end.ensures (row_view c.row-row.result) c.row-row.ensures c.row_stop-stop.result c.row_stop-stop.ensures
-    c.mark_of.result.column c.args.at.dashes c.mark_of.result.keyed c.mark_of.result.noted (whole c.split_at.result.0)
-    c.space_before-space.result.now c.head-head.result.now c.either.result.now c.either-2.result.now (tail_view c.cut_tail-tail.result)
-    (lines_view c.cut_lines-lower.result)
-    c.mark_of.ensures.column h.dashes (c.mark_of.ensures.keyed ∙ c.has_key.ensures) c.cut_tail-tail.ensures c.mark_of.ensures.noted lower
-    c.space_before-space.ensures c.head-head.ensures c.split_at.ensures.front c.either.ensures c.either-2.ensures
-
-pub row_stop-stop-requires-clause-rows_view : goal.row_stop-stop-requires-clause-rows_view
-row_stop-stop-requires-clause-rows_view c = let h = c.requires in is_view (whole c.args.text) c.args.rows.now h.entry c.args.at.row c.args.at.end h.is.rows
+    c.tail.result.now c.tail.ensures (lines_view c.lines_from-lower.result)
+    c.lines_from-lower.ensures in
+    let end : (f : LineEnd → List ℕ) → f (end_in_line [] c.tail-2.result.now) ≡ f (end_in_line [] (row_view c.row-row.result).tail) = λ f i. f (end_in_line [] (c.tail-2.ensures i)) in
+    held_is t s e c.args.at.row c.args.at.end h.rows u place c.head_place-end.ensures (row_view c.row-row.result) c.row-row.ensures
+    c.mark_of.result.column c.args.at.dashes c.mark_of.result.keyed c.mark_of.result.noted _ (whole c.split_at.result.0)
+    c.space_before-space.result.now c.head-head.result.now c.either.result.now c.either-2.result.now
+    (record { before = []; white = c.line_end.result.0.now; comment = c.line_end.result.1.now; behind = c.line_end.result.2.now })
+    (lines_view c.lines_from-lower.result)
+    c.mark_of.ensures.column h.dashes (c.mark_of.ensures.keyed ∙ c.has_key.ensures)
+    (λ i. record {
+      before = [];
+      white = (c.line_end.ensures.white ∙ end (λ e. e.white)) i;
+      comment =
+          (c.line_end.ensures.comment ∙ end (λ e. e.comment)) i;
+      behind = (c.line_end.ensures.line_break ∙ end (λ e. e.behind)) i;
+    })
+    c.mark_of.ensures.noted lower
+    c.space_before-space.ensures c.head-head.ensures c.split_at.ensures.front c.is_empty-none.ensures c.either.ensures c.either-2.ensures
 
 pub head_place-end-requires-clause-rows_view : goal.head_place-end-requires-clause-rows_view
 head_place-end-requires-clause-rows_view c = let h = c.requires in is_view (whole c.args.text) c.args.rows.now h.entry c.args.at.row c.args.at.end h.is.rows

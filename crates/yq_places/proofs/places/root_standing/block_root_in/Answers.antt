@@ -1,22 +1,18 @@
-use Rattle.std.{proofs.Common.{◌∙◌, refl, sym, ap}, proofs.lemmas.Option.same_Some}
+use Rattle.std.{proofs.Common.{◌∙◌, sym, ap}, proofs.lemmas.Option.same_Some}
 use Rattle.yq_text.specs.Halves.{whole}
 use Rattle.yq_row_table.specs.View.{Slices}
-use Rattle.yq_places.{specs.LineReading.lines_view, specs.StandingReading.root_entry}
-use Rattle.yq_places.{proofs.EntryRowLaws.{last_within, pieces_at, row_within, is_view}, proofs.RootStandingLaws.{root_cut, root_lines}}
+use Rattle.yq_places.{specs.Standings.root, specs.StandingReading.root_entry, specs.StandingViews.lines_view}
+use Rattle.yq_places.{proofs.EntryRowLaws.{pieces_at, row_within, is_view}, proofs.RootStandingLaws.{lines_there, root_ends}}
 use Rattle.yq_places.proofs.places.root_standing.block_root_in.Goals as goal
 
 pub row-requires : goal.row-requires
 row-requires c = let h = c.requires in row_within (whole c.args.text) c.args.rows.now (root_entry h.part h.row h.under) c.args.document.first c.args.document.end h.is
 
-pub row_stop-stop-requires-clause-within : goal.row_stop-stop-requires-clause-within
-row_stop-stop-requires-clause-within c = let h = c.requires in last_within (whole c.args.text) c.args.rows.now (root_entry h.part h.row h.under) c.args.document.first c.args.document.end h.is
+pub line_start-start-requires-clause-within : goal.line_start-start-requires-clause-within
+line_start-start-requires-clause-within c = let h = c.requires in row_within (whole c.args.text) c.args.rows.now (root_entry h.part h.row h.under) c.args.document.first c.args.document.end h.is
 
-pub line_start-requires-clause-within : goal.line_start-requires-clause-within
-line_start-requires-clause-within c = let h = c.requires in row_within (whole c.args.text) c.args.rows.now (root_entry h.part h.row h.under) c.args.document.first c.args.document.end h.is
-
-pub cut_lines-lower-requires : goal.cut_lines-lower-requires
-cut_lines-lower-requires c =
-    root_cut (whole c.args.text) c.args.rows.now c.args.document c.requires c.is_text.ensures c.line_start.result c.row_stop-stop.result c.line_start.ensures c.row_stop-stop.ensures (whole c.args.text) refl
+pub lines_from-requires : goal.lines_from-requires
+lines_from-requires c = root_ends (whole c.args.text) c.args.rows.now c.args.document c.requires c.is_text.ensures c.line_start-start.result c.line_start-start.ensures
 
 pub returns : goal.returns
 returns c = λ h.
@@ -24,12 +20,9 @@ returns c = λ h.
     let s = c.args.rows.now in
     let e = root_entry h.part h.row h.under in
     let row = same_Some _ _ (sym (pieces_at t s e c.args.document.first c.args.document.end h.is) ∙ c.row.ensures) in
-    let lower = root_lines t s c.args.document h c.is_text.ensures c.line_start.result c.row_stop-stop.result c.line_start.ensures c.row_stop-stop.ensures t refl (lines_view c.cut_lines-lower.result) c.cut_lines-lower.ensures in
+    let lower = lines_there t s c.args.document h c.is_text.ensures c.line_start-start.result c.line_start-start.ensures (lines_view c.lines_from.result) c.lines_from.ensures in
     let column = c.column-column.ensures ∙ ap (λ (y : Slices). y.column) (sym row) in
-    λ i. record { column = column i; before = (lower i).before; old = (lower i).lines; last = (lower i).last; behind = (lower i).behind }
+    λ i. root (column i) (lower i)
 
-pub row_stop-stop-requires-clause-rows_view : goal.row_stop-stop-requires-clause-rows_view
-row_stop-stop-requires-clause-rows_view c = let h = c.requires in is_view (whole c.args.text) c.args.rows.now (root_entry h.part h.row h.under) c.args.document.first c.args.document.end h.is
-
-pub line_start-requires-clause-rows_view : goal.line_start-requires-clause-rows_view
-line_start-requires-clause-rows_view c = let h = c.requires in is_view (whole c.args.text) c.args.rows.now (root_entry h.part h.row h.under) c.args.document.first c.args.document.end h.is
+pub line_start-start-requires-clause-rows_view : goal.line_start-start-requires-clause-rows_view
+line_start-start-requires-clause-rows_view c = let h = c.requires in is_view (whole c.args.text) c.args.rows.now (root_entry h.part h.row h.under) c.args.document.first c.args.document.end h.is

@@ -28,4 +28,4 @@ returns-else-is_alone c = λ h.
     let e = root_entry h.part h.row h.under in
     let row = same_Some _ _ (sym (pieces_at t s e c.args.document.first c.args.document.end h.is) ∙ c.row.ensures) in
     let agrees = sym (c.is_alone.ensures h.row (rows_text h.under (spec.behind_entry e)) row (row_valid t s e c.args.document.first c.args.document.end h.is).row.mark) ∙ c.if-is_alone.false in
-    ap spec.root (c.block_root_in.ensures h) ∙ root_block t s c.args.document h agrees
+    c.block_root_in.ensures h ∙ root_block t s c.args.document h agrees
