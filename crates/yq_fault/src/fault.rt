@@ -6,7 +6,6 @@ use yq_args::UsageCause;
 use yq_core::{FaultKind, ReadFault};
 use yq_journal::JournalFault;
 use yq_semantics::Refusal;
-use yq_store::FileFault;
 
 /// Why a command is refused. Its text is the line that the program prints.
 #[derive(Clone, Copy, PartialEq, Eq)]
@@ -15,7 +14,13 @@ pub enum Fault {
     Syntax,
     NotInProfile,
     Pattern,
-    File(FileFault),
+    /// S1: no file has the name.
+    NotThere,
+    /// S2: the store didn't read.
+    ReadFailed,
+    /// S3: the store didn't write.
+    WriteFailed,
+    /// S4: the output didn't take what was put to it.
     OutFailed,
     Journal(JournalFault),
     Unreadable(ReadFault),
@@ -52,9 +57,9 @@ fn line_of(fault: &Fault) -> &'static str {
         Fault::Syntax => "E1 syntax",
         Fault::NotInProfile => "E2 not in profile",
         Fault::Pattern => "E3 pattern",
-        Fault::File(FileFault::NotThere) => "S1 not there",
-        Fault::File(FileFault::ReadFailed) => "S2 read failed",
-        Fault::File(FileFault::WriteFailed) => "S3 write failed",
+        Fault::NotThere => "S1 not there",
+        Fault::ReadFailed => "S2 read failed",
+        Fault::WriteFailed => "S3 write failed",
         Fault::OutFailed => "S4 out failed",
         Fault::Journal(_) => "",
         Fault::Unreadable(fault) => numbered(fault.kind).1,
