@@ -5,7 +5,8 @@ use std::alloc::Global;
 use std::fs::DirBuilder;
 use std::os::unix::fs::DirBuilderExt;
 use std::rt::Files;
-use yq_store::{FileError, Store};
+use yq_fault::Fault;
+use yq_store::Store;
 
 /// The mode of a folder of journals: its owner alone may look into it.
 const PRIVATE: u32 = 0o700;
@@ -57,11 +58,11 @@ impl<'a, R: Files + Drop, S: Store + Drop> Store for WithFolder<'a, R, S> {
 
     ghost leads = { λ s c t. S.leads s.store c t.store };
 
-    fn read(&mut self, alloc: Global, name: &str) -> Result<Vec<u8>, FileError> {
+    fn read(&mut self, alloc: Global, name: &str) -> Result<Vec<u8>, Fault> {
         self.store.read(alloc, name)
     }
 
-    fn replace(&mut self, name: &str, bytes: &[u8]) -> Result<(), FileError> {
+    fn replace(&mut self, name: &str, bytes: &[u8]) -> Result<(), Fault> {
         if name != self.file {
             self.make_folder();
         }

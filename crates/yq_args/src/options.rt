@@ -131,13 +131,11 @@ fn unknown_letter(command: &str, option: &str) -> Option<u8> {
         "history" => b"hd",
         _ => b"h",
     };
-    let letters = option.strip_prefix('-').unwrap_or(option);
-    'letters: for letter in letters.as_bytes() {
-        if !known.contains(letter) {
-            return Some(*letter);
-        }
-    }
-    None
+    let letters = option.strip_prefix('-').unwrap_or(option).as_bytes();
+    letters
+        .iter()
+        .find(|letter| !known.contains(*letter))
+        .copied()
 }
 
 /// Whether a command has this option, or each of these that are in one word.
@@ -166,34 +164,16 @@ pub fn without_value(command: &str, option: &str) -> Option<&'static str> {
     }
 }
 
-/// What to do in place of an option that is near one of the program's own.
-fn near_own(name: &str) -> Option<&'static str> {
-    'options: for (own, hint) in &OWN {
-        if is_near(name, own) {
-            return Some(hint);
-        }
+/// What to do in place of an option that is near one of the program's own, or of other programs.
+fn hint_near(name: &str) -> &'static str {
+    if let Some(own) = OWN.iter().find(|own| is_near(name, own.0)) {
+        return own.1;
     }
-    None
-}
-
-/// Whether a name is near one of these.
-fn is_near_any(name: &str, names: &[&str]) -> bool {
-    'names: for other in names {
-        if is_near(name, other) {
-            return true;
-        }
+    let is_near_one = |option: &&ForeignOption| option.names.iter().any(|it| is_near(name, it));
+    match FOREIGN.iter().find(is_near_one) {
+        Some(option) => option.hint,
+        None => OTHER,
     }
-    false
-}
-
-/// What to do in place of an option that is near one of other programs.
-fn near_foreign(name: &str) -> &'static str {
-    'options: for option in &FOREIGN {
-        if is_near_any(name, option.names) {
-            return option.hint;
-        }
-    }
-    OTHER
 }
 
 /// What to do in place of an option of this letter or name.
@@ -206,10 +186,7 @@ fn hint_on(letter: u8, name: &str) -> &'static str {
     if !name.starts_with("--") {
         return OTHER;
     }
-    match near_own(name) {
-        Some(hint) => hint,
-        None => near_foreign(name),
-    }
+    hint_near(name)
 }
 
 /// What to do where `eval` has no such option.

@@ -33,34 +33,14 @@ const OTHERS: [(&str, &str); 18] = [
 
 /// How many bytes at their beginnings two words share.
 fn common_front(word: &[u8], name: &[u8]) -> usize {
-    let mut count = 0usize;
-    let mut rest = word;
-    let mut others = name;
-    'bytes: while let ([first, more @ ..], [other, behind @ ..]) = (rest, others) {
-        if first != other {
-            return count;
-        }
-        count = count.saturating_add(1);
-        rest = more;
-        others = behind;
-    }
-    count
+    let pairs = word.iter().zip(name.iter());
+    pairs.take_while(|pair| pair.0 == pair.1).count()
 }
 
 /// How many bytes at their ends two words share.
 fn common_end(word: &[u8], name: &[u8]) -> usize {
-    let mut count = 0usize;
-    let mut rest = word;
-    let mut others = name;
-    'bytes: while let ([more @ .., last], [before @ .., other]) = (rest, others) {
-        if last != other {
-            return count;
-        }
-        count = count.saturating_add(1);
-        rest = more;
-        others = before;
-    }
-    count
+    let pairs = word.iter().rev().zip(name.iter().rev());
+    pairs.take_while(|pair| pair.0 == pair.1).count()
 }
 
 /// The sum of the bytes of a word.
@@ -87,22 +67,9 @@ pub fn is_near(word: &str, name: &str) -> bool {
     name.starts_with(word) || shared.saturating_add(1) >= longer || is_swapped
 }
 
-/// In what the line on a word ends that is one of other programs.
-fn end_of_other(word: &str) -> Option<&'static str> {
-    'others: for (other, end) in &OTHERS {
-        if word == *other {
-            return Some(end);
-        }
-    }
-    None
-}
-
-/// In what the line on a word ends that may have been meant to name a command.
+/// In what the line on a word ends that may have been meant to name a command, or is one of other programs.
 pub fn end_of_command(word: &str) -> Option<&'static str> {
-    'names: for (name, end) in &NAMES {
-        if is_near(word, name) {
-            return Some(end);
-        }
-    }
-    end_of_other(word)
+    let near = NAMES.iter().find(|name| is_near(word, name.0));
+    let own = near.or(OTHERS.iter().find(|other| word == other.0));
+    own.map(|found| found.1)
 }

@@ -4,8 +4,8 @@ use Rattle.std.proofs.Common.{MatchResult, IfErr, ◌∙◌, subst, refl, arith}
 use Rattle.yq_commands.specs.declared.answer.Answer.{Answer}
 use Rattle.yq_commands.specs.Lists.{IsAnswer, reports_failure, reports_output, count_passing, failures_in, output_failures_in}
 use Rattle.yq_history.specs.Report.{Report}
-use Rattle.yq_fault.{specs.declared.fault.Fault.Fault, specs.Faults.{is_output, failures_after}}
-use Rattle.yq_store.specs.Count.{count_plus_one}
+use Rattle.yq_fault.{specs.declared.fault.Fault.Fault, specs.Faults.is_output}
+use Rattle.yq_store.specs.Count.{failures_after, count_plus_one}
 
 -- the count of the answers that tell something, one answer more
 pub passing_more : (passes : Answer → Bool) (rs : List Answer) (a : Answer) → count_passing passes (rs ++ a ∷ []) ≡ count_passing passes rs + (if passes a then 1 else 0)

@@ -4,18 +4,16 @@ use Rattle.std.{proofs.Common.string_bytes, specs.FinMap.get}
 use Rattle.yq_semantics.specs.Program.{Program}
 use Rattle.yq_journal.{specs.History.History, specs.State.State}
 use Rattle.yq_args.{specs.declared.eval_options.EvalOptions.EvalOptions, specs.declared.eval_words.EvalWords.EvalWords}
-use Rattle.yq_store.{specs.FileMap.FileMap, specs.Count.FileError}
+use Rattle.yq_store.{specs.FileMap.FileMap, specs.Count.IsOfRead}
 use Rattle.yq_history.{specs.Causes.{Cause, IsFor, named}, specs.Effects.{Effect, from_names, refuses}, specs.Output.Showing}
 use Rattle.yq_history.{specs.Pair.{Arrives, GoodIn, Opens}, specs.declared.opened.OpenPair.OpenPair, specs.Report.Report}
 use Rattle.yq_history.{proofs.EffectLaws.not_opened, proofs.PairLaws.same_pair}
-use Rattle.yq_fault.{specs.declared.fault.Fault.Fault, specs.Faults.{is_outer_fault, of_store}}
+use Rattle.yq_fault.{specs.declared.fault.Fault.Fault, specs.Faults.is_outer_fault}
 use Rattle.yq_commands.{specs.CommandDone.{EditsFrom, EditsInPlace, EditsOpened, Evaluates}, specs.CommandEffects.edit_effect}
 use Rattle.yq_commands.{specs.CommandSteps.{update_cause, update_next}, specs.Editing.{Refuses, program_edits, program_in}}
 use Rattle.yq_commands.{specs.Evaluation.{cause_in, evaluated, of_file, shows}, proofs.EditEffects.parsed_works}
 use Rattle.yq_commands.proofs.OutcomeLaws.{arrives_as, each_error, unopened}
 use Rattle.yq_fault.specs.declared.fault.Fault.TheVariants as fault
-use Rattle.yq_failure.specs.declared.failure.Failure.TheVariants as failure
-use Rattle.yq_store.specs.declared.store.FileFault.TheVariants as file
 
 -- what is said of a success, where there is none
 pub no_success : {T : Type 0} (P : Type 0) (r : Result T Fault) (e : Fault) → r ≡ Err e → OnOk r P
@@ -66,9 +64,9 @@ module _ (p : Program) (expr : List ℕ) (o : OpenPair) (c : FileMap) where
 -- ---- an expression that isn't carried out in place
 
 -- the file couldn't be read
-pub unread_arrives : (c m : FileMap) (f j : List ℕ) (of_text : List ℕ → Result Showing Cause) {T : Type 0} (r : Result T Fault) (x : FileError) → r ≡ Err (of_store x) → m ≡ c →
-    (x ≡ failure.Fault file.NotThere → get c f ≡ None) → (h : Option History) → GoodIn c f j h → Arrives m f j (cause_in (of_file of_text h)) h h r
-unread_arrives c m f j of_text r x is same absent h good = search rules
+pub unread_arrives : (c m : FileMap) (f j : List ℕ) (of_text : List ℕ → Result Showing Cause) {T : Type 0} (r : Result T Fault) (x : Fault) → IsOfRead x → r ≡ Err x → m ≡ c →
+    (x ≡ fault.NotThere → get c f ≡ None) → (h : Option History) → GoodIn c f j h → Arrives m f j (cause_in (of_file of_text h)) h h r
+unread_arrives c m f j of_text r x of_read is same absent h good = search rules
 
 module _ (options : EvalOptions) (expr f : List ℕ) (c : FileMap) {T : Type 0} (r : Result T Fault) (s : Report) where
   -- its expression is no program

@@ -3,9 +3,9 @@ use Rattle.std.proofs.Common.{rules, ◌≡◌, ℕ, false, List, Option, Some, 
 use Rattle.std.specs.declared.alloc.Global.{Global}
 use Rattle.yq_journal.{specs.History.History, specs.State.State}
 use Rattle.yq_semantics.specs.Program.{Program}
-use Rattle.yq_store.specs.FileMap.{FileMap}
-use Rattle.yq_fault.{specs.declared.fault.Fault.Fault, specs.declared.fault.Fault.TheVariants.OutOfMemory}
-use Rattle.yq_fault.specs.Faults.{failures_after, is_output, not_there}
+use Rattle.yq_store.{specs.FileMap.FileMap, specs.Count.failures_after}
+use Rattle.yq_fault.{specs.declared.fault.Fault.Fault, specs.declared.fault.Fault.TheVariants.{NotThere, OutOfMemory}}
+use Rattle.yq_fault.specs.Faults.{is_output}
 use Rattle.yq_history.{specs.Causes.{Cause, named}, specs.Pair.{Arrives, GoodIn, Opens, PairAtRest}}
 
 -- what is known of an error
@@ -35,5 +35,5 @@ module _ (cause : Option History → Option Cause) (next : Option History → Op
       ((x : History) → PairAtRest m f j p.1 p.0.items x → Arrives d f j (cause (Some x)) (Some x) (next (Some x)) r) → Arrives d f j (cause h) h (next h) r
   opened p h opens go = search rules
 
-  pub unopened : cause None ≡ Some (named not_there) → (e : Fault) (h : Option History) → r ≡ Err e → Opens m f j h (Err e) → GoodIn m f j h → Arrives m f j (cause h) h (next h) r
+  pub unopened : cause None ≡ Some (named NotThere) → (e : Fault) (h : Option History) → r ≡ Err e → Opens m f j h (Err e) → GoodIn m f j h → Arrives m f j (cause h) h (next h) r
   unopened missed e h is out good = search rules

@@ -6,7 +6,7 @@ use Rattle.yq_journal.{specs.History.{History, text_at, after_edit}, specs.Refus
 use Rattle.yq_journal.specs.declared.fault.JournalFault.TheVariants.{JournalFull}
 use Rattle.yq_args.specs.declared.command.Command.{Command}
 use Rattle.yq_args.specs.declared.command.Command.TheVariants.{Eval, Undo, Redo, History as Lists, Squash, Help}
-use Rattle.yq_fault.{specs.declared.fault.Fault.Fault, specs.Faults.not_there}
+use Rattle.yq_fault.specs.declared.fault.Fault.{Fault}
 use Rattle.yq_history.specs.Causes.{Cause, named, no_reading}
 use Rattle.yq_history.specs.Steps.{move_cause, move_next, squash_cause, squash_next, listing_cause}
 use Rattle.yq_commands.specs.Editing.{EditOutcome, unreadable, refused, edited, program_in, program_edits}
@@ -37,7 +37,7 @@ edit_next h expr (edited text changes) =
 -- why the edit of a file is refused, by what its expression is
 abbrev pub update_cause : Result Program Fault → Option History → Option Cause
 update_cause (Err f) h = Some (named f)
-update_cause (Ok p) None = Some (named not_there)
+update_cause (Ok p) None = Some (named fault.NotThere)
 update_cause (Ok p) (Some h) = edit_cause h (program_edits p (text_at h))
 
 -- the history after it

@@ -6,7 +6,6 @@ use Rattle.yq_text.{specs.Splice.{Splice, all_done, lengths_done}, specs.declare
 use Rattle.yq_edit_laws.{specs.Carried.edit_of, specs.Edit.Edit}
 use Rattle.yq_history.specs.Causes.{IsUnreadable}
 use Rattle.yq_fault.{specs.declared.fault.Fault.Fault, specs.declared.fault.Fault.TheVariants.OutOfMemory}
-use Rattle.yq_commands.specs.CommandFaults.{of_parse_kind}
 use Rattle.yq_expr_parser.specs.Outcome as expr
 use Rattle.yq_edit_laws.specs.Edit as edit
 use Rattle.yq_fault.specs.declared.fault.Fault.TheVariants as fault
@@ -42,7 +41,9 @@ RefusedBy outcome r = IfErr r (λ e. e ≢ OutOfMemory → Refuses outcome e)
 -- what comes of an expression, as a program or a fault (own)
 abbrev pub result_of : expr.Outcome → Result Program Fault
 result_of (expr.parsed p) = Ok p
-result_of (expr.refused k) = Err (of_parse_kind k)
+result_of expr.ill_formed = Err fault.Syntax
+result_of expr.not_in_profile = Err fault.NotInProfile
+result_of expr.with_pattern = Err fault.Pattern
 
 -- the program of an expression, or the fault of one that has none (own)
 unfoldable pub program_in : List ℕ → Result Program Fault

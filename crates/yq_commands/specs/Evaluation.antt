@@ -5,7 +5,7 @@ use Rattle.yq_documents.{specs.Documents.Document, specs.Reading.{documents, rea
 use Rattle.yq_semantics.{specs.Copies.matches, specs.Judgement.{Judgement, gives, refuses}, specs.Program.{Program, Stage, read, updates}}
 use Rattle.yq_journal.specs.History.{History, text_at}
 use Rattle.yq_args.specs.declared.eval_options.EvalOptions.{EvalOptions}
-use Rattle.yq_fault.{specs.declared.fault.Fault.Fault, specs.declared.fault.Fault.TheVariants.OutOfMemory, specs.Faults.not_there}
+use Rattle.yq_fault.{specs.declared.fault.Fault.Fault, specs.declared.fault.Fault.TheVariants.OutOfMemory}
 use Rattle.yq_history.{specs.Causes.{Cause, IsFor, named, no_reading}, specs.Output.{Output, Showing, Shows, bytes, diff, showing_nothing}}
 use Rattle.yq_history.specs.Report.{Report, report_by}
 use Rattle.yq_commands.{specs.Editing.{EditOutcome, unreadable, refused, edited, program_edits}, specs.Expecting.changes_as_expected}
@@ -40,7 +40,7 @@ shows options (updates us) t = show_edit options t (program_edits (updates us) t
 
 -- what is shown of a file, by what is shown of its text
 abbrev pub of_file : (List ℕ → Result Showing Cause) → Option History → Result Showing Cause
-of_file of_text None = Err (named not_there)
+of_file of_text None = Err (named fault.NotThere)
 of_file of_text (Some h) = of_text (text_at h)
 
 -- the same, by what an expression is

@@ -4,7 +4,8 @@ ghost use Rattle.yq_text.specs.Splice.{lengths_done};
 ghost use Rattle.yq_commands.{specs.CommandDone.{CallsOfEdit, EditsByAny, LeavesText}, specs.Editing.{LengthsLead, SplicesLead}};
 ghost use Rattle.yq_commands.specs.Edits.{record_between};
 ghost use Rattle.yq_history.specs.Leaves.{LeavesRefused, KeepsOthers};
-ghost use Rattle.yq_fault.specs.Faults.{is_output, failures_after};
+ghost use Rattle.yq_fault.specs.Faults.{is_output};
+ghost use Rattle.yq_store.specs.Count.{failures_after};
 
 use std::alloc::{AllocError, Global};
 use yq_fault::Fault;

@@ -7,7 +7,7 @@ ghost use Rattle.yq_fault.specs.Faults.{is_failure, is_output};
 ghost use Rattle.yq_commands.{specs.CommandFaults.of_parse, specs.Editing.program_in};
 
 use std::alloc::Global;
-use yq_expr_parser::{ParseError, ParseKind, parse_expr};
+use yq_expr_parser::{ParseError, ParseFault, parse_expr};
 use yq_fault::Fault;
 use yq_semantics::Program;
 use yq_tree::text_of;
@@ -20,11 +20,9 @@ fn parse_fault(error: ParseError) -> Fault
 {
     match error {
         ParseError::Memory => Fault::OutOfMemory,
-        ParseError::Fault(fault) => match fault.kind {
-            ParseKind::Syntax => Fault::Syntax,
-            ParseKind::NotInProfile => Fault::NotInProfile,
-            ParseKind::Pattern => Fault::Pattern,
-        },
+        ParseError::Fault(ParseFault::Syntax { .. }) => Fault::Syntax,
+        ParseError::Fault(ParseFault::NotInProfile { .. }) => Fault::NotInProfile,
+        ParseError::Fault(ParseFault::Pattern { .. }) => Fault::Pattern,
     }
 }
 

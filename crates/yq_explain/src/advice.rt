@@ -5,7 +5,7 @@ use crate::marks::of_mark;
 use crate::misread::of_misread;
 use crate::parts::{Parts, first_char, is_word_char, last_char, parted, parted_at_value};
 use std::alloc::{AllocError, Global};
-use yq_expr_parser::{ParseFault, ParseKind};
+use yq_expr_parser::ParseFault;
 
 /// What can be done, and the expression as it may have been meant; that is empty where it isn't known.
 #[derive(Drop)]
@@ -105,13 +105,13 @@ pub fn advice_on(
 ) -> Result<Option<Advice>, AllocError> {
     let at = fault.at(expr);
     let p = parted(expr, at);
-    match fault.kind {
-        ParseKind::Syntax => of_misread(alloc, expr, at, p, fault.expected),
-        ParseKind::NotInProfile => match p.token.chars().next() {
+    match fault {
+        ParseFault::Syntax { expected, .. } => of_misread(alloc, expr, at, p, expected),
+        ParseFault::NotInProfile { .. } => match p.token.chars().next() {
             Some(c) if is_word_char(c) => of_word(alloc, expr, at, p),
             _ => of_mark(alloc, p),
         },
-        ParseKind::Pattern => advise(
+        ParseFault::Pattern { .. } => advise(
             alloc,
             "there are no patterns: a key or text with '*' or '?' isn't compared with others",
         ),

@@ -25,7 +25,7 @@ fn push_advice(
             }
             out.push('\n')
         }
-        None if fault.expected.is_empty() => push_rows(out, code, false).map(|_| ()),
+        None if fault.expected().is_empty() => push_rows(out, code, false).map(|_| ()),
         None => Ok(()),
     }
 }
@@ -40,7 +40,7 @@ pub fn expression_lines(alloc: Global, expr: &str, code: &str) -> Result<String,
         }
         Err(ParseError::Fault(fault)) => {
             push_caret(&mut out, expr, fault.at(expr))?;
-            push_expected(&mut out, fault.expected)?;
+            push_expected(&mut out, fault.expected())?;
             push_advice(alloc, &mut out, expr, fault, code)?;
         }
     }

@@ -20,41 +20,10 @@ fn is_value_char(c: char) -> bool {
     is_word_char(c) || matches!(c, '.' | '-' | '/' | '@' | '~')
 }
 
-/// How many bytes the word in front has.
-fn word_len(text: &str) -> usize {
-    let mut len = 0usize;
-    'chars: for c in text.chars() {
-        if !is_word_char(c) {
-            return len;
-        }
-        len = len.saturating_add(c.len_utf8());
-    }
-    len
-}
-
-/// How many bytes the value without quotes in front has.
-fn value_len(text: &str) -> usize {
-    let mut len = 0usize;
-    'chars: for c in text.chars() {
-        if !is_value_char(c) {
-            return len;
-        }
-        len = len.saturating_add(c.len_utf8());
-    }
-    len
-}
-
-/// Where the value without quotes begins with which a text ends.
-fn value_start(text: &str) -> usize {
-    let mut start = 0usize;
-    let mut at = 0usize;
-    'chars: for c in text.chars() {
-        at = at.saturating_add(c.len_utf8());
-        if !is_value_char(c) {
-            start = at;
-        }
-    }
-    start
+/// How many bytes in front of a text such characters have.
+fn front_len(text: &str, is_such: fn(char) -> bool) -> usize {
+    text.len()
+        .saturating_sub(text.trim_start_matches(is_such).len())
 }
 
 /// How many bytes the mark in front has: one character, or two where these are equal.
@@ -70,7 +39,7 @@ fn mark_len(text: &str) -> usize {
 /// An expression, parted where its token at fault begins.
 pub fn parted(expr: &str, at: usize) -> Parts<'_> {
     let (before, rest) = expr.split_at_checked(at).unwrap_or((expr, ""));
-    let word = word_len(rest);
+    let word = front_len(rest, is_word_char);
     let len = if word > 0 { word } else { mark_len(rest) };
     let (token, after) = rest.split_at_checked(len).unwrap_or((rest, ""));
     Parts {
@@ -84,9 +53,10 @@ pub fn parted(expr: &str, at: usize) -> Parts<'_> {
 pub fn parted_at_value(expr: &str, at: usize) -> Parts<'_> {
     let before = expr.split_at_checked(at).unwrap_or((expr, "")).0;
     let (before, rest) = expr
-        .split_at_checked(value_start(before))
+        .split_at_checked(before.trim_end_matches(is_value_char).len())
         .unwrap_or((expr, ""));
-    let (token, after) = rest.split_at_checked(value_len(rest)).unwrap_or((rest, ""));
+    let len = front_len(rest, is_value_char);
+    let (token, after) = rest.split_at_checked(len).unwrap_or((rest, ""));
     Parts {
         before,
         token,

@@ -1,18 +1,17 @@
 -- What the survey of a text tells, and that outcomes are as the order of refusals says.
 use Rattle.std.proofs.Common.{◌≡◌, ◌⊎◌, ℕ, zero, suc, ◌+◌, ◌<◌, Bool, true, false, ◌||◌, nat_lt, List, [], ◌∷◌, take, Option, Some, None}
 use Rattle.std.proofs.Common.{Result, Ok, Err, refl, sym, ap, ◌∙◌, subst, inl, inr, arith, ltb-true, rules}
-use Rattle.std.{proofs.lemmas.Bool.{false≢true, or_cases, lt-ltb, or_parts}, proofs.lemmas.Option.none-some, specs.Prelude.{IfOk, IfErr}}
+use Rattle.std.{proofs.lemmas.Bool.{false≢true, or_cases, lt-ltb, or_parts}, proofs.lemmas.Option.none-some}
+use Rattle.std.specs.Prelude.{IfOk, IfErr, if◌then◌else◌}
 use Rattle.yq_core.proofs.Bools.{chosen}
-use Rattle.yq_expr_parser.specs.declared.error.ParseKind.{ParseKind}
-use Rattle.yq_expr_parser.specs.Outcome.{ParseError, parsed, refused, count_if, is_opening, is_closing, opening_count, closing_count}
-use Rattle.yq_expr_parser.specs.Outcome.{IsTooDeep, HasForeign, has_pattern, Derives, IsAtFault, ExprRefused, Answers, AnswersError}
-use Rattle.yq_expr_parser.specs.Lexing.{tokens, AreRead}
+use Rattle.yq_expr_parser.specs.Outcome.{Outcome, ParseError, parsed, not_in_profile, with_pattern, count_if, is_opening, is_closing}
+use Rattle.yq_expr_parser.specs.Outcome.{opening_count, closing_count, IsTooDeep, HasForeign, has_pattern, Derives, ComesTo, ExprRefused}
+use Rattle.yq_expr_parser.{specs.Outcome.{Answers, AnswersError}, specs.Lexing.{tokens, AreRead}}
 use Rattle.yq_expr_parser.specs.Parse.{is_unread, is_foreign_token, surveyed, program_at, unless_pattern, parse_outcome, outcome}
 use Rattle.yq_expr_parser.{proofs.TextTokens.{tokens_take, tokens_again}, proofs.UpdateTakes.program_takes}
 use Rattle.yq_expr_parser.proofs.ProgramAgain.{program_again}
 use Rattle.yq_semantics.{specs.Tokens.{Token, foreign, unread, AreTokens}, specs.Program.{Program, LiteralsHold}}
 use Rattle.yq_semantics.{specs.Grammar.literal_depth, proofs.Literals.literals_hold}
-use Rattle.yq_expr_parser.specs.declared.error.ParseKind.TheVariants as kind
 
 unread_is : (t : Token) → is_unread t ≡ true → t ≡ unread
 unread_is t h1 = search rules
@@ -119,7 +118,7 @@ none_in (t ∷ ts) o a b h shallow = elim (chosen (is_unread t) h) [
 too_deep : (ts : List Token) (n : ℕ) → DeepFrom 0 0 ts n → IsTooDeep ts
 too_deep ts n d = (n, omega arith)
 
-pub survey_refuses : (text : List ℕ) → surveyed false 0 0 (tokens text) ≡ Some true → IsAtFault kind.NotInProfile text
+pub survey_refuses : (text : List ℕ) → surveyed false 0 0 (tokens text) ≡ Some true → ComesTo text not_in_profile
 survey_refuses text h = (tokens text, tokens_take text (all_read (tokens text) false 0 0 true h), found)
   where
     found : HasForeign (tokens text) ⊎ IsTooDeep (tokens text)
@@ -151,28 +150,21 @@ one_of text p q h k = let a = (derives_again text p h).1 in let b = (derives_aga
 
 -- ---- outcomes
 
-pub outcome_parsed : (text : List ℕ) (p : Program) → outcome text ≡ parsed p → Derives text p × (has_pattern p ≡ false)
+pub outcome_comes : (text : List ℕ) (o : Outcome) → outcome text ≡ o → ComesTo text o
 unfolding outcome
-outcome_parsed text p h = search (rules, chosen, derives_in)
-
-pub outcome_refused : (text : List ℕ) (e : ParseKind) → outcome text ≡ refused e → IsAtFault e text
-unfolding outcome
-outcome_refused text e h = go (surveyed false 0 0 (tokens text)) refl h
+outcome_comes text o h = subst (ComesTo text) h (go (surveyed false 0 0 (tokens text)) refl)
   where
-    last : (o : Option Program) → program_at literal_depth (tokens text) ≡ o → surveyed false 0 0 (tokens text) ≡ Some false → unless_pattern o ≡ refused e → IsAtFault e text
-    last None r s k =
-        let passes = survey_passes text s in
-        let is : kind.Syntax ≡ e = cc in
-        subst (λ (x : ParseKind). IsAtFault x text) is (inr (tokens text, passes.0, passes.1, passes.2, λ p k. none-some _ (sym r ∙ program_again p (tokens text) k)))
-    last (Some q) r s k = elim (chosen (has_pattern q) k) [
-      | inl pattern ↦ let is : kind.Pattern ≡ e = cc in subst (λ (x : ParseKind). IsAtFault x text) is (q, derives_in text q s r, pattern.0)
-      | inr none ↦ cc
-    ]
+    last : (q : Option Program) → program_at literal_depth (tokens text) ≡ q → surveyed false 0 0 (tokens text) ≡ Some false → ComesTo text (unless_pattern q)
+    last None r s = let passes = survey_passes text s in inr (tokens text, passes.0, passes.1, passes.2, λ p k. none-some _ (sym r ∙ program_again p (tokens text) k))
+    last (Some q) r s = elim (has_pattern q) as (λ b. has_pattern q ≡ b → ComesTo text (if b then with_pattern else parsed q)) [
+      | true ↦ λ is. (q, derives_in text q s r, is)
+      | false ↦ λ is. (derives_in text q s r, is)
+    ] refl
 
-    go : (o : Option Bool) → surveyed false 0 0 (tokens text) ≡ o → parse_outcome o (program_at literal_depth (tokens text)) ≡ refused e → IsAtFault e text
-    go None s k = let is : kind.Syntax ≡ e = cc in subst (λ (x : ParseKind). IsAtFault x text) is (inl (survey_fails text s))
-    go (Some true) s k = let is : kind.NotInProfile ≡ e = cc in subst (λ (x : ParseKind). IsAtFault x text) is (survey_refuses text s)
-    go (Some false) s k = last (program_at literal_depth (tokens text)) refl s k
+    go : (o : Option Bool) → surveyed false 0 0 (tokens text) ≡ o → ComesTo text (parse_outcome o (program_at literal_depth (tokens text)))
+    go None s = inl (survey_fails text s)
+    go (Some true) s = survey_refuses text s
+    go (Some false) s = last (program_at literal_depth (tokens text)) refl s
 
 pub outcome_again : (text : List ℕ) (p : Program) → Derives text p → has_pattern p ≡ false → outcome text ≡ parsed p
 unfolding outcome
@@ -181,10 +173,11 @@ outcome_again text p h none = let again = derives_again text p h in rw (again.0,
 -- ---- clauses
 
 pub found_by : {X : Type 0} (view : X → Program) (text : List ℕ) (r : Result X ParseError) → Answers view r (outcome text) → IfOk r (λ x. Derives text (view x) × (has_pattern (view x) ≡ false))
-found_by view text r h = search (rules, outcome_parsed)
+found_by view text (Ok x) h = outcome_comes text (parsed (view x)) h
+found_by view text (Err e) h = tt
 
 error_refused : (text : List ℕ) (e : ParseError) → AnswersError e (outcome text) → ExprRefused e text
-error_refused text e h1 = search (rules, outcome_refused)
+error_refused text e h1 = search (rules, outcome_comes)
 
 pub refused_by : {X : Type 0} (view : X → Program) (text : List ℕ) (r : Result X ParseError) → Answers view r (outcome text) → IfErr r (λ e. ExprRefused e text)
 refused_by view text r h = search (rules, error_refused)
@@ -194,5 +187,5 @@ pub only_by : {X : Type 0} (view : X → Program) (text : List ℕ) (r : Result 
 only_by view text r h p d none = subst (Answers view r) (outcome_again text p d none) h
 
 pub values_by : {X : Type 0} (view : X → Program) (text : List ℕ) (r : Result X ParseError) → Answers view r (outcome text) → IfOk r (λ x. LiteralsHold (view x))
-values_by view text (Ok x) h = let d = (outcome_parsed text (view x) h).0 in literals_hold (view x) d.0 d.4
+values_by view text (Ok x) h = let d = (outcome_comes text (parsed (view x)) h).0 in literals_hold (view x) d.0 d.4
 values_by view text (Err e) h = tt

@@ -7,12 +7,11 @@ use Rattle.yq_semantics.{specs.declared.program.Operator.Operator, specs.declare
 use Rattle.yq_semantics.specs.Program.{is_simple, PathStep, key, index, each, Operand, value_at, document_index, Condition, compares, has}
 use Rattle.yq_semantics.specs.Program.{Stage, path, select, Term, literal, found, Update, assign, delete, comment, Program, read, updates}
 use Rattle.yq_semantics.{specs.Tokens.{Token, string, number, step, symbol, foreign, unread}, specs.Grammar.literal_depth}
-use Rattle.yq_expr_parser.specs.Outcome.{Outcome, parsed, refused, has_pattern, count_if, is_opening, is_closing}
-use Rattle.yq_expr_parser.specs.Lexing.{tokens, after, taken, as_number, as_string, as_step, no_tokens}
+use Rattle.yq_expr_parser.specs.Outcome.{Outcome, parsed, ill_formed, not_in_profile, with_pattern, has_pattern, count_if, is_opening}
+use Rattle.yq_expr_parser.{specs.Outcome.is_closing, specs.Lexing.{tokens, after, taken, as_number, as_string, as_step, no_tokens}}
 use Rattle.yq_core.specs.Tree as tree
 use Rattle.yq_semantics.specs.declared.program.Operator.TheVariants as operator
 use Rattle.yq_semantics.specs.declared.program.CommentPlace.TheVariants as place
-use Rattle.yq_expr_parser.specs.declared.error.ParseKind.TheVariants as kind
 
 -- a reading function: the form in front and the tokens that follow, or nothing (own)
 abbrev pub Parse : Type 0 → Type 0
@@ -248,13 +247,13 @@ surveyed other opened closed (t ∷ ts) =
 
 -- a program that is read, unless it has a pattern (own)
 abbrev pub unless_pattern : Option Program → Outcome
-unless_pattern None = refused kind.Syntax
-unless_pattern (Some p) = if has_pattern p then refused kind.Pattern else parsed p
+unless_pattern None = ill_formed
+unless_pattern (Some p) = if has_pattern p then with_pattern else parsed p
 
 -- a text's outcome, from what was found of its tokens (own)
 abbrev pub parse_outcome : Option Bool → Option Program → Outcome
-parse_outcome None p = refused kind.Syntax
-parse_outcome (Some true) p = refused kind.NotInProfile
+parse_outcome None p = ill_formed
+parse_outcome (Some true) p = not_in_profile
 parse_outcome (Some false) p = unless_pattern p
 
 -- what comes of a text (own)

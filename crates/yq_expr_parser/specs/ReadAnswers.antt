@@ -1,14 +1,13 @@
 -- What an answer of the parser says of what reading gives.
 use Rattle.std.{specs.Prelude.{◌≡◌, ℕ, ◌<◌, List, length, Option, Some, None, option_map, Result, Ok, Err, IfOk}, specs.Borrow.Bor}
-use Rattle.yq_expr_parser.{specs.Outcome.ParseError, specs.Lexing.tokens}
+use Rattle.yq_expr_parser.{specs.Outcome.{ParseError, ill_formed, refusal}, specs.Lexing.tokens}
 use Rattle.yq_semantics.specs.Tokens.{Token}
 use Rattle.yq_failure.specs.declared.failure.Failure.TheVariants as failure
-use Rattle.yq_expr_parser.specs.declared.error.ParseKind.TheVariants as kind
 
--- Syntax comes where reading gives nothing; want of memory says nothing (own).
+-- A fault of syntax comes where reading gives nothing; want of memory says nothing (own).
 abbrev pub ParseFails : {Y : Type 0} → ParseError → Option Y → Type 0
 ParseFails failure.Memory read = Unit {0}
-ParseFails (failure.Fault f) read = (f.kind ≡ kind.Syntax) × (read ≡ None)
+ParseFails (failure.Fault f) read = (refusal f ≡ ill_formed) × (read ≡ None)
 
 -- The answer, as it is seen, is what reading gives, unless memory ran out (own).
 abbrev pub GivesForm : {X Y : Type 0} → (X → Y) → Result X ParseError → Option Y → Type 0

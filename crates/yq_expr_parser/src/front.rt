@@ -1,10 +1,10 @@
 //! What is in front of a text, token by token.
 ghost use Rattle.std.specs.Prelude.{◌≡◌, ◌<◌, length, is_some, option_map, string_bytes, IfSome, IfOk};
 ghost use Rattle.yq_expr_parser.specs.ReadAnswers.{GivesForm, ReadsForm, Shortens, IsShorter, with_tokens};
-ghost use Rattle.yq_expr_parser.specs.FormAnswers.{tokens_after, taken_from, closed_form, TakesKey};
+ghost use Rattle.yq_expr_parser.{specs.FormAnswers.{tokens_after, taken_from, closed_form, TakesKey}, specs.Outcome.{refusal, ill_formed}};
 ghost use Rattle.yq_expr_parser.specs.Lexing as spec;
 
-use crate::error::{ParseError, ParseFault, ParseKind};
+use crate::error::{ParseError, ParseFault};
 use crate::token::{left_of, split_token};
 use std::alloc::Global;
 
@@ -34,16 +34,22 @@ pub(crate) fn after<'t>(text: &'t str, symbol: &str) -> Option<&'t str>
     }
 }
 
+/// The fault of a text that doesn't have in front what an expression has there; `expected` names that.
+pub(crate) fn misread(text: &str, expected: &'static str) -> ParseFault
+    ensures { refusal result ≡ ill_formed }
+{
+    ParseFault::Syntax {
+        left: left_of(text),
+        expected,
+    }
+}
+
 /// What follows the mark or word, which has to be in front.
 pub(crate) fn expect<'t>(text: &'t str, symbol: &'static str) -> Result<&'t str, ParseError>
     ensures value { GivesForm (λ r. spec.tokens r.now) result (tokens_after symbol.now text.now) }
     ensures shorter { IfOk result (λ r. length r.now < length text.now) }
 {
-    after(text, symbol).ok_or(ParseError::Fault(ParseFault {
-        kind: ParseKind::Syntax,
-        left: left_of(text),
-        expected: symbol,
-    }))
+    after(text, symbol).ok_or(ParseError::Fault(misread(text, symbol)))
 }
 
 /// A form and what follows the mark, which has to be after the form.
@@ -88,17 +94,9 @@ pub(crate) fn string<'t>(
     match split_token(text) {
         Some((token, rest)) => match token.string(alloc)? {
             Some(content) => Ok((content, rest)),
-            None => Err(ParseError::Fault(ParseFault {
-                kind: ParseKind::Syntax,
-                left: left_of(text),
-                expected: expected,
-            })),
+            None => Err(ParseError::Fault(misread(text, expected))),
         },
-        None => Err(ParseError::Fault(ParseFault {
-            kind: ParseKind::Syntax,
-            left: 0,
-            expected: expected,
-        })),
+        None => Err(ParseError::Fault(misread(text, expected))),
     }
 }
 

@@ -9,6 +9,6 @@ mod pattern;
 mod survey;
 mod token;
 
-pub use error::{ParseError, ParseFault, ParseKind};
+pub use error::{ParseError, ParseFault};
 pub use laws::{one_outcome, one_program, one_token_list};
 pub use parse::parse_expr;

@@ -1,6 +1,6 @@
 //! Texts are parsed into programs.
-ghost use Rattle.std.specs.Prelude.{IfOk, IfErr};
-ghost use Rattle.yq_expr_parser.{specs.ReadAnswers.GivesForm, specs.Lexing.tokens, specs.Outcome.{Answers, ExprRefused}};
+ghost use Rattle.std.specs.Prelude.{◌≡◌, IfOk, IfErr};
+ghost use Rattle.yq_expr_parser.{specs.ReadAnswers.GivesForm, specs.Lexing.tokens, specs.Outcome.{Answers, ExprRefused, refusal}};
 ghost use Rattle.yq_expr_parser.specs.FormAnswers.{GivesAll, IsProgramOf, AnswersEach};
 ghost use Rattle.yq_semantics.{specs.Grammar.literal_depth, specs.View.{stage_of, program_of}};
 ghost use Rattle.yq_expr_parser.specs.Parse as spec;
@@ -10,11 +10,10 @@ mod path;
 mod pipe;
 mod update;
 
-use crate::error::{ParseError, ParseFault, ParseKind};
-use crate::front::is_end;
+use crate::error::{ParseError, ParseFault};
+use crate::front::{is_end, misread};
 use crate::pattern::{has_pattern, pattern_left};
 use crate::survey::survey;
-use crate::token::left_of;
 use std::alloc::Global;
 use yq_semantics::{Program, Stage, Syntax, Update};
 
@@ -45,19 +44,12 @@ fn syntax(alloc: Global, text: &str) -> Result<Syntax, ParseError>
 {
     let (is_other, left) = survey(text)?;
     if is_other {
-        return Err(ParseError::Fault(ParseFault {
-            kind: ParseKind::NotInProfile,
-            left,
-            expected: "",
-        }));
+        return Err(ParseError::Fault(ParseFault::NotInProfile { left }));
     }
     let syntax = program(alloc, text)?;
     if has_pattern(&syntax) {
-        return Err(ParseError::Fault(ParseFault {
-            kind: ParseKind::Pattern,
-            left: pattern_left(text),
-            expected: "",
-        }));
+        let left = pattern_left(text);
+        return Err(ParseError::Fault(ParseFault::Pattern { left }));
     }
     Ok(syntax)
 }
@@ -70,11 +62,7 @@ fn read(alloc: Global, text: &str) -> Result<Vec<Stage>, ParseError>
     if is_end(rest) {
         Ok(stages)
     } else {
-        Err(ParseError::Fault(ParseFault {
-            kind: ParseKind::Syntax,
-            left: left_of(rest),
-            expected: "end",
-        }))
+        Err(ParseError::Fault(misread(rest, "end")))
     }
 }
 
@@ -87,17 +75,16 @@ fn updates(alloc: Global, text: &str) -> Result<Syntax, ParseError>
     if is_end(rest) {
         Ok(Syntax::Updates(updates))
     } else {
-        Err(ParseError::Fault(ParseFault {
-            kind: ParseKind::Syntax,
-            left: left_of(rest),
-            expected: "end",
-        }))
+        Err(ParseError::Fault(misread(rest, "end")))
     }
 }
 
-/// That one of two faults that is further on in the text.
-fn further(fault: ParseFault, other: ParseFault) -> ParseFault {
-    if fault.left < other.left {
+/// That one of two faults of the same refusal that is further on in the text.
+fn further(fault: ParseFault, other: ParseFault) -> ParseFault
+    requires { refusal fault ≡ refusal other }
+    ensures { refusal result ≡ refusal other }
+{
+    if fault.left() < other.left() {
         fault
     } else {
         other
@@ -115,14 +102,7 @@ fn program(alloc: Global, text: &str) -> Result<Syntax, ParseError>
         Err(ParseError::Fault(first)) => match updates(alloc, text) {
             Ok(syntax) => Ok(syntax),
             Err(ParseError::Memory) => Err(ParseError::Memory),
-            Err(ParseError::Fault(fault)) => {
-                let place = further(first, fault);
-                Err(ParseError::Fault(ParseFault {
-                    kind: fault.kind,
-                    left: place.left,
-                    expected: place.expected,
-                }))
-            }
+            Err(ParseError::Fault(fault)) => { Err(ParseError::Fault(further(first, fault))) }
         },
     }
 }

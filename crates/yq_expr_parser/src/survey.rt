@@ -4,7 +4,8 @@ ghost use Rattle.yq_expr_parser.{specs.ReadAnswers.GivesForm, specs.Lexing.token
 ghost use Rattle.yq_expr_parser.specs.Outcome as grammar;
 ghost use Rattle.yq_expr_parser.specs.Parse as spec;
 
-use crate::error::{ParseError, ParseFault, ParseKind};
+use crate::error::ParseError;
+use crate::front::misread;
 use crate::token::{Token, left_of, split_token};
 
 /// How many brackets may be open at one place.
@@ -50,11 +51,7 @@ pub(crate) fn survey(text: &str) -> Result<(bool, usize), ParseError>
             return Ok((other, left));
         };
         if token.is_unread() {
-            return Err(ParseError::Fault(ParseFault {
-                kind: ParseKind::Syntax,
-                left: left_of(rest),
-                expected: "",
-            }));
+            return Err(ParseError::Fault(misread(rest, "")));
         }
         opened = counted(is_opening(token), opened);
         closed = counted(is_closing(token), closed);

@@ -1,22 +1,11 @@
 -- What each layer refuses as a fault of a command, and which faults come from outside (own).
-use Rattle.std.specs.Prelude.{ℕ, Bool, true, false, if◌then◌else◌, Result, Ok, Err}
+use Rattle.std.specs.Prelude.{Bool, true, false}
 use Rattle.yq_core.specs.Answers.{ReadError}
 use Rattle.yq_semantics.specs.Judgement.{ExprError}
 use Rattle.yq_journal.specs.Refusals.{JournalError}
 use Rattle.yq_fault.specs.declared.fault.Fault.{Fault}
-use Rattle.yq_fault.specs.declared.fault.Fault.TheVariants.{File, OutFailed, Journal, Unreadable, OutOfMemory, Refused}
-use Rattle.yq_store.specs.Count.{count_plus_one, FileError}
+use Rattle.yq_fault.specs.declared.fault.Fault.TheVariants.{ReadFailed, WriteFailed, OutFailed, Journal, Unreadable, OutOfMemory, Refused}
 use Rattle.yq_failure.specs.declared.failure.Failure.TheVariants as failure
-use Rattle.yq_store.specs.declared.store.FileFault.TheVariants as file
-
--- why a file was not read or written
-abbrev pub of_store : FileError → Fault
-of_store failure.Memory = OutOfMemory
-of_store (failure.Fault f) = File f
-
--- that a file is not there
-abbrev pub not_there : Fault
-not_there = File file.NotThere
 
 -- why a call of a journal failed
 abbrev pub of_journal : JournalError → Fault
@@ -35,8 +24,8 @@ fault_of_refusal (failure.Fault why) = Refused why
 
 -- a call of the store failed
 abbrev pub is_failure : Fault → Bool
-is_failure (File file.NotThere) = false
-is_failure (File _) = true
+is_failure ReadFailed = true
+is_failure WriteFailed = true
 is_failure _ = false
 
 -- the output failed
@@ -48,8 +37,3 @@ is_output _ = false
 abbrev pub is_outer_fault : Fault → Bool
 is_outer_fault OutOfMemory = true
 is_outer_fault e = is_failure e
-
--- the store's count of failures after a command
-abbrev pub failures_after : {T : Type 0} → Result T Fault → ℕ → ℕ
-failures_after (Ok v) n = n
-failures_after (Err e) n = if is_failure e then count_plus_one n else n

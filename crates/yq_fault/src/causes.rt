@@ -5,7 +5,6 @@ use std::alloc::AllocError;
 use yq_core::ReadError;
 use yq_journal::JournalError;
 use yq_semantics::ExprError;
-use yq_store::FileError;
 
 impl From<AllocError> for Fault {
     ghost use Rattle.std.specs.Prelude.{◌≡◌};
@@ -15,20 +14,6 @@ impl From<AllocError> for Fault {
 
     fn from(_refused: AllocError) -> Fault {
         Fault::OutOfMemory
-    }
-}
-
-impl From<FileError> for Fault {
-    ghost use Rattle.std.specs.Prelude.{◌≡◌};
-    ghost use Rattle.yq_fault.specs.Faults.{of_store};
-
-    ghost from_gives = { λ x e. e ≡ of_store x };
-
-    fn from(error: FileError) -> Fault {
-        match error {
-            FileError::Memory => Fault::OutOfMemory,
-            FileError::Fault(fault) => Fault::File(fault),
-        }
     }
 }
 

@@ -6,7 +6,6 @@ use yq_args::UsageCause;
 use yq_core::{FaultKind, ReadFault};
 use yq_journal::JournalFault;
 use yq_semantics::Refusal;
-use yq_store::FileFault;
 
 /// Why a command is refused. Its text is the line that the program prints.
 #[derive(Clone, Copy, PartialEq, Eq)]
@@ -15,7 +14,13 @@ pub enum Fault {
     Syntax,
     NotInProfile,
     Pattern,
-    File(FileFault),
+    /// S1: no file has the name.
+    NotThere,
+    /// S2: the store didn't read.
+    ReadFailed,
+    /// S3: the store didn't write.
+    WriteFailed,
+    /// S4: the output didn't take what was put to it.
     OutFailed,
     Journal(JournalFault),
     Unreadable(ReadFault),
@@ -30,7 +35,6 @@ impl Display for Fault {
                 let (number, words) = numbered(fault.kind);
                 write!(f, "{number} line {}: {words}", fault.line)
             }
-            Fault::Journal(fault) => Display::fmt(fault, f),
             fault => f.write_str(line_of(fault)),
         }
     }
@@ -44,22 +48,34 @@ impl Debug for Fault {
 
 impl Error for Fault {}
 
-/// The line of a fault; of one of reading its words alone, without its number and place, and of one of a
-/// journal none.
+/// The line of a fault; of one of reading its words alone, without its number and place.
 fn line_of(fault: &Fault) -> &'static str {
     match fault {
         Fault::Usage(_) => "U1 usage",
         Fault::Syntax => "E1 syntax",
         Fault::NotInProfile => "E2 not in profile",
         Fault::Pattern => "E3 pattern",
-        Fault::File(FileFault::NotThere) => "S1 not there",
-        Fault::File(FileFault::ReadFailed) => "S2 read failed",
-        Fault::File(FileFault::WriteFailed) => "S3 write failed",
+        Fault::NotThere => "S1 not there",
+        Fault::ReadFailed => "S2 read failed",
+        Fault::WriteFailed => "S3 write failed",
         Fault::OutFailed => "S4 out failed",
-        Fault::Journal(_) => "",
+        Fault::Journal(fault) => journal_line(*fault),
         Fault::Unreadable(fault) => numbered(fault.kind).1,
         Fault::Refused(why) => refusal_line(*why),
         Fault::OutOfMemory => "M1 out of memory",
+    }
+}
+
+/// The line of a fault of a journal.
+fn journal_line(fault: JournalFault) -> &'static str {
+    match fault {
+        JournalFault::NothingToUndo => "J1 nothing to undo",
+        JournalFault::NothingToRedo => "J2 nothing to redo",
+        JournalFault::DoesNotStand => "J3 does not stand",
+        JournalFault::BadJournal => "J4 bad journal",
+        JournalFault::Unsettled => "J5 unsettled",
+        JournalFault::JournalFull => "J6 journal full",
+        JournalFault::BadCount => "J7 bad count",
     }
 }
 

@@ -4,14 +4,13 @@ use Rattle.std.{proofs.Common.{is_ok, sym, ap, ◌∙◌, subst, refl, true≢fa
 use Rattle.yq_journal.{specs.declared.moves.Move.Move, specs.Good.journal_beside, specs.Json.journal_text}
 use Rattle.yq_journal.specs.Refusals.{no_way, squash_fault, way_fault}
 use Rattle.yq_journal.specs.State.{State, journal_after, moved_text, settled_beside, squashed, with_move}
-use Rattle.yq_store.{specs.Calls.{Call, writes}, specs.Count.FileError}
+use Rattle.yq_store.specs.Calls.{Call, writes}
 use Rattle.yq_history.specs.PairAnswers.{IsReadFrom}
 use Rattle.yq_history.specs.Calls.{AfterFile, AfterJournal, CallsOnPair, IsOpened, Makes, Puts, PutsJournal, ReadsJournal, ReadsPair}
 use Rattle.yq_history.{specs.Calls.writes_of, specs.Effects.{Effect, from_pair, move_effect, squash_effect}, proofs.EffectLaws.settles}
 use Rattle.yq_history.proofs.MoveLaws.{bytes_differ, bytes_same, no_way_free}
 use Rattle.yq_fault.specs.declared.fault.Fault.{Fault}
-use Rattle.yq_failure.specs.declared.failure.Failure.TheVariants as failure
-use Rattle.yq_store.specs.declared.store.FileFault.TheVariants as file
+use Rattle.yq_fault.specs.declared.fault.Fault.TheVariants as fault
 
 -- equal errors
 pub same_err : {T : Type 0} (r : Result T Fault) (e x : Fault) → r ≡ Err e → r ≡ Err x → e ≡ x
@@ -90,7 +89,7 @@ module _ {S : Type 0} (leads : S → Call → S → Type 0) where
     opens : (b : Option (List ℕ)) (s t : S) → IsRead b s t → IsOpened pair v.items b s t
     opens b s t k = (k.0, refl, (λ go. settles (Some v.items) b v.items refl z k.1 y settled go))
 
-    opens_after : (a : Result (List ℕ) FileError) (s t : S) → AfterJournal {T = State} leads (Ok z) IsRead a s t → AfterJournal leads pair (IsOpened pair v.items) a s t
+    opens_after : (a : Result (List ℕ) Fault) (s t : S) → AfterJournal {T = State} leads (Ok z) IsRead a s t → AfterJournal leads pair (IsOpened pair v.items) a s t
     opens_after a s t k = search (rules, opens, true≢false)
 
     pub opens_journal : (j : List ℕ) (s t : S) → ReadsJournal {T = State} leads (Ok z) j IsRead s t → ReadsJournal leads pair j (IsOpened pair v.items) s t
@@ -98,7 +97,7 @@ module _ {S : Type 0} (leads : S → Call → S → Type 0) where
 
   -- a journal that was read, with a fault after that
   module _ (z : State) (text : List ℕ) (e : Fault) where
-    misses_after : (a : Result (List ℕ) FileError) (s t : S) → AfterJournal {T = State} leads (Ok z) (IsReadFrom {E = Fault} (Ok z)) a s t → AfterJournal {T = Vec ℕ Global × State} leads (Err e) (IsOpened (Err e) text) a s t
+    misses_after : (a : Result (List ℕ) Fault) (s t : S) → AfterJournal {T = State} leads (Ok z) (IsReadFrom {E = Fault} (Ok z)) a s t → AfterJournal {T = Vec ℕ Global × State} leads (Err e) (IsOpened (Err e) text) a s t
     misses_after a s t k = search (rules, true≢false)
 
     pub misses_pair : (r : Result (Vec ℕ Global × State) Fault) → r ≡ Err e → (j : List ℕ) (s t : S) → ReadsJournal {T = State} leads (Ok z) j (IsReadFrom {E = Fault} (Ok z)) s t → ReadsJournal leads r j (IsOpened r text) s t
@@ -119,10 +118,10 @@ module _ {S : Type 0} (leads : S → Call → S → Type 0) where
       none_then : (text : List ℕ) (b : Option (List ℕ)) (s t : S) → t ≡ s → Goes text b s t
       none_then text b s t same = subst (Goes text b s) (sym same) (makes_none r f j text (from_pair (Some text) b go) s (fails r e is))
 
-      unopened_journal : (text : List ℕ) (a : Result (List ℕ) FileError) (s t : S) → AfterJournal leads refusal (IsOpened refusal text) a s t → AfterJournal leads r (Goes text) a s t
+      unopened_journal : (text : List ℕ) (a : Result (List ℕ) Fault) (s t : S) → AfterJournal leads refusal (IsOpened refusal text) a s t → AfterJournal leads r (Goes text) a s t
       unopened_journal text a s t k = search (rules, none_then, same_refusal)
 
-      unopened_file : (a : Result (List ℕ) FileError) (s t : S) →
+      unopened_file : (a : Result (List ℕ) Fault) (s t : S) →
           AfterFile leads refusal (λ text. ReadsJournal leads refusal j (IsOpened refusal text)) a s t → AfterFile leads r (λ text. ReadsJournal leads r j (Goes text)) a s t
       unopened_file a s t k = search (rules, unopened_journal, same_refusal)
 
@@ -137,13 +136,12 @@ module _ {S : Type 0} (leads : S → Call → S → Type 0) where
       goes_then : (text : List ℕ) (b : Option (List ℕ)) (s : S) → IsOpened success text b s n → Goes text b s t
       goes_then text b s k = search rules
 
-      opened_journal : (text : List ℕ) (a : Result (List ℕ) FileError) (s : S) → AfterJournal leads success (IsOpened success text) a s n → AfterJournal leads r (Goes text) a s t
+      opened_journal : (text : List ℕ) (a : Result (List ℕ) Fault) (s : S) → AfterJournal leads success (IsOpened success text) a s n → AfterJournal leads r (Goes text) a s t
       opened_journal text (Ok b) s k = goes_then text (Some b) s k
-      opened_journal text (Err (failure.Fault file.NotThere)) s k = goes_then text None s k
-      opened_journal text (Err (failure.Fault file.WriteFailed)) s k = absurd k
-      opened_journal text _ s k = absurd (true≢false (ap is_ok k.0))
+      opened_journal text (Err fault.NotThere) s k = goes_then text None s k
+      opened_journal text (Err e) s k = absurd (true≢false (ap is_ok k.1))
 
-      opened_file : (a : Result (List ℕ) FileError) (s : S) →
+      opened_file : (a : Result (List ℕ) Fault) (s : S) →
           AfterFile leads success (λ text. ReadsJournal leads success j (IsOpened success text)) a s n → AfterFile leads r (λ text. ReadsJournal leads r j (Goes text)) a s t
       opened_file a s k = search (rules, opened_journal, true≢false)
 

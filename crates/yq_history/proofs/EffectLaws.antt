@@ -10,9 +10,6 @@ use Rattle.yq_history.{specs.Effects.{move_effect, joins_to, squash_effect, IsCu
 use Rattle.yq_history.{specs.Pair.IsJournal, specs.Causes.named, specs.Directions.walk_move, proofs.MoveLaws.IsMove}
 use Rattle.yq_fault.{specs.declared.fault.Fault.Fault, specs.Faults.{is_outer_fault, of_journal}}
 use Rattle.yq_store.specs.FileMap.{FileMap}
-use Rattle.yq_failure.specs.declared.failure.Failure.TheVariants as error
-use Rattle.yq_journal.specs.declared.fault.JournalFault.TheVariants as journal
-use Rattle.yq_fault.specs.declared.fault.Fault.TheVariants as fault
 
 pub on_ok : {T E P : Type 0} (r : Result T E) → P → OnOk r P
 on_ok r p = search rules

@@ -2,8 +2,8 @@
 use Rattle.std.proofs.Common.{rules, ◌≡◌, ℕ, false, List, Some, None, Result, Err, IfErr, IsTrue, IsNone, is_some, if◌then◌else◌, sym, ap}
 use Rattle.std.proofs.Common.{◌∙◌, subst}
 use Rattle.yq_journal.{specs.Refusals.{move_fault, no_way, way_fault}, specs.declared.moves.Move.Move, specs.State.{State, moved_text}}
-use Rattle.yq_store.specs.Count.{after_call, FileError}
-use Rattle.yq_fault.{specs.declared.fault.Fault.Fault, specs.Faults.{failures_after, is_outer_fault, of_store}}
+use Rattle.yq_fault.{specs.declared.fault.Fault.Fault, specs.Faults.is_outer_fault}
+use Rattle.yq_store.specs.Count.{failures_after}
 use Rattle.yq_history.proofs.MoveLaws.{no_way_free, none_of}
 use Rattle.yq_journal.specs.declared.fault.JournalFault.TheVariants as journal
 
@@ -17,7 +17,7 @@ all_outside P r out = search rules
 -- ---- writes
 
 -- what is counted of a write that failed
-pub failed_write : {T : Type 0} (r : Result T Fault) (e : FileError) (n : ℕ) → r ≡ Err (of_store e) → after_call {T = Unit {0}} (Err e) n ≡ failures_after r n
+pub failed_write : {T : Type 0} (r : Result T Fault) (e : Fault) (n : ℕ) → r ≡ Err e → failures_after {T = Unit {0}} (Err e) n ≡ failures_after r n
 failed_write r e n is = search rules
 
 -- ---- the journal

@@ -9,7 +9,6 @@ use Rattle.yq_history.specs.Steps.{squash_cause, squash_next, unless_fault}
 use Rattle.yq_history.proofs.MoveLaws.{cut, is_refused, ends, either, on_ok_map, on_err_map, same_content, wrote_journal}
 use Rattle.yq_fault.{specs.declared.fault.Fault.Fault, specs.Faults.{is_outer_fault, of_journal}}
 use Rattle.yq_store.specs.FileMap.{FileMap}
-use Rattle.yq_journal.specs.declared.fault.JournalFault.TheVariants as journal
 use Rattle.yq_fault.specs.declared.fault.Fault.TheVariants as fault
 
 -- a squash that isn't refused is of some edits, as many as are done at most

@@ -2,11 +2,9 @@
 use Rattle.std.specs.Prelude.{◌≡◌, ◌⊎◌, ℕ, List, [], ◌∷◌, false, is_ok, if◌then◌else◌, Option, Some, None, Result, Ok, Err, Vec}
 use Rattle.std.{specs.Str.bytes_eq, specs.declared.alloc.Global.Global}
 use Rattle.yq_journal.{specs.Json.journal_text, specs.State.State}
-use Rattle.yq_store.{specs.Calls.{Call, reads, writes}, specs.Count.{FileError, IsOfRead, IsOfWrite}}
-use Rattle.yq_fault.{specs.declared.fault.Fault.Fault, specs.declared.fault.Fault.TheVariants.{File, OutOfMemory}, specs.Faults.of_store}
+use Rattle.yq_store.{specs.Calls.{Call, reads, writes}, specs.Count.{IsOfRead, IsOfWrite}}
+use Rattle.yq_fault.{specs.declared.fault.Fault.Fault, specs.declared.fault.Fault.TheVariants.NotThere}
 use Rattle.yq_history.specs.Effects.{Effect, refuses, writes_nothing, writes_both, from_pair}
-use Rattle.yq_failure.specs.declared.failure.Failure.TheVariants as failure
-use Rattle.yq_store.specs.declared.store.FileFault.TheVariants as file
 
 -- the writes of a change of a file's text and journal: the journal with the move open, the text, and the journal after it; of a text that stays equal
 -- the journal after it alone
@@ -22,25 +20,23 @@ IsOpened (Err e) text beside s t = t ≡ s
 
 module _ {S T : Type 0} (leads : S → Call → S → Type 0) (r : Result T Fault) where
   -- what follows a file's bytes; where they couldn't be read, the command is refused without another call
-  abbrev pub AfterFile : (List ℕ → S → S → Type 0) → Result (List ℕ) FileError → S → S → Type 0
+  abbrev pub AfterFile : (List ℕ → S → S → Type 0) → Result (List ℕ) Fault → S → S → Type 0
   AfterFile next (Ok b) s t = next b s t
-  AfterFile next (Err e) s t = IsOfRead e × (r ≡ Err (of_store e)) × (t ≡ s)
+  AfterFile next (Err e) s t = IsOfRead e × (r ≡ Err e) × (t ≡ s)
 
   -- the same of a journal's, which need not be there
-  abbrev pub AfterJournal : (Option (List ℕ) → S → S → Type 0) → Result (List ℕ) FileError → S → S → Type 0
+  abbrev pub AfterJournal : (Option (List ℕ) → S → S → Type 0) → Result (List ℕ) Fault → S → S → Type 0
   AfterJournal next (Ok b) s t = next (Some b) s t
-  AfterJournal next (Err (failure.Fault file.NotThere)) s t = next None s t
-  AfterJournal next (Err (failure.Fault file.ReadFailed)) s t = (r ≡ Err (File file.ReadFailed)) × (t ≡ s)
-  AfterJournal next (Err (failure.Fault file.WriteFailed)) s t = ⊥
-  AfterJournal next (Err failure.Memory) s t = (r ≡ Err OutOfMemory) × (t ≡ s)
+  AfterJournal next (Err NotThere) s t = next None s t
+  AfterJournal next (Err e) s t = IsOfRead e × (r ≡ Err e) × (t ≡ s)
 
   -- a file is read, and then goes on what follows
   abbrev pub ReadsFile : List ℕ → (List ℕ → S → S → Type 0) → S → S → Type 0
-  ReadsFile file next s t = (a : Result (List ℕ) FileError) × (m : S) × leads s (reads file a) m × AfterFile next a m t
+  ReadsFile file next s t = (a : Result (List ℕ) Fault) × (m : S) × leads s (reads file a) m × AfterFile next a m t
 
   -- the same of a journal
   abbrev pub ReadsJournal : List ℕ → (Option (List ℕ) → S → S → Type 0) → S → S → Type 0
-  ReadsJournal journal next s t = (a : Result (List ℕ) FileError) × (m : S) × leads s (reads journal a) m × AfterJournal next a m t
+  ReadsJournal journal next s t = (a : Result (List ℕ) Fault) × (m : S) × leads s (reads journal a) m × AfterJournal next a m t
 
   -- a file is read, and its journal after it
   abbrev pub ReadsPair : List ℕ → List ℕ → (List ℕ → Option (List ℕ) → S → S → Type 0) → S → S → Type 0
@@ -51,7 +47,7 @@ module _ {S T : Type 0} (leads : S → Call → S → Type 0) (r : Result T Faul
   Puts [] s t = t ≡ s
   Puts (p ∷ ps) s t =
       ((is_ok r ≡ false) × (t ≡ s))
-      ⊎ (((e : FileError) × IsOfWrite e × leads s (writes p.0 p.1 (Err e)) t × (r ≡ Err (of_store e)))
+      ⊎ (((e : Fault) × IsOfWrite e × leads s (writes p.0 p.1 (Err e)) t × (r ≡ Err e))
       ⊎ ((m : S) × leads s (writes p.0 p.1 (Ok tt)) m × Puts ps m t))
 
   -- the text of a journal is put under its name

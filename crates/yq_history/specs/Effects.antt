@@ -6,7 +6,7 @@ use Rattle.yq_journal.specs.Refusals.{no_way, squash_fault}
 use Rattle.yq_journal.specs.State.{State, journal_after, moved_text, with_move, settled_beside, squashed}
 use Rattle.yq_journal.specs.declared.fault.JournalFault.TheVariants.{DoesNotStand, BadJournal, Unsettled}
 use Rattle.yq_history.{specs.Pair.IsJournal, specs.Output.{Output, bytes, record_output}, specs.Causes.{Cause, IsFor, named}}
-use Rattle.yq_fault.{specs.declared.fault.Fault.Fault, specs.Faults.{is_outer_fault, not_there}}
+use Rattle.yq_fault.{specs.declared.fault.Fault.Fault, specs.Faults.is_outer_fault}
 use Rattle.yq_store.specs.FileMap.{FileMap}
 use Rattle.yq_fault.specs.declared.fault.Fault.TheVariants as fault
 
@@ -29,7 +29,7 @@ from_journal (Some s) t go = from_settled (settled_beside s t) t go
 
 -- the same, from the bytes of the file and of the journal; S1 where the file isn't there
 abbrev pub from_pair : Option (List ℕ) → Option (List ℕ) → (List ℕ → State → Effect) → Effect
-from_pair None journal go = refuses (named not_there)
+from_pair None journal go = refuses (named fault.NotThere)
 from_pair (Some t) journal go = from_journal (journal_beside journal) t go
 
 -- the same, from what a store holds by the names of both

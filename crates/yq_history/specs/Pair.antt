@@ -4,7 +4,7 @@ use Rattle.std.{specs.FinMap.{get, insert}, specs.declared.alloc.Global.Global}
 use Rattle.yq_journal.{specs.Good.{Good, PairHolds, AtRest, journal_beside}, specs.History.History, specs.Json.{journal_in, journal_text}}
 use Rattle.yq_journal.specs.State.{State}
 use Rattle.yq_history.{specs.Causes.{Cause, IsFor}, specs.declared.opened.Pair.Pair}
-use Rattle.yq_fault.{specs.declared.fault.Fault.Fault, specs.Faults.{is_outer_fault, not_there}}
+use Rattle.yq_fault.{specs.declared.fault.Fault.Fault, specs.declared.fault.Fault.TheVariants.NotThere, specs.Faults.is_outer_fault}
 use Rattle.yq_store.specs.FileMap.{FileMap}
 
 -- a file and its journal have two names
@@ -38,7 +38,7 @@ pub record PairAtRest (content : FileMap) (file journal : List ℕ) (s : State) 
 -- a text and its journal, read and settled: an error only where there is no file, or from outside
 abbrev pub Opens : FileMap → List ℕ → List ℕ → Option History → Result (Vec ℕ Global × State) Fault → Type 0
 Opens content file journal None (Ok p) = ⊥
-Opens content file journal None (Err e) = (e ≡ not_there) ⊎ IsTrue (is_outer_fault e)
+Opens content file journal None (Err e) = (e ≡ NotThere) ⊎ IsTrue (is_outer_fault e)
 Opens content file journal (Some h) (Ok p) = PairAtRest content file journal p.1 p.0.items h
 Opens content file journal (Some h) (Err e) = IsTrue (is_outer_fault e)
 

@@ -3,7 +3,6 @@ use Rattle.std.specs.Prelude.{ℕ, [], Option, Some, None, option_map}
 use Rattle.yq_journal.{specs.declared.fault.JournalFault.JournalFault, specs.declared.moves.Move.Move}
 use Rattle.yq_journal.{specs.Good.{after_move, squash_refusal, step_fault}, specs.History.{History, after_squash}}
 use Rattle.yq_history.specs.Causes.{Cause, named}
-use Rattle.yq_fault.specs.Faults.{not_there}
 use Rattle.yq_fault.specs.declared.fault.Fault.TheVariants as fault
 
 -- a history that stays where there is a fault, and else goes on
@@ -13,7 +12,7 @@ unless_fault (Some f) h k = h
 
 -- why an undo or a redo is refused
 abbrev pub move_cause : Move → Option History → Option Cause
-move_cause step None = Some (named not_there)
+move_cause step None = Some (named fault.NotThere)
 move_cause step (Some h) = option_map (λ f. named (fault.Journal f)) (step_fault h step)
 
 -- the history after it
@@ -23,7 +22,7 @@ move_next step (Some h) = Some (unless_fault (step_fault h step) h (after_move h
 
 -- why a squash is refused
 abbrev pub squash_cause : ℕ → Option History → Option Cause
-squash_cause n None = Some (named not_there)
+squash_cause n None = Some (named fault.NotThere)
 squash_cause n (Some h) = option_map (λ f. named (fault.Journal f)) (squash_refusal h n)
 
 -- the history after it
@@ -33,5 +32,5 @@ squash_next n (Some h) = Some (unless_fault (squash_refusal h n) h (after_squash
 
 -- why a file's history isn't listed
 abbrev pub listing_cause : Option History → Option Cause
-listing_cause None = Some (named not_there)
+listing_cause None = Some (named fault.NotThere)
 listing_cause (Some h) = None

@@ -2,7 +2,8 @@
 ghost use Rattle.yq_history.{specs.Leaves.{KeepsOthers, LeavesRefused, RefusedFor, RefusedOnlyFor}, specs.Effects.move_effect};
 ghost use Rattle.yq_history.specs.OpenedAnswers.{CutsShort, GoodAfter, GoodAround, HasMoved, HoldsText, MakesFrom, StaysIfBarred};
 ghost use Rattle.yq_history.specs.OpenedAnswers.{way_barred};
-ghost use Rattle.yq_fault.specs.Faults.{is_output, failures_after};
+ghost use Rattle.yq_fault.specs.Faults.{is_output};
+ghost use Rattle.yq_store.specs.Count.{failures_after};
 ghost use Rattle.std.specs.Prelude.{◌≡◌, ◌≢◌, false, IsTrue, IfErr};
 ghost use Rattle.yq_journal.specs.State.{MovesTo};
 

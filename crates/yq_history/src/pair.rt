@@ -1,16 +1,16 @@
 //! A file and its journal, read from a store and written to it.
-ghost use Rattle.yq_store.specs.Changes.{WritesOnly};
+ghost use Rattle.yq_store.{specs.Changes.WritesOnly, specs.Count.failures_after};
 ghost use Rattle.yq_history.{specs.Leaves.HasState, specs.Calls.{PutsJournal, ReadsJournal}};
 ghost use Rattle.yq_history.specs.PairAnswers.{BadOnlyIfNone, IsReadFrom, FindsPair, MissesPair, OpensText, OpensBy, OpensPair};
 ghost use Rattle.yq_history.specs.PairAnswers.{WritesState, MayWriteState};
-ghost use Rattle.yq_fault.specs.Faults.{is_outer_fault, is_output, failures_after};
+ghost use Rattle.yq_fault.specs.Faults.{is_outer_fault, is_output};
 ghost use Rattle.std.specs.Prelude.{◌≡◌, false, IfOk, IfErr, IsTrue, IsNone};
 
 use crate::Pair;
 use std::alloc::Global;
 use yq_fault::Fault;
 use yq_journal::Journal;
-use yq_store::{FileError, FileFault, Store};
+use yq_store::Store;
 
 /// Reads a journal; one that isn't there is that of a file that was never edited.
 fn read_journal<D: Store>(alloc: Global, store: &mut D, journal: &str) -> Result<Journal, Fault>
@@ -23,8 +23,8 @@ fn read_journal<D: Store>(alloc: Global, store: &mut D, journal: &str) -> Result
 {
     match store.read(alloc, journal) {
         Ok(bytes) => Ok(Journal::from_json(alloc, &bytes)?),
-        Err(FileError::Fault(FileFault::NotThere)) => Ok(Journal::new(alloc)),
-        Err(error) => Err(Fault::from(error)),
+        Err(Fault::NotThere) => Ok(Journal::new(alloc)),
+        Err(fault) => Err(fault),
     }
 }
 

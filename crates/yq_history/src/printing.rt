@@ -2,7 +2,8 @@
 ghost use Rattle.yq_core.specs.Strings.{AddsText};
 ghost use Rattle.yq_history.{specs.Output.{IsOutputText, record_output}, specs.Visible.{in_quotes, visible}};
 ghost use Rattle.yq_history.{specs.Report.{nothing, report_by}, specs.PairAnswers.{ArrivesListed, Lists, CallsListing, ListsPair, Prints}};
-ghost use Rattle.yq_fault.specs.Faults.{is_output, failures_after};
+ghost use Rattle.yq_fault.specs.Faults.{is_output};
+ghost use Rattle.yq_store.specs.Count.{failures_after};
 ghost use Rattle.std.{specs.Prelude.{◌≡◌, IfErr, IfOk, IsTrue, false, true, decimal}, specs.String.string_bytes};
 ghost use Rattle.json.specs.Print as json;
 ghost use Rattle.yq_history.specs.Listing as spec;

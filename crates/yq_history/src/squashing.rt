@@ -1,9 +1,9 @@
 //! Squashes: the last edits of a file joined into one in its journal.
-ghost use Rattle.yq_store.specs.Changes.{WritesOnly};
+ghost use Rattle.yq_store.{specs.Changes.WritesOnly, specs.Count.failures_after};
 ghost use Rattle.yq_history.{specs.Actions.squashing, specs.Leaves.{LeavesRefused, RefusedFor}};
 ghost use Rattle.yq_history.specs.OpenedAnswers.{ActsFrom, MakesFrom, WorksFrom};
 ghost use Rattle.yq_history.specs.PairAnswers.{ActsOnPair, CallsAction, WorksOnPair};
-ghost use Rattle.yq_fault.specs.Faults.{is_output, failures_after};
+ghost use Rattle.yq_fault.specs.Faults.{is_output};
 ghost use Rattle.std.specs.Prelude.{◌≡◌, IfErr, IsTrue, false};
 ghost use Rattle.yq_journal.specs.Refusals.{squash_fault};
 

@@ -2,7 +2,8 @@
 ghost use Rattle.yq_history.{specs.Actions.walking, specs.Directions.walk_move, specs.Leaves.{KeepsOthers, LeavesRefused}};
 ghost use Rattle.yq_history.{specs.Effects.move_effect, specs.OpenedAnswers.{ActsFrom, MakesFrom, WorksFrom}};
 ghost use Rattle.yq_history.specs.PairAnswers.{ActsOnPair, CallsAction, WorksOnPair};
-ghost use Rattle.yq_fault.specs.Faults.{is_output, failures_after};
+ghost use Rattle.yq_fault.specs.Faults.{is_output};
+ghost use Rattle.yq_store.specs.Count.{failures_after};
 ghost use Rattle.std.specs.Prelude.{◌≡◌, None, false, IsTrue, IfErr};
 ghost use Rattle.yq_journal.{specs.Refusals.way_fault, specs.State.MovesTo};
 

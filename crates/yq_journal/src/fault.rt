@@ -1,31 +1,23 @@
 //! Why a journal refuses.
 
-use thiserror::Error;
 use yq_failure::Failure;
 
 /// What is at fault.
-#[derive(Clone, Copy, Debug, PartialEq, Eq, Error)]
+#[derive(Clone, Copy, Debug, PartialEq, Eq)]
 pub enum JournalFault {
-    /// No record is done.
-    #[error("J1 nothing to undo")]
+    /// J1: no record is done.
     NothingToUndo,
-    /// No record is undone.
-    #[error("J2 nothing to redo")]
+    /// J2: no record is undone.
     NothingToRedo,
-    /// The text doesn't have the length or the bytes that a record tells.
-    #[error("J3 does not stand")]
+    /// J3: the text doesn't have the length or the bytes that a record tells.
     DoesNotStand,
-    /// The bytes are no journal.
-    #[error("J4 bad journal")]
+    /// J4: the bytes are no journal.
     BadJournal,
-    /// A move is open.
-    #[error("J5 unsettled")]
+    /// J5: a move is open.
     Unsettled,
-    /// The cursor is at the last record that a journal may hold.
-    #[error("J6 journal full")]
+    /// J6: the cursor is at the last record that a journal may hold.
     JournalFull,
-    /// So many records can't be joined.
-    #[error("J7 bad count")]
+    /// J7: so many records can't be joined.
     BadCount,
 }
 

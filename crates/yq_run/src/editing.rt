@@ -6,7 +6,8 @@ ghost use Rattle.yq_commands.specs.Editing.{LengthsLead, RefusedBy, SplicesLead,
 ghost use Rattle.yq_commands.{specs.Expecting.changes_as_expected, specs.FileEdits.IsEditedBy};
 ghost use Rattle.yq_commands.specs.ProgramAnswers.{EditsParsed, GivesChange, GivesProgramChange, ShowsEdit, parsed_effect};
 ghost use Rattle.yq_history.{specs.OpenedAnswers.MakesFrom, specs.Report.report_by};
-ghost use Rattle.yq_fault.specs.Faults.{is_failure, is_output, failures_after};
+ghost use Rattle.yq_fault.specs.Faults.{is_failure, is_output};
+ghost use Rattle.yq_store.specs.Count.{failures_after};
 
 use std::alloc::{AllocError, Global};
 use yq_args::EvalOptions;

@@ -4,7 +4,8 @@ ghost use Rattle.yq_commands.specs.CommandDone.{IsSilent, MatchesStill, MatchesU
 ghost use Rattle.yq_commands.{specs.CommandEffects.{IsUnparsed, expression_fault, fault_of}, specs.Editing.program_in};
 ghost use Rattle.yq_commands.{specs.Calls.{CallsOf, CallsOfUpdate}, specs.Help.Helps, specs.ProgramAnswers.{Executes, Updates}};
 ghost use Rattle.yq_history.specs.Report.{nothing, report_by};
-ghost use Rattle.yq_fault.specs.Faults.{is_output, failures_after};
+ghost use Rattle.yq_fault.specs.Faults.{is_output};
+ghost use Rattle.yq_store.specs.Count.{failures_after};
 
 use crate::editing::edit_from;
 use crate::evaluating::evaluate;

@@ -10,7 +10,7 @@ use yq_fault::Fault;
 use yq_journal::JournalFault;
 use yq_run::Answer::Refused;
 use yq_run::{Answer, MemoryOut, run_list};
-use yq_store::{FileFault, Left, MemoryStore};
+use yq_store::{Left, MemoryStore};
 
 /// How many calls of the store the list of each kind of command makes where none fails.
 const CALLS: u64 = 43;
@@ -48,8 +48,7 @@ fn failures_in(answers: &[Answer]) -> Option<u32> {
     let mut count = 0u32;
     'answers: for answer in answers {
         match answer {
-            Refused(Fault::File(FileFault::ReadFailed | FileFault::WriteFailed)) => count =
-                count.saturating_add(1),
+            Refused(Fault::ReadFailed | Fault::WriteFailed) => count = count.saturating_add(1),
             Refused(Fault::OutOfMemory) => return None,
             _ => (),
         }

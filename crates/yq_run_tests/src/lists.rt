@@ -9,7 +9,7 @@ use yq_journal::JournalFault;
 use yq_run::Answer::{Done, NoMatch, Refused};
 use yq_run::{Answer, MemoryOut, run_list};
 use yq_semantics::Refusal;
-use yq_store::{FileFault, Left, MemoryStore};
+use yq_store::{Left, MemoryStore};
 
 /// The commands. The calls of the store that each makes: the file and the journal are read by a call each, but
 /// for what is shown, which reads the file alone; an edit, an undo and a redo write the journal twice and the
@@ -62,7 +62,7 @@ fn wanted() -> [Answer; 16] {
         Done,
         Done,
         Refused(Fault::OutFailed),
-        Refused(Fault::File(FileFault::WriteFailed)),
+        Refused(Fault::WriteFailed),
         Done,
         Done,
     ]

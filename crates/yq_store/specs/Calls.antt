@@ -1,14 +1,15 @@
 -- Calls of a store, with what it answered (own).
 use Rattle.std.{specs.Prelude.{ℕ, List, Result, Ok, Err, Vec}, specs.declared.alloc.Global.Global}
-use Rattle.yq_store.specs.Count.{count_plus_one, FileError}
+use Rattle.yq_fault.specs.declared.fault.Fault.{Fault}
+use Rattle.yq_store.specs.Count.{count_plus_one}
 
 -- a name was read, or bytes were put under it
 pub data Call : Type 0 where
-  reads : List ℕ → Result (List ℕ) FileError → Call
-  writes : List ℕ → List ℕ → Result (Unit {0}) FileError → Call
+  reads : List ℕ → Result (List ℕ) Fault → Call
+  writes : List ℕ → List ℕ → Result (Unit {0}) Fault → Call
 
 -- what was read
-abbrev pub bytes_read : Result (Vec ℕ Global) FileError → Result (List ℕ) FileError
+abbrev pub bytes_read : Result (Vec ℕ Global) Fault → Result (List ℕ) Fault
 bytes_read (Ok v) = Ok v.items
 bytes_read (Err e) = Err e
 

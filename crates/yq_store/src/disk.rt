@@ -30,7 +30,7 @@ use crate::disk::links::is_absence;
 use crate::disk::locking::LockRequest;
 use crate::disk::purpose::Purpose;
 use crate::disk::reading::read_text;
-use crate::store::{FileError, FileFault, Store};
+use crate::store::Store;
 use std::alloc::Global;
 use std::fs::File;
 use std::io::{Eprint, ErrorKind};
@@ -38,6 +38,7 @@ use std::random::RandomSource;
 use std::rt::{Env, Files};
 use std::time::Clock;
 use std::{fs, io};
+use yq_fault::Fault;
 
 /// Real files, for one command, which reads its file before it reads or writes anything else. A
 /// temporary file with the new bytes is written beside the old file, and renamed over it. What is
@@ -158,27 +159,27 @@ impl<
     ghost leads = { λ s c t. (t.reads ≡ reads_after c s.reads) ×
         (t.writes ≡ writes_after c s.writes) };
 
-    fn read(&mut self, alloc: Global, name: &str) -> Result<Vec<u8>, FileError> {
+    fn read(&mut self, alloc: Global, name: &str) -> Result<Vec<u8>, Fault> {
         self.reads = self.reads.saturating_add(1);
         match self.bytes_of(alloc, name) {
             Ok(Some(bytes)) => Ok(bytes),
-            Ok(None) => Err(FileError::Fault(FileFault::NotThere)),
-            Err(e) if e.kind() == ErrorKind::OutOfMemory => Err(FileError::Memory),
+            Ok(None) => Err(Fault::NotThere),
+            Err(e) if e.kind() == ErrorKind::OutOfMemory => Err(Fault::OutOfMemory),
             Err(_) => {
                 self.failures = self.failures.saturating_add(1);
-                Err(FileError::Fault(FileFault::ReadFailed))
+                Err(Fault::ReadFailed)
             }
         }
     }
 
-    fn replace(&mut self, name: &str, bytes: &[u8]) -> Result<(), FileError> {
+    fn replace(&mut self, name: &str, bytes: &[u8]) -> Result<(), Fault> {
         self.writes = self.writes.saturating_add(1);
         match self.put(name, bytes) {
             Ok(()) => Ok(()),
-            Err(e) if e.kind() == ErrorKind::OutOfMemory => Err(FileError::Memory),
+            Err(e) if e.kind() == ErrorKind::OutOfMemory => Err(Fault::OutOfMemory),
             Err(_) => {
                 self.failures = self.failures.saturating_add(1);
-                Err(FileError::Fault(FileFault::WriteFailed))
+                Err(Fault::WriteFailed)
             }
         }
     }

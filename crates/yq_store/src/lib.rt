@@ -9,4 +9,4 @@ pub use disk::DiskStore;
 pub use disk::hint::JournalHint;
 pub use disk::purpose::Purpose;
 pub use memory::{Left, MemoryStore};
-pub use store::{FileError, FileFault, Store};
+pub use store::Store;

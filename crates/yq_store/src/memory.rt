@@ -3,9 +3,10 @@ ghost use Rattle.std.{specs.Prelude.{◌≡◌, true, [], IfOk, option_map}, spe
 ghost use Rattle.yq_store.{specs.Calls.{reads_after, writes_after}, specs.FileMap.file_bytes};
 ghost use Rattle.std.specs.FinMap as map;
 
-use crate::store::{FileError, FileFault, Store};
+use crate::store::Store;
 use std::alloc::{AllocError, Global};
 use std::collections::VecDeque;
+use yq_fault::Fault;
 
 /// What a write that fails leaves.
 #[derive(Clone, Copy, PartialEq, Eq)]
@@ -138,31 +139,31 @@ impl Store for MemoryStore {
     ghost leads = { λ s c t. (t.reads ≡ reads_after c s.reads) ×
         (t.writes ≡ writes_after c s.writes) };
 
-    fn read(&mut self, alloc: Global, name: &str) -> Result<Vec<u8>, FileError> {
+    fn read(&mut self, alloc: Global, name: &str) -> Result<Vec<u8>, Fault> {
         self.reads = self.reads.saturating_add(1);
         if self.next_call().is_some() {
             self.failures = self.failures.saturating_add(1);
-            return Err(FileError::Fault(FileFault::ReadFailed));
+            return Err(Fault::ReadFailed);
         }
         match find_bytes(&self.log, name) {
-            None => Err(FileError::Fault(FileFault::NotThere)),
+            None => Err(Fault::NotThere),
             Some(bytes) => Ok(bytes.as_slice().to_vec(alloc)?),
         }
     }
 
     #[tactic(auto, using(crate::specs::FileMap::get_other))]
-    fn replace(&mut self, name: &str, bytes: &[u8]) -> Result<(), FileError> {
+    fn replace(&mut self, name: &str, bytes: &[u8]) -> Result<(), Fault> {
         self.writes = self.writes.saturating_add(1);
         let next_call = self.next_call();
         if next_call == Some(Left::OldBytes) {
             self.failures = self.failures.saturating_add(1);
-            return Err(FileError::Fault(FileFault::WriteFailed));
+            return Err(Fault::WriteFailed);
         }
         let entry = entry(self.alloc, name, bytes)?;
-        self.log.push_front(entry)?;
+        self.log.push_front(entry).map_err(AllocError::from)?;
         if next_call == Some(Left::NewBytes) {
             self.failures = self.failures.saturating_add(1);
-            return Err(FileError::Fault(FileFault::WriteFailed));
+            return Err(Fault::WriteFailed);
         }
         Ok(())
     }

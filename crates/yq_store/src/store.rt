@@ -1,25 +1,11 @@
 //! Stores of named files.
 ghost use Rattle.std.specs.Prelude.{◌≡◌, ℕ, Bool, IsTrue, OnOk, OnErr, IfErr};
-ghost use Rattle.yq_store.{specs.FileMap.FileMap, specs.Count.{after_call, IsOfRead, IsOfWrite}};
+ghost use Rattle.yq_store.{specs.FileMap.FileMap, specs.Count.{failures_after, IsOfRead, IsOfWrite}};
 ghost use Rattle.yq_store.specs.Calls.{Call, reads, writes, bytes_read};
 ghost use Rattle.yq_store.specs.Changes.{ReadsHeld, AbsentIfNotThere, HasPut, MayWrite, StaysWithoutMemory, WritesOnly};
 
 use std::alloc::Global;
-use yq_failure::Failure;
-
-/// What is at fault where a file is read or written.
-#[derive(Clone, Copy, Debug, PartialEq, Eq)]
-pub enum FileFault {
-    /// No file has the name.
-    NotThere,
-    /// The store didn't read.
-    ReadFailed,
-    /// The store didn't write.
-    WriteFailed,
-}
-
-/// Why a file was not read or written.
-pub type FileError = Failure<FileFault>;
+use yq_fault::Fault;
 
 /// A store of named files.
 pub trait Store {
@@ -37,21 +23,21 @@ pub trait Store {
     ghost leads: { Self → Call → Self → Type 0 };
 
     /// The bytes of a file.
-    fn read(&mut self, alloc: Global, name: &str) -> Result<Vec<u8>, FileError>
+    fn read(&mut self, alloc: Global, name: &str) -> Result<Vec<u8>, Fault>
         ensures found { IsTrue keeps → ReadsHeld (content self.old) name.now result }
         ensures absent { IsTrue keeps → AbsentIfNotThere (content self.old) name.now result }
         ensures fault { IfErr result IsOfRead }
         ensures same { IsTrue keeps → content self.new ≡ content self.old }
-        ensures count { failures self.new ≡ after_call result (failures self.old) }
+        ensures count { failures self.new ≡ failures_after result (failures self.old) }
         ensures call { leads self.old (reads name.now (bytes_read result)) self.new };
 
     /// Gives a name new bytes. A write that fails leaves the old bytes or the whole new ones.
-    fn replace(&mut self, name: &str, bytes: &[u8]) -> Result<(), FileError>
+    fn replace(&mut self, name: &str, bytes: &[u8]) -> Result<(), Fault>
         ensures written { IsTrue keeps → OnOk result (HasPut content self.old self.new name.now bytes.now) }
         ensures err { IsTrue keeps → OnErr result (MayWrite content self.old self.new name.now bytes.now) }
         ensures memory { IsTrue keeps → StaysWithoutMemory content self.old self.new result }
         ensures fault { IfErr result IsOfWrite }
         ensures others { IsTrue keeps → WritesOnly content self.old self.new name.now }
-        ensures count { failures self.new ≡ after_call result (failures self.old) }
+        ensures count { failures self.new ≡ failures_after result (failures self.old) }
         ensures call { leads self.old (writes name.now bytes.now result) self.new };
 }

@@ -5,9 +5,8 @@ ghost use Rattle.yq_expr_parser.specs.FormAnswers.{ReadsOf, ReadsAll, literal_it
 ghost use Rattle.yq_core.{specs.Values.{value_node, field_of}, specs.Keys.are_distinct};
 ghost use Rattle.yq_expr_parser.specs.Parse as spec;
 
-use crate::error::{ParseError, ParseFault, ParseKind};
-use crate::front::{after, closed, expect, number, string};
-use crate::token::left_of;
+use crate::error::ParseError;
+use crate::front::{after, closed, expect, misread, number, string};
 use std::alloc::{AllocError, Global};
 use yq_core::{Scalar, Value};
 use yq_scalar_reader::are_distinct;
@@ -92,11 +91,7 @@ pub(super) fn literal(alloc: Global, text: &str, depth: usize) -> Result<(Value,
         if keys_differ(alloc, &fields)? {
             return Ok((Value::Map(fields), rest));
         }
-        return Err(ParseError::Fault(ParseFault {
-            kind: ParseKind::Syntax,
-            left: left_of(text),
-            expected: "other keys",
-        }));
+        return Err(ParseError::Fault(misread(text, "other keys")));
     }
     scalar_value(alloc, text)
 }

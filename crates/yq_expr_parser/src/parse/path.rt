@@ -5,9 +5,8 @@ ghost use Rattle.yq_expr_parser.specs.FormAnswers.{ReadsAll};
 ghost use Rattle.yq_semantics.specs.View.{program_step};
 ghost use Rattle.yq_expr_parser.specs.Parse as spec;
 
-use crate::error::{ParseError, ParseFault, ParseKind};
-use crate::front::{after, closed, key, number, string};
-use crate::token::left_of;
+use crate::error::ParseError;
+use crate::front::{after, closed, key, misread, number, string};
 use std::alloc::Global;
 use yq_scalar_reader::int_value;
 use yq_semantics::PathStep;
@@ -22,11 +21,7 @@ fn bracketed(alloc: Global, text: &str) -> Result<(PathStep, &str), ParseError>
         return Ok((PathStep::Each, rest));
     }
     if let Some((digits, rest)) = number(text) {
-        let index = int_value(digits).ok_or(ParseError::Fault(ParseFault {
-            kind: ParseKind::Syntax,
-            left: left_of(text),
-            expected: "step",
-        }))?;
+        let index = int_value(digits).ok_or(ParseError::Fault(misread(text, "step")))?;
         return closed(PathStep::Index(index), rest, "]");
     }
     let (key, rest) = string(alloc, text, "step")?;
@@ -86,11 +81,7 @@ pub(super) fn path(alloc: Global, text: &str) -> Result<(Vec<PathStep>, &str), P
     ensures shorter { Shortens text.now result }
 {
     if after(text, "[").is_some() {
-        return Err(ParseError::Fault(ParseFault {
-            kind: ParseKind::Syntax,
-            left: left_of(text),
-            expected: ".",
-        }));
+        return Err(ParseError::Fault(misread(text, ".")));
     }
     let (steps, rest) = steps(alloc, text)?;
     if steps.is_empty() {

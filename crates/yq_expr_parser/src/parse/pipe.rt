@@ -6,9 +6,8 @@ ghost use Rattle.yq_expr_parser.specs.Parse as spec;
 
 use super::literal::scalar;
 use super::path::path;
-use crate::error::{ParseError, ParseFault, ParseKind};
-use crate::front::{after, closed, expect, string};
-use crate::token::left_of;
+use crate::error::ParseError;
+use crate::front::{after, closed, expect, misread, string};
 use std::alloc::Global;
 use yq_semantics::{Comparison, Condition, Operand, Stage, is_simple};
 
@@ -28,11 +27,7 @@ fn operand(alloc: Global, text: &str) -> Result<(Operand, &str), ParseError>
     if is_simple(&steps) {
         return Ok((Operand::Path(steps), rest));
     }
-    Err(ParseError::Fault(ParseFault {
-        kind: ParseKind::Syntax,
-        left: left_of(text),
-        expected: "one value",
-    }))
+    Err(ParseError::Fault(misread(text, "one value")))
 }
 
 /// `==`, which is true, or `!=`.

@@ -7,7 +7,7 @@ ghost use Rattle.yq_expr_parser.specs.Parse as spec;
 
 use super::literal::literal;
 use super::pipe::{left, pipe};
-use crate::error::{ParseError, ParseFault};
+use crate::error::ParseError;
 use crate::front::{after, begins_step, closed, expect, string};
 use std::alloc::Global;
 use yq_semantics::{Assignment, Comment, CommentPlace, Operator, Stage, Term, Update};

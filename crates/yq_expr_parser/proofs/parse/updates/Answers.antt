@@ -8,4 +8,4 @@ returns-then-is_end c = bind_gives _ _ _ _ (bind_gives _ _ _ _ c.in_ok-updates.e
 
 pub returns-else-is_end : goal.returns-else-is_end
 unfolding updates_at
-returns-else-is_end c = (refl, bind_none _ _ (bind_gives _ _ _ _ c.in_ok-updates.ensures.value (test_fails _ _ _ _ (sym c.is_end.ensures ∙ c.if-is_end.false) refl)))
+returns-else-is_end c = (c.misread.ensures, bind_none _ _ (bind_gives _ _ _ _ c.in_ok-updates.ensures.value (test_fails _ _ _ _ (sym c.is_end.ensures ∙ c.if-is_end.false) refl)))

@@ -31,4 +31,4 @@ tokens-preserved c =
 
 pub returns-then-is_unread : goal.returns-then-is_unread
 returns-then-is_unread c =
-    (refl, survey_stops c.tokens.other c.tokens.opened c.tokens.closed c.tokens.rest.now (token_view c.in-Some.token, c.in-Some.behind.now) _ c.in-Some.ensures.value c.if-is_unread.ensures c.tokens.invariant.3)
+    (c.misread.ensures, survey_stops c.tokens.other c.tokens.opened c.tokens.closed c.tokens.rest.now (token_view c.in-Some.token, c.in-Some.behind.now) _ c.in-Some.ensures.value c.if-is_unread.ensures c.tokens.invariant.3)

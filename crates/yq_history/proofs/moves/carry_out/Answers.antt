@@ -5,8 +5,7 @@ use Rattle.yq_history.proofs.MoveLaws.{first_write, second_write, third_write, s
 use Rattle.yq_history.{proofs.MoveLaws.{either, settled_is}, proofs.CutLaws.{cut_unwritten, cut_opened, cut_changed, cut_settled}}
 use Rattle.yq_history.{proofs.EffectLaws.on_ok, proofs.FaultLaws.{all_outside, failed_write, way_there}}
 use Rattle.yq_history.proofs.CallLaws.{fails, makes_none, puts_as, three_writes, was_last, was_put_as}
-use Rattle.yq_fault.specs.Faults.{failures_after}
-use Rattle.yq_store.specs.FileMap.{get_written}
+use Rattle.yq_store.{specs.Count.failures_after, specs.FileMap.get_written}
 use Rattle.yq_history.proofs.moves.carry_out.Goals as goal
 
 pub returns : goal.returns

@@ -12,7 +12,7 @@ returns-in_err-text-clause-done g c = λ keeps.
     record {
       arrives = λ journal h good.
           unread_arrives (content c.args.store.now) (content c.read.new.self) c.args.file.now journal
-          (shows c.args.parsed.now.options (program_of c.args.parsed.now.program.now)) c.from_residual.result _ is
+          (shows c.args.parsed.now.options (program_of c.args.parsed.now.program.now)) c.from_residual.result _ c.in_err-text.ensures.fault is
           (c.in_err-text.ensures.same keeps)
           (λ absent. c.in_err-text.ensures.absent keeps (ap Err absent)) h good;
       output = λ journal h good. no_success _ c.from_residual.result _ is;

@@ -11,7 +11,8 @@ use Rattle.yq_commands.{proofs.OutcomeLaws.{arrives_as, opened}, proofs.CommandC
 use Rattle.yq_commands.{proofs.DoneLaws.{by_words, unopened_edits, unparsed_edits}, specs.Calls.CallsToEdit, specs.CommandDone.EditsInPlace}
 use Rattle.yq_history.{specs.Report.report_by, proofs.CallLaws.{fails, unopened_calls, opened_calls}, proofs.EffectLaws.from_opened}
 use Rattle.yq_history.{specs.Output.{IsOutput, Shows}, proofs.MoveLaws.on_ok_map}
-use Rattle.yq_fault.{specs.declared.fault.Fault.Fault, specs.Faults.{failures_after, is_outer_fault}}
+use Rattle.yq_fault.{specs.declared.fault.Fault.Fault, specs.Faults.is_outer_fault}
+use Rattle.yq_store.specs.Count.{failures_after}
 use Rattle.yq_run.proofs.executing.update.Goals as goal
 
 pub returns : goal.returns

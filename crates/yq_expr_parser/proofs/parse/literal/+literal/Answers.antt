@@ -16,7 +16,7 @@ literal-returns-then-branch-clause-value t c =
 pub literal-returns-in-Some-after-clause-value : goal.literal-returns-in-Some-after-clause-value
 literal-returns-in-Some-after-clause-value t c =
     let same : are_distinct (map (λ e. e.0) (map field_of c.in_ok-fields.fields.items)) ≡ false = sym c.in_ok-keys_differ.ensures ∙ c.if-branch.false in (
-      refl,
+      c.misread.ensures,
       deeper _ _ (omega arith) ∙ either_none _ _ _ _ (sym c.in_default.ensures.value) (either_some _ _ _ _ _ (sym c.in-Some-after.ensures.value)
           (bind_gives _ _ _ _ c.in_ok-fields.ensures.value (test_fails _ _ _ _ same refl))),
     )
