@@ -1,18 +1,5 @@
 -- Reading (own; a reader may skip it): what is walked, the rows of a document with what is known of them.
-use Rattle.std.specs.Prelude.{◌≡◌}
-use Rattle.std.specs.Prelude.{◌<◌}
-use Rattle.std.specs.Prelude.{◌≤◌}
-use Rattle.std.specs.Prelude.{[]}
-use Rattle.std.specs.Prelude.{◌∷◌}
-use Rattle.std.specs.Prelude.{ℕ}
-use Rattle.std.specs.Prelude.{List}
-use Rattle.std.specs.Prelude.{map}
-use Rattle.std.specs.Prelude.{Option}
-use Rattle.std.specs.Prelude.{option_map}
-use Rattle.std.specs.Prelude.{slice_get}
-use Rattle.std.specs.Prelude.{Some}
-use Rattle.std.specs.Prelude.{IfSome}
-use Rattle.std.specs.Prelude.{◌++◌}
+use Rattle.std.specs.Prelude.{◌≡◌, ◌<◌, ◌≤◌, [], ◌∷◌, ℕ, List, map, Option, option_map, slice_get, Some, IfSome, ◌++◌}
 use Rattle.yq_core.{specs.Entries.tree_step, specs.Paths.Step}
 use Rattle.yq_outline.{specs.Ends.reached, specs.Extents.IsRowsView, specs.Lines.lines_of_rows, specs.Outline.Line}
 use Rattle.yq_outline.specs.Positions.{reach_from}
