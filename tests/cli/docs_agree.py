@@ -11,7 +11,7 @@ from pages import examples, lines_of
 MAN = os.path.join("man", "yq.1")
 LINK = re.compile(r"\]\(([^)\s]+)\)")
 CODE = re.compile(r'"([A-Z]\d+)\b')
-FAULT = re.compile(r'\b(?:Fault|JournalFault|Refusal)::\w+(?:\(_\))? => "([A-Z]\d+ [a-z ]+)"')
+FAULT = re.compile(r'(?:\b(?:Fault|Refusal)::\w+(?:\(_\))? => |#\[error\()"([A-Z]\d+ [a-z ]+)"')
 NUMBERED = re.compile(r'FaultKind::\w+ => \("(Y\d+)", "([\w ]+)"\)')
 
 
@@ -64,8 +64,8 @@ def check_the_man_page_is_clean(folder):
 
 
 def faults():
-    """The source of the faults' texts."""
-    return "\n".join(lines_of("crates/yq_fault/src/fault.rt"))
+    """The sources of the faults' texts."""
+    return "".join("\n".join(lines_of(f"crates/{crate}/src/fault.rt")) for crate in ("yq_fault", "yq_journal"))
 
 
 def check_the_man_page_tells_of_each_answer_by_its_name(_folder):

@@ -1,7 +1,6 @@
 //! Calls on a journal that take memory, and the lines of its faults.
 
 use std::alloc::Global;
-use yq_fault::Fault;
 use yq_journal::{Journal, JournalFault, Move, Record, redo_record, undo_record};
 
 /// A call on a journal: one of two records or one of one record is read; it is moved on a text, written; its first record is undone or redone on one;
@@ -113,7 +112,7 @@ static FAULTS: [(JournalFault, &str); 7] = [
 ];
 
 /// Whether the line of a fault is this one.
-fn has_line(alloc: Global, fault: Fault, line: &str) -> bool {
+fn has_line(alloc: Global, fault: JournalFault, line: &str) -> bool {
     match format!(in alloc; "{fault}") {
         Ok(message) => message.as_str() == line,
         Err(_) => false,
@@ -123,9 +122,6 @@ fn has_line(alloc: Global, fault: Fault, line: &str) -> bool {
 #[test]
 fn lines_of_faults(rt: HostRuntime) {
     'faults: for (fault, line) in &FAULTS {
-        assert!(rt;
-            has_line(rt.alloc(), Fault::Journal(*fault), line),
-            "{line}"
-        );
+        assert!(rt; has_line(rt.alloc(), *fault, line), "{line}");
     }
 }

@@ -35,6 +35,7 @@ impl Display for Fault {
                 let (number, words) = numbered(fault.kind);
                 write!(f, "{number} line {}: {words}", fault.line)
             }
+            Fault::Journal(fault) => Display::fmt(fault, f),
             fault => f.write_str(line_of(fault)),
         }
     }
@@ -48,7 +49,8 @@ impl Debug for Fault {
 
 impl Error for Fault {}
 
-/// The line of a fault; of one of reading its words alone, without its number and place.
+/// The line of a fault; of one of reading its words alone, without its number and place, and of one of a
+/// journal none.
 fn line_of(fault: &Fault) -> &'static str {
     match fault {
         Fault::Usage(_) => "U1 usage",
@@ -59,23 +61,10 @@ fn line_of(fault: &Fault) -> &'static str {
         Fault::ReadFailed => "S2 read failed",
         Fault::WriteFailed => "S3 write failed",
         Fault::OutFailed => "S4 out failed",
-        Fault::Journal(fault) => journal_line(*fault),
+        Fault::Journal(_) => "",
         Fault::Unreadable(fault) => numbered(fault.kind).1,
         Fault::Refused(why) => refusal_line(*why),
         Fault::OutOfMemory => "M1 out of memory",
-    }
-}
-
-/// The line of a fault of a journal.
-fn journal_line(fault: JournalFault) -> &'static str {
-    match fault {
-        JournalFault::NothingToUndo => "J1 nothing to undo",
-        JournalFault::NothingToRedo => "J2 nothing to redo",
-        JournalFault::DoesNotStand => "J3 does not stand",
-        JournalFault::BadJournal => "J4 bad journal",
-        JournalFault::Unsettled => "J5 unsettled",
-        JournalFault::JournalFull => "J6 journal full",
-        JournalFault::BadCount => "J7 bad count",
     }
 }
 

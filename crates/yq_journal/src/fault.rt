@@ -1,23 +1,31 @@
 //! Why a journal refuses.
 
+use thiserror::Error;
 use yq_failure::Failure;
 
 /// What is at fault.
-#[derive(Clone, Copy, Debug, PartialEq, Eq)]
+#[derive(Clone, Copy, Debug, PartialEq, Eq, Error)]
 pub enum JournalFault {
-    /// J1: no record is done.
+    /// No record is done.
+    #[error("J1 nothing to undo")]
     NothingToUndo,
-    /// J2: no record is undone.
+    /// No record is undone.
+    #[error("J2 nothing to redo")]
     NothingToRedo,
-    /// J3: the text doesn't have the length or the bytes that a record tells.
+    /// The text doesn't have the length or the bytes that a record tells.
+    #[error("J3 does not stand")]
     DoesNotStand,
-    /// J4: the bytes are no journal.
+    /// The bytes are no journal.
+    #[error("J4 bad journal")]
     BadJournal,
-    /// J5: a move is open.
+    /// A move is open.
+    #[error("J5 unsettled")]
     Unsettled,
-    /// J6: the cursor is at the last record that a journal may hold.
+    /// The cursor is at the last record that a journal may hold.
+    #[error("J6 journal full")]
     JournalFull,
-    /// J7: so many records can't be joined.
+    /// So many records can't be joined.
+    #[error("J7 bad count")]
     BadCount,
 }
 
