@@ -162,7 +162,7 @@ def check_the_links_of_the_archive_lead_to_its_files(folder):
 def check_the_archive_has_the_terms_of_the_libraries(folder):
     with open(os.path.join(unpacked(folder), "NOTICES"), encoding="utf-8") as text:
         notices = text.read()
-    for name in ("clap", "serde_json", "memchr", "smallvec"):
+    for name in ("clap", "serde_json", "memchr", "thiserror"):
         equal(re.search(rf"^.*\b{name}\b.*\n={{80}}\n", notices, re.MULTILINE) is not None, True, name)
 
 
