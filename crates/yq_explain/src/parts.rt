@@ -20,12 +20,6 @@ fn is_value_char(c: char) -> bool {
     is_word_char(c) || matches!(c, '.' | '-' | '/' | '@' | '~')
 }
 
-/// How many bytes in front of a text such characters have.
-fn front_len(text: &str, is_such: fn(char) -> bool) -> usize {
-    text.len()
-        .saturating_sub(text.trim_start_matches(is_such).len())
-}
-
 /// How many bytes the mark in front has: one character, or two where these are equal.
 fn mark_len(text: &str) -> usize {
     let mut chars = text.chars();
@@ -39,7 +33,9 @@ fn mark_len(text: &str) -> usize {
 /// An expression, parted where its token at fault begins.
 pub fn parted(expr: &str, at: usize) -> Parts<'_> {
     let (before, rest) = expr.split_at_checked(at).unwrap_or((expr, ""));
-    let word = front_len(rest, is_word_char);
+    let word = rest
+        .len()
+        .saturating_sub(rest.trim_start_matches(is_word_char).len());
     let len = if word > 0 { word } else { mark_len(rest) };
     let (token, after) = rest.split_at_checked(len).unwrap_or((rest, ""));
     Parts {
@@ -55,7 +51,9 @@ pub fn parted_at_value(expr: &str, at: usize) -> Parts<'_> {
     let (before, rest) = expr
         .split_at_checked(before.trim_end_matches(is_value_char).len())
         .unwrap_or((expr, ""));
-    let len = front_len(rest, is_value_char);
+    let len = rest
+        .len()
+        .saturating_sub(rest.trim_start_matches(is_value_char).len());
     let (token, after) = rest.split_at_checked(len).unwrap_or((rest, ""));
     Parts {
         before,
