@@ -45,6 +45,11 @@ def appended(n):
     return "a:\n  - 0\nb:\n" + "".join(f"  - {i}\n" for i in range(n)), ".a += .b"
 
 
+def by_turns(n):
+    there = "".join(f"  k{i}: {i}\n" for i in range(n))
+    return f"a:\n{there}b:\n" + "".join(f"  k{i}: x\n  n{i}: y\n" for i in range(n)), ".a += .b"
+
+
 def cases(n):
     """What a text is, the text, and an update of it."""
     for name, text in (("block sequence", sequence(n)), ("block mapping", mapping(n)), ("flow sequence", flow(n))):
@@ -53,6 +58,7 @@ def cases(n):
     yield "zeros and ones", "".join(f"- {i % 2}\n" for i in range(n)), "del(.[] | select(. == 1))"
     yield "mappings", mappings(n), ".[].x = 1"
     yield "a block sequence of one", *appended(n)
+    yield "a block mapping by turns", *by_turns(n)
 
 
 def seconds(folder, yq, expression):

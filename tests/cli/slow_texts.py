@@ -122,6 +122,15 @@ def check_values_put_in_rows_in_any_order(folder):
     each_within_a_second(folder, [".a += .b"])
 
 
+def check_entries_put_into_a_mapping_by_turns(folder):
+    """Values in its rows and new entries go in one pass, whichever break ends lines."""
+    mapping = "".join(f"  p{n}: 1\n" for n in range(MANY))
+    added = "".join(f"  p{n}: 2\n  n{n}: x y\n" for n in range(MANY))
+    for line_break in ("\n", "\r\n"):
+        folder.write("f", f"a:\n{mapping}b:\n{added}".replace("\n", line_break).encode())
+        each_within_a_second(folder, [".a += .b"])
+
+
 def check_collections_emptied_in_one_row(folder):
     """The row is read once, also where some of them keep an item."""
     for items, removal in (["[1]"], "del(.[][])"), (["[1, 2]", "{a: 1}"], "del(.[][])"), (["[1]", "[1, 2]"], "del(.[][0])"):

@@ -44,5 +44,10 @@ pub mod SlotMores
 pub mod UnorderedAnswers
 pub mod RowOrder
 pub mod RowStills
+pub mod RowsUnder
+pub mod RowEndLaws
+pub mod SlotEnds
 pub mod RowOpens
+pub mod RowAdds
+pub mod RowEndAnswers
 pub mod RowOpenAnswers

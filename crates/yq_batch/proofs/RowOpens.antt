@@ -1,8 +1,8 @@
 -- A value put in a row, whatever was put in others.
-use Rattle.std.proofs.Common.{◌≡◌, ℕ, ◌+◌, ◌-◌, ◌≤◌, Bool, true, false, cond, leb, List, [], ◌∷◌, ◌++◌, drop, take, length, Option, Some}
-use Rattle.std.proofs.Common.{None, refl, sym, ap, ◌∙◌, subst, arith, append_assoc, append-nil, length-append}
+use Rattle.std.proofs.Common.{◌≡◌, ℕ, suc, ◌+◌, ◌-◌, ◌≤◌, Bool, true, false, cond, leb, List, [], ◌∷◌, ◌++◌, drop, take, length, Option}
+use Rattle.std.proofs.Common.{Some, None, refl, sym, ap, ◌∙◌, subst, arith, append_assoc, append-nil, length-append}
 use Rattle.std.{proofs.Math.Seq.{drop-append_seam, take-append_seam}, proofs.lemmas.Bool.le-leb, proofs.lemmas.List.append_cancel_right}
-use Rattle.std.{proofs.lemmas.Option.{none-some, same_Some}, specs.Str.IsCharBoundary}
+use Rattle.std.{proofs.lemmas.Option.{none-some, same_Some}, specs.Prelude.IfSome, specs.Str.IsCharBoundary}
 use Rattle.yq_text.{specs.Limit.text_limit, specs.Script.{Segment, changes, keep, new_text, splice_at}, proofs.ScriptLaws.kept_changes}
 use Rattle.yq_core.{specs.Paths.Step, specs.Tree.Node, specs.declared.style.Place.TheVariants.Block as InBlock}
 use Rattle.yq_outline.{specs.Outline.anchored, specs.Lines.{content_anchor, head_of}}
@@ -18,9 +18,11 @@ use Rattle.yq_edit_laws.{specs.Edit.{by_reading, edit_of_segments, exchange_edit
 use Rattle.yq_batch.specs.OpenRows.{AreRowsStill, IsHeadAt, IsOpenRows, IsRowStill, IsRowThere, head_back, head_front}
 use Rattle.yq_batch.{specs.OpenRuns.AreCharEdges, specs.RowRuns.PutsText}
 use Rattle.yq_batch.proofs.RowPutLaws.{head, node_there, value_comes, value_stays, value_text_is}
-use Rattle.yq_batch.{proofs.RowStills.{holds_now, rows_around}, proofs.SlotLaws.{front_length, front_of, places_same}}
-use Rattle.yq_batch.{proofs.SlotPuts.{edges_put, none_put}, proofs.SlotStills.{new_text_is, old_text}}
-use Rattle.yq_batch.specs.declared.slots.SlotPlace.{SlotPlace}
+use Rattle.yq_batch.proofs.RowStills.{holds_now, rows_around, some_between}
+use Rattle.yq_batch.{proofs.SlotLaws.{front_length, front_of, order_at, places_same}, proofs.RowEndLaws.end_stays}
+use Rattle.yq_batch.{proofs.RowsInFront.split_front, proofs.SlotEnds.{apart_from, last_behind, more_left}}
+use Rattle.yq_batch.{specs.RowEnds.{LeaveRoom, EndOfEntries, EndsHere, IsBeforeEnd, IsEndStill}, proofs.SlotPuts.{edges_put, none_put}}
+use Rattle.yq_batch.{proofs.SlotStills.{new_text_is, old_text}, specs.declared.slots.SlotPlace.SlotPlace}
 use Rattle.yq_batch.specs.Slots.{AreInOrder, IsPutIn, SlotView, count_of, put_or, slot_places, slot_text, text_from}
 use Rattle.yq_text.specs.Exchanging as exchange
 
@@ -29,8 +31,8 @@ still_at : (c d : Cut) (m : ℕ) (fs : List SlotView) (s : SlotView) (bs : List 
 still_at c d m [] s bs h = h.0
 still_at c d m (a ∷ fs) s bs h = still_at c d m fs s bs h.1
 
-module _ (c : Cut) (m : ℕ) (u : Step) (us : List Step) (v : Node) (slots slots2 : List SlotView) (whole : read_at (cut_text c) ≡ Some c) (run : IsOpenRows c m slots) (e : RowsOfEntry)
-    (found : rows_of_entry m (u ∷ us) c ≡ Some e) (holds : HoldsInline e) (plain : is_filled v ≡ false) (p : SlotPlace) (place : IsHeadAt e p) (one : p.more ≡ false)
+module _ (c : Cut) (m : ℕ) (u : Step) (us : List Step) (v : Node) (slots slots2 : List SlotView) (whole : read_at (cut_text c) ≡ Some c) (o : Option EndOfEntries) (run : IsOpenRows c m o slots) (e : RowsOfEntry)
+    (found : rows_of_entry m (u ∷ us) c ≡ Some e) (holds : HoldsInline e) (plain : is_filled v ≡ false) (p : SlotPlace) (place : IsHeadAt e p) (before_end : IfSome o (IsBeforeEnd e p)) (one : p.more ≡ false)
     (lead written : List ℕ) (no_lead : lead ≡ []) (at was : ℕ) (put : IsPutIn slots slots2 p lead written at was) where
   abbrev t : List ℕ
   t = cut_text c
@@ -163,6 +165,42 @@ module _ (c : Cut) (m : ℕ) (u : Step) (us : List Step) (v : Node) (slots slots
       subst (λ (ss : List SlotView). AreInOrder 0 (slot_places ss) (length t)) (sym put.new_is)
       (subst (λ (ps : List SlotPlace). AreInOrder 0 ps (length t)) (sym (places_same put.front s s2 put.back same_place)) order)
 
+  apart2 : LeaveRoom (slot_places slots2)
+  apart2 =
+      subst (λ (ss : List SlotView). LeaveRoom (slot_places ss)) (sym put.new_is)
+      (subst LeaveRoom (sym (places_same put.front s s2 put.back same_place)) (subst (λ (ss : List SlotView). LeaveRoom (slot_places ss)) put.old_is run.apart))
+
+  -- the end of a mapping, in whichever cut it is there
+  abbrev EndThere : Cut → EndOfEntries → Type 0
+  EndThere d z = EndsHere z m d (drop z.at t)
+
+  last_after : (z : EndOfEntries) → IsBeforeEnd e p z → (k : IsEndStill c run.cut m slots z) → (hs : List SlotView) × (put.back ≡ hs ++ (k.last ∷ []))
+  last_after z less k =
+      last_behind put.front s put.back k.front k.last (sym put.old_is ∙ k.slots_are)
+      (λ same. absurd (omega (arith, less.0, k.end, ap (λ (x : SlotView). x.place.end) same, ap (λ (x : SlotPlace). x.end) put.put.place_is)))
+
+  end_in : (d : Cut) (z : EndOfEntries) → IsBeforeEnd e p z → IsEndStill c run.cut m slots z → EndThere d z → IsEndStill c d m slots2 z
+  end_in d z less k there =
+      let h = last_after z less k in
+      record {
+        known = k.known;
+        front = put.front ++ (s2 ∷ h.0);
+        last = k.last;
+        slots_are = put.new_is ∙ (ap (λ (bs : List SlotView). put.front ++ (s2 ∷ bs)) h.1 ∙ sym (append_assoc put.front (s2 ∷ h.0) (k.last ∷ [])));
+        start = k.start;
+        end = k.end;
+        lead = k.lead;
+        near = k.near;
+        order = subst (λ (ss : List SlotView). AreInOrder k.lead (slot_places ss) (length t)) (sym put.new_is)
+            (subst (λ (ps : List SlotPlace). AreInOrder k.lead ps (length t)) (sym (places_same put.front s s2 put.back same_place)) (subst (λ (ss : List SlotView). AreInOrder k.lead (slot_places ss) (length t)) put.old_is k.order));
+        here = there;
+      }
+
+  ends_in : (d : Cut) (x : Option EndOfEntries) → IfSome x (IsBeforeEnd e p) → IfSome x (IsEndStill c run.cut m slots) →
+      ((z : EndOfEntries) → IsBeforeEnd e p z → IsEndStill c run.cut m slots z → EndThere d z) → IfSome x (IsEndStill c d m slots2)
+  ends_in d None less k there = tt
+  ends_in d (Some z) less k there = end_in d z less k (there z less k)
+
   module _ (starts : IsCharBoundary t p.start) (ends : IsCharBoundary t p.end) where
     edges2 : AreCharEdges t slots2
     edges2 =
@@ -195,13 +233,15 @@ module _ (c : Cut) (m : ℕ) (u : Step) (us : List Step) (v : Node) (slots slots
           let is = new_text_is c s s2 put.back same_place [] old written slot_old slot_new f.place.end fs h.3 in
           (subst (IsRowStill c run.cut m f) (was ∙ (ap (λ (l : List ℕ). (front_of t f.place.end fs s.place.start ++ []) ++ (l ++ rest)) (sym (bytes ∙ old_is)) ∙ sym is)) known.0, kept_stills f.place.end fs h.3 known.1)
 
-      pub row_kept_on : IsOpenRows c m slots2
+      pub row_kept_on : IsOpenRows c m o slots2
       row_kept_on = record {
         order = order2;
+        apart = apart2;
         edges = edges2;
         cut = run.cut;
         read = ap read_at row_same ∙ run.read;
         still = subst (AreRowsStill c run.cut m) (sym put.new_is) (kept_stills 0 put.front order still);
+        ends = ends_in run.cut o before_end run.ends (λ z less k. k.here);
       }
 
     -- another value
@@ -237,7 +277,7 @@ module _ (c : Cut) (m : ℕ) (u : Step) (us : List Step) (v : Node) (slots slots
       y = x.changes operand fit (omega (arith, small, ap length new_is))
 
       abbrev next : Cut
-      next = Rattle.yq_batch.proofs.RowStills.next c run.cut m v plain whole read u us e found holds k there.size x.segments y
+      next = Rattle.yq_batch.proofs.RowStills.next c run.cut m whole read u us e found holds k there.size x.segments y
 
       text_next : cut_text next ≡ text_from t 0 slots2
       text_next = text_read (new_text x.segments) next y.read ∙ new_is
@@ -245,14 +285,35 @@ module _ (c : Cut) (m : ℕ) (u : Step) (us : List Step) (v : Node) (slots slots
       read_next : read_at (text_from t 0 slots2) ≡ Some next
       read_next = ap read_at (sym new_is) ∙ y.read
 
-      pub row_goes_on : IsOpenRows c m slots2
+      end_there : (z : EndOfEntries) → IsBeforeEnd e p z → IsEndStill c run.cut m slots z → EndThere next z
+      end_there z less known =
+          let h = last_after z less known in
+          let left : suc (length (drop z.at t)) ≤ length rest =
+          subst (λ (bs : List SlotView). suc (length (drop z.at t)) ≤ length (text_from t s.place.end bs)) (sym h.1)
+          (subst (λ (n : ℕ). suc (length (drop n t)) ≤ length (text_from t s.place.end (h.0 ++ (known.last ∷ [])))) known.end
+          (more_left t s.place h.0 known.last
+          (subst (λ (bs : List SlotView). LeaveRoom (s.place ∷ slot_places bs)) h.1 (apart_from put.front s put.back (subst (λ (ss : List SlotView). LeaveRoom (slot_places ss)) put.old_is run.apart)))
+          (subst (λ (bs : List SlotView). AreInOrder s.place.end (slot_places bs) (length t)) h.1 (order_at 0 (length t) put.front s put.back order).3))) in
+          let all : (before ++ old) ++ rest ≡ known.here.text ++ (10 ∷ drop z.at t) = append_assoc before old rest ∙ (sym (text ∙ now_split) ∙ known.here.ended) in
+          let g = split_front (before ++ old) rest known.here.text (10 ∷ drop z.at t) all (omega (arith, left, ap length all, length-append (before ++ old) rest, length-append known.here.text (10 ∷ drop z.at t))) in
+          end_stays z m run.cut (drop z.at t) read known.here u us k there.found (omega (arith, less.1, known.here.size, there.size))
+          (some_between m u us run.cut k rest (length (drop z.at t)) read there.found holds_k there.back (omega (arith, left)))
+          x.segments y (ap read_at text_next ∙ read_next) (before ++ (written ++ g.0))
+          (text_next
+          ∙ (next_split
+          ∙ (ap (λ (l : List ℕ). before ++ (written ++ l)) g.2
+          ∙ (ap (λ (l : List ℕ). before ++ l) (sym (append_assoc written g.0 (10 ∷ drop z.at t))) ∙ sym (append_assoc before (written ++ g.0) (10 ∷ drop z.at t))))))
+
+      pub row_goes_on : IsOpenRows c m o slots2
       row_goes_on = record {
         order = order2;
+        apart = apart2;
         edges = edges2;
         cut = next;
         read = read_next;
         still =
             subst (AreRowsStill c next m) (sym put.new_is)
-            (rows_around c run.cut m v plain whole read u us e found holds k there.size x.segments y (ap read_at text_next ∙ read_next) before (old ++ rest) (written ++ rest)
+            (rows_around c run.cut m whole read u us e found holds k there.size x.segments y (ap read_at text_next ∙ read_next) before (old ++ rest) (written ++ rest)
             (text ∙ now_split) (text_next ∙ next_split) s s2 put.back same_place old written slot_old slot_new refl refl (own_after next) here 0 put.front order still);
+        ends = ends_in next o before_end run.ends end_there;
       }

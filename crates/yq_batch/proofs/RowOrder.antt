@@ -9,7 +9,7 @@ use Rattle.yq_core.{specs.Answers.◌>>=◌, specs.Paths.Step}
 use Rattle.yq_outline.{specs.Ends.line_at_steps, specs.Lines.{lines_of_rows, row_lines}, specs.Outline.Line}
 use Rattle.yq_row_table.{specs.Exchange.row_front, specs.Grammar.no_rows}
 use Rattle.yq_row_table.{specs.Rows.{Cut, Part, Row, cut_text, part_text, print_row, rows_text}, specs.View.slices}
-use Rattle.yq_row_table.{proofs.seams.SeamLaws.rows_text-append, proofs.splices.SpliceTexts.own_gap}
+use Rattle.yq_row_table.{proofs.seams.SeamLaws.rows_text-append, proofs.splices.SpliceTexts.{own_end, own_gap}}
 use Rattle.yq_row_table.specs.Splices.{behind_part, first_gap, with_first_gap}
 use Rattle.yq_documents.{specs.Documents.document_parts, specs.LinesInRows.{RowLine, behind_one, row_line, row_line_of}}
 use Rattle.yq_documents.{specs.PartNumbers.part_number, specs.Reading.read_at, proofs.PartNumberLaws.part_there}
@@ -20,6 +20,7 @@ use Rattle.yq_places.{proofs.PlacedPartLaws.map_some, proofs.RemovalTexts.texts_
 use Rattle.yq_places.proofs.UnderExchange.{lines_append}
 use Rattle.yq_edit_rules.{specs.Appends.inserted, specs.Changed.{KeepsRows, put_document}, specs.DocumentRows.behind_document}
 use Rattle.yq_edit_rules.{specs.Rooms.row_shape, specs.RowStays.StaysFrom, specs.StandingLaws.StandsThere, proofs.HeldLaws.front_is}
+use Rattle.yq_edit_rules.{proofs.ChangedLaws.{document_put, nth_changed}, proofs.CommentRowLaws.rows_front}
 use Rattle.yq_edit_rules.{proofs.RowStayLaws.rows_stay_there, proofs.StandingRows.rows_stand}
 use Rattle.yq_batch.{specs.OpenRows.head_front, proofs.OwnRowsStay.row_size, proofs.RowsInFront.split_front, proofs.RowsTakenOn.placed_put}
 use Rattle.yq_batch.proofs.UptoLaws.{line_stays}
@@ -101,6 +102,31 @@ module _ (m : ℕ) (s t : Step) (ss ts : List Step) (c : Cut) (e f : RowsOfEntry
             front_long f,
           )
 
+  -- one that begins before the rows under another one end is that one, or one under it, or comes before it
+  pub begins_within : length (head_front e) < length (before_entry f ++ print_row f.row (rows_text f.under [])) → length e.front < length f.front + suc (length f.under)
+  begins_within less = elim (cases_lt (length e.front) (length f.front + suc (length f.under))) [
+    | inl is ↦ is
+    | inr least ↦
+        let upto : List Row = f.front ++ (f.row ∷ f.under) in
+        let size : length upto ≡ length f.front + suc (length f.under) = length-append f.front (f.row ∷ f.under) in
+        let all : upto ++ f.back ≡ e.front ++ (e.row ∷ (e.under ++ e.back)) = append_assoc f.front (f.row ∷ f.under) f.back ∙ sym rows in
+        let h = split_front upto f.back e.front (e.row ∷ (e.under ++ e.back)) all (omega (arith, size, least)) in
+        absurd (omega (
+          arith,
+          less,
+          front_long e,
+          length-append e.start (rows_text e.front []),
+          ap (λ (rs : List Row). length (rows_text rs [])) h.1,
+          ap length (rows_front upto h.0 []),
+          length-append (rows_text upto []) (rows_text h.0 []),
+          ap length (rows_front f.front (f.row ∷ f.under) []),
+          length-append (rows_text f.front []) (print_row f.row (rows_text f.under [])),
+          length-append (before_entry f) (print_row f.row (rows_text f.under [])),
+          length-append f.start (rows_text f.front []),
+          ap (λ (l : List ℕ). length l) same_start,
+        ))
+  ]
+
   -- one that begins before another one comes before it
   pub comes_before : length (head_front f) < length (head_front e) → length f.front < length e.front
   comes_before less = elim (cases_lt (length f.front) (length e.front)) [ inl is ↦ is | inr least ↦ absurd (omega (arith, less, no_later least)) ]
@@ -171,9 +197,14 @@ pub record StaysInFront (e : RowsOfEntry) (m : ℕ) (steps : List Step) (d : Cut
   pub front : now.front ≡ e.front
   pub row : now.row ≡ e.row
   pub line : now.line ≡ e.line
+  pub end : now.end ≡ e.end
+  pub behind : now.behind ≡ e.behind
 
 -- a document has other rows after the first ones
-module _ (d : Cut) (m : ℕ) (p q : Part) (front b c : List Row) (there : slice_get (document_parts d) m ≡ Some p) (rows_are : p.rows ≡ front ++ b) (rows_now : q.rows ≡ front ++ c) (keeps : KeepsRows p q) where
+module _ (d : Cut) (m : ℕ) (p q : Part) (front b c : List Row) (there : slice_get (document_parts d) m ≡ Some p) (rows_are : p.rows ≡ front ++ b) (rows_now : q.rows ≡ front ++ c) (end_now : q.end ≡ p.end) (keeps : KeepsRows p q) where
+  pub part_put : slice_get (document_parts (put_document m q d)) m ≡ Some q
+  part_put = ap (λ (ps : List Part). slice_get ps m) (document_put d m p q there keeps) ∙ nth_changed m p q (document_parts d) there
+
   pub stays_in_front : (steps : List Step) (e : RowsOfEntry) → rows_of_entry m steps d ≡ Some e → length e.front < length front → StaysInFront e m steps (put_document m q d)
   stays_in_front steps e is less =
       let i : ℕ = part_number m d in
@@ -196,11 +227,29 @@ module _ (d : Cut) (m : ℕ) (p q : Part) (front b c : List Row) (there : slice_
         front = ap (take s.before) rows_now ∙ (take_front s.before front b c (omega (arith, low)) ∙ sym own);
         row = ap (λ (y : RowsOfEntry). y.row) x.2;
         line = ap (λ (y : RowsOfEntry). y.line) x.2;
+        end = end_now ∙ ap (λ (y : RowsOfEntry). y.end) x.2;
+        behind = ap (λ (y : RowsOfEntry). y.behind) x.2;
       }
     where
       placed_old : placed_document m d ≡ Some (record (placed_at (part_number m d) d) { part = p })
       placed_old =
           ap (option_map (λ (y : Part). placed_at (part_number m d) d)) there ∙ ap (λ (y : Part). Some (record (placed_at (part_number m d) d) { part = y })) (part_there d m p there)
+
+-- ---- one row between others
+
+module _ (p : Part) (front back : List Row) (new : Row) where
+  pub one_rows : (inserted front (new ∷ []) back p).rows ≡ front ++ (new ∷ back)
+  one_rows = ap (λ (rs : List Row). front ++ (new ∷ rs)) (own_gap back p.end)
+
+  pub one_end : (inserted front (new ∷ []) back p).end ≡ p.end
+  one_end = own_end back p.end
+
+  pub one_keeps : KeepsRows p (inserted front (new ∷ []) back p)
+  one_keeps none = absurd (some front back none)
+    where
+      some : (f rs : List Row) → no_rows (f ++ (new ∷ with_first_gap (first_gap back p.end) rs)) ≡ true → ⊥
+      some [] rs e = absurd (cc)
+      some (x ∷ f) rs e = absurd (cc)
 
 -- ---- one row exchanged for another one of its shape
 
@@ -212,9 +261,4 @@ module _ (d : Cut) (m : ℕ) (p : Part) (front back : List Row) (r new : Row) (t
   others_stay = rows_stay_there.exchanges p front back r new rows_are shape
 
   pub front_stays : (steps : List Step) (e : RowsOfEntry) → rows_of_entry m steps d ≡ Some e → length e.front < length front → StaysInFront e m steps (put_document m q d)
-  front_stays =
-      stays_in_front d m p q front (r ∷ back) (new ∷ back) there rows_are (ap (λ (rs : List Row). front ++ (new ∷ rs)) (own_gap back p.end)) (λ none. absurd (some front back none))
-    where
-      some : (f rs : List Row) → no_rows (f ++ (new ∷ with_first_gap (first_gap back p.end) rs)) ≡ true → ⊥
-      some [] rs e = absurd (cc)
-      some (x ∷ f) rs e = absurd (cc)
+  front_stays = stays_in_front d m p q front (r ∷ back) (new ∷ back) there rows_are (one_rows p front back new) (one_end p front back new) (one_keeps p front back new)

@@ -41,7 +41,7 @@ module _ (t : List ℕ) where
   between_length p r rt = omega (arith, length-drop p (take r t), length-take-le r t rt)
 
   -- what comes up to an offset before which nothing was put
-  starts_at : (p q : ℕ) (ss : List SlotView) → p ≤ q → AreInOrder q (slot_places ss) (length t) → text_from t p ss ≡ drop p (take q t) ++ text_from t q ss
+  pub starts_at : (p q : ℕ) (ss : List SlotView) → p ≤ q → AreInOrder q (slot_places ss) (length t) → text_from t p ss ≡ drop p (take q t) ++ text_from t q ss
   starts_at p q [] le h = rest_split p q le h
   starts_at p q (s ∷ ss) le h = go s.new (starts_at p q ss le (order_from s.place.end q (length t) (slot_places ss) (omega (arith, h.0, h.1)) h.3))
     where

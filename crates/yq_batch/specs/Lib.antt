@@ -9,4 +9,5 @@ pub mod LeftPlaces
 pub mod RowRemovals
 pub mod Slots
 pub mod OpenRuns
+pub mod RowEnds
 pub mod OpenRows

@@ -1,18 +1,19 @@
 -- Values on one line put in rows of one document in any order, on the rows as they were read (YAML 1.2.2, 8.2; own).
-use Rattle.std.specs.Prelude.{◌≡◌, ⊤, ℕ, Vec, ◌+◌, false, List, [], ◌∷◌, ◌++◌, length, Option, Some, None, IfSome, string_bytes}
-use Rattle.std.{specs.Str.IsCharBoundary, specs.declared.alloc.Global.Global}
+use Rattle.std.specs.Prelude.{◌≡◌, ⊤, ℕ, Bool, true, Vec, ◌+◌, ◌≤◌, false, List, [], ◌∷◌, ◌++◌, length, take, Option, Some, None, IfSome}
+use Rattle.std.{specs.Prelude.string_bytes, specs.Str.IsCharBoundary, specs.declared.alloc.Global.Global}
 use Rattle.yq_text.specs.Splice.{Splice}
 use Rattle.yq_core.{specs.Paths.Step, specs.Tree.Node}
 use Rattle.yq_row_table.specs.Rows.{Cut, cut_text}
 use Rattle.yq_documents.specs.Reading.{cut_of, read_at}
-use Rattle.yq_places.{specs.NodesAt.node_in, specs.Standings.{RowsOfEntry, held, rows_of_entry}}
+use Rattle.yq_places.{specs.FirstBreak.first_break, specs.NodesAt.node_in, specs.Standings.{RowsOfEntry, held, rows_of_entry}}
 use Rattle.yq_semantics.{specs.Operations.{Operation, operation_of, replace}, specs.declared.op.Op.Op}
 use Rattle.yq_edit_rules.{specs.BlockReading.is_filled, specs.Operands.HasOperand, specs.RowChanges.HoldsInline}
 use Rattle.yq_edit_laws.{specs.Carried.carried, specs.Edit.gives, specs.Theorems.IsApplied}
 use Rattle.yq_batch.{specs.OpenRuns.{AreCharEdges, open_text}, specs.RowRuns.{IsWrittenSo, bytes_in}}
 use Rattle.yq_batch.specs.Slots.{AreInOrder, HasCounts, SlotView, slot_places, slots_of, text_from}
-use Rattle.yq_batch.{specs.declared.any_order.SlotRun.SlotRun, specs.declared.change.HeadChange.HeadChange}
-use Rattle.yq_batch.specs.declared.slots.SlotPlace.{SlotPlace}
+use Rattle.yq_batch.specs.RowEnds.{AddsAtEnd, LeaveRoom, EndAt, EndOfEntries, IsBeforeEnd, IsKnownEnd, IsEndStill}
+use Rattle.yq_batch.{specs.declared.row_ends.EntriesEnd.EntriesEnd, specs.declared.any_order.SlotRun.SlotRun}
+use Rattle.yq_batch.{specs.declared.change.HeadChange.HeadChange, specs.declared.slots.SlotPlace.SlotPlace}
 
 -- the text before what the key or dash of rows holds (8.2)
 abbrev pub head_front : RowsOfEntry → List ℕ
@@ -47,22 +48,25 @@ abbrev pub AreRowsStill : (c d : Cut) → ℕ → List SlotView → Type 0
 AreRowsStill c d m [] = ⊤
 AreRowsStill c d m (s ∷ ss) = IsRowStill c d m s (text_from (cut_text c) s.place.end ss) × AreRowsStill c d m ss
 
--- Values were put at places in rows of document m: the text reads, and the rows at the other places are there as they were (own).
-pub record IsOpenRows (c : Cut) (m : ℕ) (slots : List SlotView) : Type 0 where
+-- Values were put at places in rows of document m, and entries at the end of a mapping, if that is known: the text reads, the rows at the other places are
+-- there as they were, and so is that end (own).
+pub record IsOpenRows (c : Cut) (m : ℕ) (o : Option EndOfEntries) (slots : List SlotView) : Type 0 where
   pub order : AreInOrder 0 (slot_places slots) (length (cut_text c))
+  pub apart : LeaveRoom (slot_places slots)
   pub edges : AreCharEdges (cut_text c) slots
   pub cut : Cut
   pub read : read_at (text_from (cut_text c) 0 slots) ≡ Some cut
   pub still : AreRowsStill c cut m slots
+  pub ends : IfSome o (IsEndStill c cut m slots)
 
 -- a run of the code is one (own)
-pub record RunsRows (c : Cut) (m : ℕ) (r : SlotRun) : Type 0 where
-  pub run : IsOpenRows c m (slots_of r.slots)
+pub record RunsRows (c : Cut) (m : ℕ) (o : Option EndOfEntries) (r : SlotRun) : Type 0 where
+  pub run : IsOpenRows c m o (slots_of r.slots)
   pub counts : HasCounts r.slots
   pub size : r.size ≡ length (open_text c r)
 
--- An operation puts a value on one line in the place of what an item or entry of document m holds in its row (own).
-pub record PutsInside (op : Operation) (c : Cut) (m : ℕ) (y : HeadChange) : Type 0 where
+-- An operation puts a value on one line in the place of what an item or entry of document m holds in its row, before the end of a mapping (own).
+pub record PutsInside (op : Operation) (c : Cut) (m : ℕ) (o : Option EndOfEntries) (y : HeadChange) : Type 0 where
   pub step : Step
   pub steps : List Step
   pub value : Node
@@ -73,50 +77,90 @@ pub record PutsInside (op : Operation) (c : Cut) (m : ℕ) (y : HeadChange) : Ty
   pub found : rows_of_entry m (step ∷ steps) c ≡ Some entry
   pub inline : HoldsInline entry
   pub at : IsHeadAt entry y.place
+  pub before : IfSome o (IsBeforeEnd entry y.place)
   pub content : y.place.more ≡ false
   pub lead : y.lead.now ≡ []
   pub written : IsWrittenSo (node_in m (step ∷ steps) c) value (held entry).head (bytes_in string_bytes y.written)
   pub starts : IsCharBoundary (cut_text c) y.place.start
   pub ends : IsCharBoundary (cut_text c) y.place.end
 
+-- an operation puts an entry at the end of a mapping, or a value in a row (own)
+abbrev pub DoesBy : (more : Bool) → Operation → Cut → ℕ → Option EndOfEntries → HeadChange → Type 0
+DoesBy true op c m o y = AddsAtEnd op c m o y
+DoesBy false op c m o y = PutsInside op c m o y
+
+-- the same by what the code has of it (own)
+abbrev pub DoesInside : Operation → Cut → ℕ → Option EndOfEntries → HeadChange → Type 0
+DoesInside op c m o y = DoesBy y.place.more op c m o y
+
 -- the same of an operation of the code, if it is known what it puts (own)
-abbrev pub MayPut : Cut → ℕ → Op → Option HeadChange → Type 0
-MayPut c m op o = IfSome o (PutsInside (operation_of op) c m)
+abbrev pub MayPut : Cut → ℕ → Option EndOfEntries → Op → Option HeadChange → Type 0
+MayPut c m e op o = IfSome o (DoesInside (operation_of op) c m e)
+
+-- the same of one in a text, whichever mapping's end it is that the code tells, if it does (own)
+abbrev pub MayDo : List ℕ → ℕ → Option EntriesEnd → Op → Option HeadChange → Type 0
+MayDo t m w op o = (e : Option EndOfEntries) → IsKnownEnd (cut_of t) m w e → MayPut (cut_of t) m e op o
 
 -- the same of several operations in their order; of more it is not known (own)
-abbrev pub ArePutInRows : Cut → ℕ → List Op → List (Option HeadChange) → Type 0
-ArePutInRows c m ops [] = ⊤
-ArePutInRows c m [] (o ∷ os) = ⊤
-ArePutInRows c m (op ∷ ops) (o ∷ os) = MayPut c m op o × ArePutInRows c m ops os
+abbrev pub ArePutInRows : Cut → ℕ → Option EndOfEntries → List Op → List (Option HeadChange) → Type 0
+ArePutInRows c m e ops [] = ⊤
+ArePutInRows c m e [] (o ∷ os) = ⊤
+ArePutInRows c m e (op ∷ ops) (o ∷ os) = MayPut c m e op o × ArePutInRows c m e ops os
 
 -- the same of what is found of operations on a text, if it is (own)
-abbrev pub FindsPuts : List ℕ → ℕ → List Op → Option (Vec (Option HeadChange) Global) → Type 0
-FindsPuts t m ops o = IfSome o (λ v. ArePutInRows (cut_of t) m ops v.items)
+abbrev pub FindsPuts : List ℕ → ℕ → Option EntriesEnd → List Op → Option (Vec (Option HeadChange) Global) → Type 0
+FindsPuts t m w ops o = (e : Option EndOfEntries) → IsKnownEnd (cut_of t) m w e → IfSome o (λ v. ArePutInRows (cut_of t) m e ops v.items)
 
 -- nothing is known of what any operations put (own)
 abbrev pub NoneKnown : List (Option HeadChange) → Type 0
-NoneKnown os = (c : Cut) (m : ℕ) (ops : List Op) → ArePutInRows c m ops os
+NoneKnown os = (c : Cut) (m : ℕ) (e : Option EndOfEntries) (ops : List Op) → ArePutInRows c m e ops os
 
 -- An operation is carried out on the text of a run, which goes on after it (own).
-pub record OpensRow (op : Operation) (c : Cut) (m : ℕ) (before after : SlotRun) : Type 0 where
+pub record OpensRow (op : Operation) (c : Cut) (m : ℕ) (o : Option EndOfEntries) (before after : SlotRun) : Type 0 where
   pub new_bytes : List Splice
   pub comes : carried op (open_text c before) ≡ gives (open_text c after) new_bytes
   pub applied : IsApplied op (open_text c before) (open_text c after) new_bytes
   pub splices : after.splices.items ≡ before.splices.items ++ new_bytes
-  pub run : RunsRows c m after
+  pub run : RunsRows c m o after
 
 -- a run in which nothing was put in rows of document m of a text (own)
-pub record BeginsInAnyRow (c : Cut) (m : ℕ) (t : List ℕ) (r : SlotRun) : Type 0 where
-  pub run : RunsRows c m r
+pub record BeginsInAnyRow (c : Cut) (m : ℕ) (o : Option EndOfEntries) (t : List ℕ) (r : SlotRun) : Type 0 where
+  pub run : RunsRows c m o r
   pub text : open_text c r ≡ t
   pub none : r.splices.items ≡ []
 
--- the same of a run in a text, if there is one, whichever document it is in (own)
-abbrev pub MayBeginInRows : List ℕ → Option SlotRun → Type 0
-MayBeginInRows t o = IfSome o (λ r. (m : ℕ) → BeginsInAnyRow (cut_of t) m t r)
+-- the first break of a text is in so many first bytes, up to a place (5.4)
+abbrev pub HasNearBreak : List ℕ → (place len : ℕ) → Type 0
+HasNearBreak t place len = (len ≤ place) × ((more : List ℕ) → first_break (take len t ++ more) ≡ first_break t)
+
+-- it is in front of the first one of places (own)
+abbrev pub IsNearFirst : List ℕ → List SlotPlace → Type 0
+IsNearFirst t [] = ⊥
+IsNearFirst t (p ∷ ps) = (len : ℕ) × HasNearBreak t p.start len
+
+-- the last one of places is an offset, and the text's first break comes before them (own)
+abbrev pub EndsNear : List ℕ → ℕ → List SlotPlace → Type 0
+EndsNear t at ps = EndAt at ps × IsNearFirst t ps
+
+-- the same of the end of a mapping (own)
+abbrev pub IsBeforeEnds : List ℕ → List SlotPlace → EntriesEnd → Type 0
+IsBeforeEnds t ps w = EndsNear t w.at ps
+
+-- places are apart, and so it is, if the end of a mapping is known (own)
+abbrev pub AreBeforeEnd : List ℕ → List SlotPlace → Option EntriesEnd → Type 0
+AreBeforeEnd t ps w = LeaveRoom ps × IfSome w (IsBeforeEnds t ps)
+
+-- a document is that of a mapping's end, if it is known (own)
+abbrev pub IsEndsDocument : Option EntriesEnd → ℕ → Type 0
+IsEndsDocument w m = IfSome w (λ x. x.path.now.doc ≡ m)
+
+-- the same of a run in a text, if there is one, whichever document it is in, for a mapping that ends there (own)
+abbrev pub MayBeginInRows : List ℕ → Option EntriesEnd → Option SlotRun → Type 0
+MayBeginInRows t w o = IfSome o (λ r. (m : ℕ) (e : Option EndOfEntries) → IsKnownEnd (cut_of t) m w e → BeginsInAnyRow (cut_of t) m e t r)
 
 -- What operations put in rows of a document of a text is known, as far as it is, and a run begins in which nothing was put (own).
 pub record BeginsInRows (ops : List Op) (t : List ℕ) (os : List (Option HeadChange)) (r : SlotRun) : Type 0 where
   pub document : ℕ
-  pub puts : ArePutInRows (cut_of t) document ops os
-  pub begins : BeginsInAnyRow (cut_of t) document t r
+  pub end : Option EndOfEntries
+  pub puts : ArePutInRows (cut_of t) document end ops os
+  pub begins : BeginsInAnyRow (cut_of t) document end t r

@@ -1,5 +1,5 @@
-//! Values on one line that an update puts in rows of one document, in any order.
-ghost use Rattle.std.specs.Prelude.{◌≡◌, ℕ, IfErr, IfOk, IfSome, Some};
+//! Values on one line that an update puts in rows of one document, in any order, and entries at the end of a mapping.
+ghost use Rattle.std.specs.Prelude.{◌≡◌, ℕ, true, IfErr, IfOk, IfSome, Some};
 ghost use Rattle.yq_text.specs.Halves.{whole};
 ghost use Rattle.yq_documents.specs.Reading.{cut_of, read_at};
 ghost use Rattle.yq_semantics.specs.Operations.{operations_of};
@@ -9,9 +9,10 @@ ghost use Rattle.yq_batch.specs.OpenRows as spec;
 
 use crate::any_order::{SlotRun, ended};
 use crate::change::HeadChange;
-use crate::in_rows::{put_each, value_written};
+use crate::in_rows::{near_break, put_each, value_written};
+use crate::row_ends::{EntriesEnd, added_at_end, end_for, is_before_end};
 use crate::row_order::in_row_order;
-use crate::slots::{SlotPlace, are_in_order, each_once, slots_at};
+use crate::slots::{SlotPlace, are_apart, are_in_order, each_once, end_at, slots_at};
 use std::alloc::{AllocError, Global};
 use yq_edit_laws::operand_holds;
 use yq_edit_rules::is_filled;
@@ -24,10 +25,11 @@ fn put_inside<'o>(
     alloc: Global,
     cut: &mut CutText<'_, '_>,
     doc: usize,
+    end: &Option<EntriesEnd<'_>>,
     op: &'o Op,
 ) -> Result<Option<HeadChange<'o>>, AllocError>
     ensures same { cut.new ≡ cut.old }
-    ensures puts { IfOk result (spec.MayPut (cut_of cut.old) doc op.now) }
+    ensures puts { IfOk result (spec.MayDo cut.old doc end.now op.now) }
 {
     operand_holds(op);
     let Op::Replace(path, value) = op else {
@@ -43,10 +45,14 @@ fn put_inside<'o>(
         return Ok(None);
     }
     let _text = cut.text();
+    let stop = at.start + at.head.len();
+    if !is_before_end(end, at.row, stop) {
+        return Ok(None);
+    }
     let written = value_written(alloc, cut, path, &at, value)?;
     let place = SlotPlace {
         start: at.start,
-        end: at.start + at.head.len(),
+        end: stop,
         more: false,
     };
     Ok(Some(HeadChange {
@@ -55,6 +61,23 @@ fn put_inside<'o>(
         written,
         steps: &path.steps,
     }))
+}
+
+/// The same, or what one puts at the end of a mapping, if that is known.
+fn change_inside<'o>(
+    alloc: Global,
+    cut: &mut CutText<'_, '_>,
+    doc: usize,
+    end: &Option<EntriesEnd<'_>>,
+    op: &'o Op,
+) -> Result<Option<HeadChange<'o>>, AllocError>
+    ensures same { cut.new ≡ cut.old }
+    ensures puts { IfOk result (spec.MayDo cut.old doc end.now op.now) }
+{
+    match (op, end) {
+        (Op::Append(_, _, _), Some(end)) => added_at_end(alloc, cut, end, op),
+        _ => put_inside(alloc, cut, doc, end, op),
+    }
 }
 
 /// Nothing, for each of so many operations.
@@ -68,24 +91,31 @@ fn none_known<'o>(alloc: Global, count: usize) -> Result<Vec<Option<HeadChange<'
     Ok(changes)
 }
 
-/// What each operation puts in a row of document `doc`, found in the order of these numbers; nothing, where one of
-/// them does something else.
+/// What each operation puts in a row of document `doc`, or at the end of a mapping, found in the order of the rows;
+/// nothing, where one of them does something else.
 fn puts_inside<'o>(
     alloc: Global,
     cut: &CutText<'_, '_>,
     doc: usize,
+    end: &Option<EntriesEnd<'_>>,
     ops: &'o [Op],
-    order: &[usize],
 ) -> Result<Option<Vec<Option<HeadChange<'o>>>>, AllocError>
-    ensures { IfOk result (spec.FindsPuts cut.now doc ops.now) }
+    ensures { IfOk result (spec.FindsPuts cut.now doc end.now ops.now) }
 {
+    let Some(numbers) = in_row_order(alloc, cut, ops)? else {
+        return Ok(None);
+    };
+    if numbers.len() != ops.len() {
+        return Ok(None);
+    }
+    let order = numbers.as_slice();
     let mut way = cut.again();
     let mut changes = none_known(alloc, ops.len())?;
     'rows: for number in order {
         if *number >= ops.len() || *number >= changes.len() {
             return Ok(None);
         }
-        let found = put_inside(alloc, &mut way, doc, &ops[*number])?;
+        let found = change_inside(alloc, &mut way, doc, end, &ops[*number])?;
         if found.is_none() {
             return Ok(None);
         }
@@ -110,19 +140,68 @@ fn places_of(
     Ok(Some(each_once(alloc, &places)?))
 }
 
+/// Whether the first break of a text is near, and in front of a place.
+fn is_near(text: Halves<'_>, place: usize) -> bool
+    ensures { result ≡ true → (len : ℕ) × spec.HasNearBreak (whole text.entry) place len }
+{
+    let front = text.front.as_bytes();
+    let len = place.min(front.len());
+    match near_break(front.split_at(len).0) {
+        Some(_) => true,
+        None => false,
+    }
+}
+
+/// The same of the first one of places.
+fn is_near_first(text: Halves<'_>, places: &[SlotPlace]) -> bool
+    ensures { result ≡ true → spec.IsNearFirst (whole text.entry) places.now }
+{
+    match places {
+        [first, ..] => is_near(text, first.start),
+        [] => false,
+    }
+}
+
+/// Whether the last one of places is an offset, and the text's first break is near, and in front of them.
+fn ends_near(text: Halves<'_>, places: &[SlotPlace], at: usize) -> bool
+    ensures { result ≡ true → spec.EndsNear (whole text.entry) at places.now }
+{
+    if !end_at(places, at) {
+        return false;
+    }
+    is_near_first(text, places)
+}
+
+/// Whether something is between places, of which the last one is the end of a mapping, if that is known.
+fn are_before_end(text: Halves<'_>, places: &[SlotPlace], end: &Option<EntriesEnd<'_>>) -> bool
+    ensures { result ≡ true → spec.AreBeforeEnd (whole text.entry) places.now end.now }
+{
+    if !are_apart(places) {
+        return false;
+    }
+    match end {
+        Some(end) => ends_near(text, places, end.at),
+        None => true,
+    }
+}
+
 /// A run in which nothing was put at the places of changes, if they are in order in the text.
 fn run_at(
     alloc: Global,
     text: Halves<'_>,
     changes: &[Option<HeadChange<'_>>],
+    end: &Option<EntriesEnd<'_>>,
 ) -> Result<Option<SlotRun>, AllocError>
     requires { read_at (whole text) ≡ Some (cut_of (whole text)) }
-    ensures { IfOk result (spec.MayBeginInRows (whole text.entry)) }
+    ensures { IfOk result (spec.MayBeginInRows (whole text.entry) end.now) }
 {
     let Some(places) = places_of(alloc, changes)? else {
         return Ok(None);
     };
     if !are_in_order(&places, text.len()) {
+        return Ok(None);
+    }
+    if !are_before_end(text, &places, end) {
         return Ok(None);
     }
     let Some(slots) = slots_at(alloc, &places)? else {
@@ -135,8 +214,21 @@ fn run_at(
     }))
 }
 
-/// What operations put in rows of one mapping, with a run in which nothing was put yet; nothing, where one of them does
-/// something else.
+/// The document in which the first of operations puts something, or that of a mapping's end.
+fn document_of(ops: &[Op], end: &Option<EntriesEnd<'_>>) -> Option<usize>
+    ensures { IfSome result (spec.IsEndsDocument end.now) }
+{
+    if let Some(end) = end {
+        return Some(end.path.doc);
+    }
+    match ops {
+        [Op::Replace(path, _), ..] => Some(path.doc),
+        _ => None,
+    }
+}
+
+/// What operations put in rows of one mapping, and at its end, with a run in which nothing was put yet; nothing, where
+/// one of them does something else.
 fn begun<'o>(
     alloc: Global,
     cut: &CutText<'_, '_>,
@@ -145,26 +237,23 @@ fn begun<'o>(
     ensures { IfOk result (λ o. IfSome o (λ x.
         spec.BeginsInRows ops.now cut.now x.0.items x.1)) }
 {
-    let [Op::Replace(path, _), ..] = ops else {
+    let Some(end) = end_for(alloc, cut, ops) else {
         return Ok(None);
     };
-    let Some(order) = in_row_order(alloc, cut, ops)? else {
+    let Some(doc) = document_of(ops, &end) else {
         return Ok(None);
     };
-    if order.len() != ops.len() {
-        return Ok(None);
-    }
-    let Some(changes) = puts_inside(alloc, cut, path.doc, ops, &order)? else {
+    let Some(changes) = puts_inside(alloc, cut, doc, &end, ops)? else {
         return Ok(None);
     };
-    let Some(run) = run_at(alloc, cut.text(), &changes)? else {
+    let Some(run) = run_at(alloc, cut.text(), &changes, &end)? else {
         return Ok(None);
     };
     Ok(Some((changes, run)))
 }
 
-/// Operations carried out that each put a value on one line in a row of one mapping, in any order; nothing, where one of
-/// them does something else.
+/// Operations carried out that each put a value on one line in a row of one mapping, in any order, or an entry at its
+/// end; nothing, where one of them does something else.
 pub(crate) fn carry_in_any_row(
     alloc: Global,
     cut: &CutText<'_, '_>,
@@ -197,7 +286,7 @@ pub(crate) fn carry_in_any_row(
 }
 
 /// Carries out operations together that change one row each, one after the other, or that put values on one line in rows
-/// of one mapping in any order; nothing, where one of them does more.
+/// of one mapping in any order, and new entries at its end; nothing, where one of them does more.
 pub fn carry_in_rows<'d>(
     alloc: Global,
     cut: &CutText<'d, '_>,

@@ -194,7 +194,7 @@ fn row_put<'d>(
 }
 
 /// The break that ends the first line of a text, if it is near.
-fn near_break(text: &[u8]) -> Option<Break>
+pub(crate) fn near_break(text: &[u8]) -> Option<Break>
     ensures { IfSome result (λ b. (more : List ℕ) → first_break (text.now ++ more) ≡ b) }
 {
     let near = text.split_at(text.len().min(NEAR_BREAK)).0;

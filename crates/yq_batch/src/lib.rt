@@ -12,6 +12,7 @@ mod in_rows;
 mod left;
 mod near;
 mod removals;
+mod row_ends;
 mod row_order;
 mod row_removals;
 mod run;

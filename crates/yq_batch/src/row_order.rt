@@ -28,23 +28,58 @@ fn replaced_key<'o>(op: &'o Op, doc: usize, above: &[Step]) -> Option<&'o str> {
     }
 }
 
-/// The keys of operations that replace values of one mapping, that of the entry at a path, by values on one line.
-fn replaced_keys<'o>(
+/// Whether an operation puts an entry with a value on one line into the mapping at these steps of a document.
+fn adds_entry(op: &Op, doc: usize, above: &[Step]) -> bool {
+    match op {
+        Op::Append(path, Some(_), value) => {
+            path.doc == doc && !is_filled(value) && are_same_steps(&path.steps, above)
+        }
+        _ => false,
+    }
+}
+
+/// What operations do to a mapping: the keys whose values some replace, each with its operation's number, and the
+/// numbers of those that put entries into it.
+#[derive(Drop)]
+struct MappingOps<'o> {
+    keys: Vec<(&'o str, usize)>,
+    added: Vec<usize>,
+}
+
+/// What operations do to one mapping, that of the entry at a path, where all values are on one line.
+fn mapping_ops<'o>(
     alloc: Global,
     path: &Path,
     ops: &'o [Op],
-) -> Result<Option<Vec<&'o str>>, AllocError> {
+) -> Result<Option<MappingOps<'o>>, AllocError> {
     let Some((above, _)) = last_step(&path.steps) else {
         return Ok(None);
     };
-    let mut keys = Vec::with_capacity(alloc, ops.len())?;
-    'operations: for op in ops {
-        let Some(key) = replaced_key(op, path.doc, above) else {
+    let mut found = MappingOps {
+        keys: Vec::with_capacity(alloc, ops.len())?,
+        added: Vec::new(alloc),
+    };
+    'operations: for number in 0..ops.len() {
+        let op = &ops[number];
+        if let Some(key) = replaced_key(op, path.doc, above) {
+            found.keys.push((key, number))?;
+        } else if adds_entry(op, path.doc, above) {
+            found.added.push(number)?;
+        } else {
             return Ok(None);
-        };
-        keys.push(key)?;
+        }
     }
-    Ok(Some(keys))
+    Ok(Some(found))
+}
+
+/// The path of the first of operations that replaces something.
+fn first_replaced(ops: &[Op]) -> Option<&Path> {
+    'operations: for op in ops {
+        if let Op::Replace(path, _) = op {
+            return Some(path);
+        }
+    }
+    None
 }
 
 /// The first of rows up to one from which on all begin as deep.
@@ -110,7 +145,7 @@ fn meant(key: &str) -> &str {
 }
 
 /// Whether keys come in the order of rows that have them.
-fn come_in_order(rows: &Rows<'_>, mapping: MappingRows, keys: &[&str]) -> bool
+fn come_in_order(rows: &Rows<'_>, mapping: MappingRows, keys: &[(&str, usize)]) -> bool
     requires { mapping.end ≤ length rows.now.rows }
 {
     let mut left = keys;
@@ -118,21 +153,21 @@ fn come_in_order(rows: &Rows<'_>, mapping: MappingRows, keys: &[&str]) -> bool
         let [key, others @ ..] = left else {
             return true;
         };
-        if rows.level(at) == mapping.level && meant(rows.key(at)) == *key {
+        if rows.level(at) == mapping.level && meant(rows.key(at)) == key.0 {
             left = others;
         }
     }
     left.is_empty()
 }
 
-/// The number of each key.
+/// The number of each key's operation.
 fn numbers_by_key<'o>(
     alloc: Global,
-    keys: &[&'o str],
+    keys: &[(&'o str, usize)],
 ) -> Result<BTreeMap<&'o str, usize>, AllocError> {
     let mut numbers = BTreeMap::new(alloc);
-    'keys: for number in 0..keys.len() {
-        numbers.insert(keys[number], number)?;
+    'keys: for key in keys {
+        numbers.insert(key.0, key.1)?;
     }
     Ok(numbers)
 }
@@ -158,13 +193,14 @@ fn numbers_in_rows(
 }
 
 /// The numbers of operations that replace values of one block mapping by others on one line, in the order of its rows,
-/// where keys are written without escapes; nothing, where they come in this order, or one of them does something else.
+/// where keys are written without escapes, and of those that put entries into it, after these; nothing, where all replace
+/// values in this order, or one of them does something else.
 pub(crate) fn in_row_order(
     alloc: Global,
     cut: &CutText<'_, '_>,
     ops: &[Op],
 ) -> Result<Option<Vec<usize>>, AllocError> {
-    let [Op::Replace(path, _), ..] = ops else {
+    let Some(path) = first_replaced(ops) else {
         return Ok(None);
     };
     let Some(at) = cut.again().to_held_row(alloc, path) else {
@@ -173,7 +209,7 @@ pub(crate) fn in_row_order(
     if !at.inline {
         return Ok(None);
     }
-    let Some(keys) = replaced_keys(alloc, path, ops)? else {
+    let Some(mut found) = mapping_ops(alloc, path, ops)? else {
         return Ok(None);
     };
     let Some(walk) = cut.walk(path.doc) else {
@@ -183,9 +219,11 @@ pub(crate) fn in_row_order(
     let Some(mapping) = mapping_rows(rows, at.row, walk.document.first..walk.document.end) else {
         return Ok(None);
     };
-    if come_in_order(rows, mapping, &keys) {
+    if found.added.is_empty() && come_in_order(rows, mapping, &found.keys) {
         return Ok(None);
     }
-    let numbers = numbers_by_key(alloc, &keys)?;
-    Ok(Some(numbers_in_rows(alloc, rows, mapping, &numbers)?))
+    let numbers = numbers_by_key(alloc, &found.keys)?;
+    let mut order = numbers_in_rows(alloc, rows, mapping, &numbers)?;
+    order.append(&mut found.added)?;
+    Ok(Some(order))
 }

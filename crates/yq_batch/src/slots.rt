@@ -1,5 +1,6 @@
 //! Places of a text at which values are put in any order, each with what was put there.
 ghost use Rattle.std.specs.Prelude.{◌≡◌, ◌+◌, true, IfOk, IfSome};
+ghost use Rattle.yq_batch.specs.RowEnds as ends;
 ghost use Rattle.yq_batch.specs.Slots as spec;
 
 use std::alloc::{AllocError, Global};
@@ -210,4 +211,52 @@ pub(crate) fn are_in_order(places: &[SlotPlace], size: usize) -> bool
         rest = after;
     }
     at <= size
+}
+
+/// Whether something is between a place and the first one of several, and no item or entry more is put at it.
+fn is_apart(one: SlotPlace, others: &[SlotPlace]) -> bool
+    ensures { result ≡ true → ends.LeavesRoom one others.now }
+{
+    match others {
+        [other, ..] => one.end < other.start && !one.more,
+        [] => true,
+    }
+}
+
+/// Whether something is between places, and at the last one alone an item or entry more is put.
+pub(crate) fn are_apart(places: &[SlotPlace]) -> bool
+    ensures { result ≡ true → ends.LeaveRoom places.now }
+{
+    let mut rest = places;
+    'places: while let [place, after @ ..] = rest {
+        if !is_apart(*place, after) {
+            return false;
+        }
+        rest = after;
+    }
+    true
+}
+
+/// Whether a place is an offset, if no others come after it.
+fn is_last_at(one: SlotPlace, others: &[SlotPlace], at: usize) -> bool
+    ensures { result ≡ true → ends.IsLastAt at one others.now }
+{
+    match others {
+        [_, ..] => true,
+        [] => one.start == at && one.end == at,
+    }
+}
+
+/// Whether the last one of places is an offset.
+pub(crate) fn end_at(places: &[SlotPlace], at: usize) -> bool
+    ensures { result ≡ true → ends.EndAt at places.now }
+{
+    let mut rest = places;
+    'places: while let [place, after @ ..] = rest {
+        if !is_last_at(*place, after, at) {
+            return false;
+        }
+        rest = after;
+    }
+    true
 }

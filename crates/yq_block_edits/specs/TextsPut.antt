@@ -1,5 +1,5 @@
 -- What is written of values of the code at a place, and what is found there (YAML 1.2.2, 8.2; own).
-use Rattle.std.specs.Prelude.{ℕ, Bool, List, Some}
+use Rattle.std.specs.Prelude.{ℕ, Bool, List, [], ◌∷◌, Some}
 use Rattle.yq_core.{specs.BlockWritten.break_text, specs.Paths.Step, specs.Scalar.ScalarText, specs.Values.value_node}
 use Rattle.yq_core.specs.declared.value.Value.{Value}
 use Rattle.yq_documents.{specs.Located.steps_of, specs.Reading.cut_of, specs.declared.path.Path.Path}
@@ -28,6 +28,10 @@ child_lines l column c = entry_lines l column (borrowed c.key) (value_node c.val
 -- those of one more item or entry after a last line, which ends in this break or in none
 abbrev pub more_text : Layout → Child → ℕ → List ℕ → List ℕ
 more_text l c column last = more_lines l (borrowed c.key) (value_node c.value.now) column last
+
+-- the same after a line with a break, in the document of that number of a text
+abbrev pub text_after_line : ℕ → List ℕ → Child → ℕ → List ℕ
+text_after_line doc t c column = more_text (layout_in doc t) c column (10 ∷ [])
 
 -- the lines of a head comment with a text in a column, which end with the first break of the text that they are put in (6.6)
 abbrev pub head_comment_written : (column : ℕ) (t text : List ℕ) → List ℕ

@@ -1,9 +1,10 @@
 //! Append: one more item or entry at the end of a block collection.
-ghost use Rattle.std.specs.Prelude.{◌≡◌, IfOk, string_bytes};
+ghost use Rattle.std.specs.Prelude.{◌≡◌, ◌≤◌, ◌∷◌, IfOk, Some, string_bytes};
+ghost use Rattle.yq_core.{specs.Values.value_node, specs.Strings.{AddsText, GivesText}};
 ghost use Rattle.yq_places.specs.StandingViews.{held_view, lines_view};
 ghost use Rattle.yq_edit_rules.specs.Answers.{GivesSegments};
-ghost use Rattle.yq_block_edits.{specs.SegmentsPut.{IsExchange, more_at_path}, specs.TextsPut.{layout_in, child_lines, more_text}};
-ghost use Rattle.yq_core.specs.Strings.{AddsText, GivesText};
+ghost use Rattle.yq_block_edits.specs.SegmentsPut.{IsExchange, more_at_path, put_after};
+ghost use Rattle.yq_block_edits.specs.TextsPut.{layout_in, child_lines, more_text, text_after_line};
 ghost use Rattle.yq_edit_rules.specs.EntryEdits as spec;
 ghost use Rattle.yq_edit_rules.specs.PiecePuts as pieces;
 
@@ -67,6 +68,26 @@ fn more_lines(
 {
     let layout = layout_for(cut, doc, child.key.is_some(), child.value);
     entry_text(alloc, &layout, child, column, last)
+}
+
+/// The lines of one more item or entry at a column in document `doc`, after a line with a break, less their first space.
+pub fn more_written(
+    alloc: Global,
+    cut: &CutText<'_, '_>,
+    doc: usize,
+    child: Child<'_>,
+    column: usize,
+) -> Result<String, AllocError>
+    requires { 1 ≤ column }
+    ensures { IfOk result (λ s. 32 ∷ string_bytes s ≡
+        text_after_line doc cut.now child.entry column) }
+{
+    let layout = layout_for(cut, doc, child.key.is_some(), child.value);
+    let mut out = String::new(alloc);
+    push_spaces(&mut out, column - 1)?;
+    push_entry(alloc, &mut out, &layout, column, child)?;
+    out.push_str(break_text(layout.br))?;
+    Ok(out)
 }
 
 /// Lines put after those under a key or dash.

@@ -14,7 +14,7 @@ mod removing;
 mod replace;
 mod space;
 
-pub use append::more_at;
+pub use append::{more_at, more_written};
 pub use head_comment::{head_comment_at, head_comment_written};
 pub use kept::{is_kept, is_kept_in_row};
 pub use line_comment::{comment_written, line_comment_at};

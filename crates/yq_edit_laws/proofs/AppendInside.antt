@@ -1,7 +1,7 @@
 -- One item or entry more after a line that has a break.
 use Rattle.std.proofs.Common.{rules, ◌≡◌, ℕ, suc, ◌≤◌, true, false, List, [], ◌∷◌, ◌++◌, length, Option, Some, refl, sym, ap, ◌∙◌, subst}
 use Rattle.std.{proofs.Common.{append_assoc, append-nil, replicate}, proofs.lemmas.Bool.false≢true}
-use Rattle.yq_core.{specs.BlockWritten.break_text, specs.Paths.Step, specs.Tree.Node}
+use Rattle.yq_core.{specs.BlockWritten.break_text, specs.Paths.{Step, append_child, changed_at, within}, specs.Tree.Node}
 use Rattle.yq_text.{specs.Limit.text_limit, specs.Script.{Segment, new_text}}
 use Rattle.yq_row_table.{specs.Exchange.asked_behind, specs.Grammar.{unlimited, no_rows}, proofs.PlainEnds.AtLine}
 use Rattle.yq_row_table.{specs.Rows.{Row, rows_text, Part, Cut, cut_text}, specs.Seams.{ends_in_block, ends_in_line}}
@@ -9,15 +9,16 @@ use Rattle.yq_row_table.{specs.Splices.{first_gap, behind_first}, proofs.seams.S
 use Rattle.yq_row_table.{proofs.splices.SpliceTexts.{own_gap, own_end, first_text}, specs.Items.rows_items}
 use Rattle.yq_places.{specs.CollectionEnds.{CollectionEnd, is_broken}, specs.RowPaths.IsReadable}
 use Rattle.yq_documents.{specs.Documents.lead_of, specs.Ready.begins_no_node, specs.Reading.read_at}
-use Rattle.yq_outline.specs.Lines.{lines_from, lines_of_rows}
+use Rattle.yq_outline.{specs.Lines.{lines_from, lines_of_rows}, specs.Outline.label, specs.Places.content_under}
 use Rattle.yq_edit_rules.{specs.declared.layout.Layout.Layout, specs.Alone.singleton, specs.BlockRows.node_rows}
 use Rattle.yq_edit_rules.{specs.BlockText.block_value, proofs.BlockEndLaws.line_ends, proofs.TextLaws.value_spelled}
-use Rattle.yq_edit_rules.{specs.Appends.{TakesRows, inserted}, specs.Changed.put_document, specs.CollectionPlaces.IsCollectionEnd}
-use Rattle.yq_edit_rules.{specs.DocumentRows.behind_document, specs.Rooms.is_block_root, proofs.AppendLaws.block_appended}
-use Rattle.yq_edit_rules.{proofs.EndedRowLaws.rows_then, proofs.TextPieceLaws.pieces_joined, proofs.BlockLineLaws.break_uncommented}
-use Rattle.yq_edit_rules.{specs.Local.{IsLocal, IsLocalTo}, proofs.ItemsLocal.{first_nothing, last_nothing}}
-use Rattle.yq_edit_rules.{proofs.LocalLaws.{cut_known, rows_local}, specs.Layouts.layout_of, specs.EntryEdits.entry_lines}
-use Rattle.yq_edit_rules.{specs.ReadsAfter.ReadsAfter, proofs.CommentPieceLaws.break_piece, proofs.SegmentLaws.segments_readable}
+use Rattle.yq_edit_rules.{specs.Appends.{TakesRows, inserted}, specs.Changed.{IsChanged, put_document}}
+use Rattle.yq_edit_rules.{specs.CollectionPlaces.IsCollectionEnd, specs.DocumentRows.behind_document, specs.Rooms.is_block_root}
+use Rattle.yq_edit_rules.{proofs.AppendLaws.block_appended, proofs.EndedRowLaws.rows_then, proofs.TextPieceLaws.pieces_joined}
+use Rattle.yq_edit_rules.{proofs.BlockLineLaws.break_uncommented, specs.Local.{IsLocal, IsLocalTo}}
+use Rattle.yq_edit_rules.{proofs.ItemsLocal.{first_nothing, last_nothing}, proofs.LocalLaws.{cut_known, rows_local}}
+use Rattle.yq_edit_rules.{specs.Layouts.layout_of, specs.EntryEdits.entry_lines, specs.ReadsAfter.ReadsAfter}
+use Rattle.yq_edit_rules.{proofs.CommentPieceLaws.break_piece, proofs.SegmentLaws.segments_readable}
 use Rattle.yq_edit_rules.proofs.AppendPlaces.{IsAppendPlace, put_segments, old_is, p, there, e, allows_there, kept_pieces, IsAsked, entry}
 use Rattle.yq_edit_rules.proofs.AppendPlaces.{written, new_rows_are, entry_piece, filled, finished}
 use Rattle.yq_semantics.specs.Operations.{append}
@@ -64,19 +65,19 @@ module _ (doc : ℕ) (steps : List Step) (key : Option (List ℕ)) (v : Node) (c
   abbrev place : IsCollectionEnd c doc (p doc steps c x read at) steps x
   place = e doc steps c x read at
 
-  abbrev new : List Row
+  abbrev pub new : List Row
   new = node_rows l x.column (break_text l.br) (singleton key v)
 
   abbrev lines : List ℕ
   lines = entry_lines l x.column key v
 
-  abbrev q : Part
+  abbrev pub q : Part
   q = inserted place.front new place.back part
 
   q_rows : q.rows ≡ place.front ++ (new ++ place.back)
   q_rows = ap (λ rs. place.front ++ (new ++ rs)) (own_gap place.back part.end)
 
-  new_is : cut_text (put_document doc q c) ≡ new_text (put_segments x (lines ++ break_text l.br))
+  pub new_is : cut_text (put_document doc q c) ≡ new_text (put_segments x (lines ++ break_text l.br))
   new_is =
       let w = filled doc steps key v c x read at g in
       place.new_text q
@@ -121,14 +122,25 @@ module _ (doc : ℕ) (steps : List Step) (key : Option (List ℕ)) (v : Node) (c
       ap (λ rs. comments.head_comment (first_gap rs q.end)) q_split
       ∙ (ap comments.head_comment (first_same place.others place.last (new ++ place.back) place.back q.end part.end) ∙ ap (λ rs. comments.head_comment (first_gap rs part.end)) (sym p_split))
 
+  changed : x.broken ≡ true → length (new_text (put_segments x (lines ++ break_text l.br))) ≤ text_limit →
+      IsChanged c (put_document doc q c) doc (lead_of part)
+      (changed_at steps (within (append_child (label (entry doc steps key v c x read at g (break_text l.br) (break_uncommented l.br)).line)
+      (content_under (entry doc steps key v c x read at g (break_text l.br) (break_uncommented l.br)).line (entry doc steps key v c x read at g (break_text l.br) (break_uncommented l.br)).under))))
+  changed broken size =
+      let uncommented = break_uncommented l.br in
+      let w = entry doc steps key v c x read at g (break_text l.br) uncommented in
+      block_appended (cut_text c) c doc part steps place.h place.front place.back new w.deep.0 w.line w.under (there doc steps c x read at) place.collection place.count
+      (written doc steps key v c x read at g (break_text l.br) uncommented) (takes broken) (readable size)
+
+  -- the cut of the new text
+  pub inside_read : x.broken ≡ true → length (new_text (put_segments x (lines ++ break_text l.br))) ≤ text_limit → read_at (cut_text (put_document doc q c)) ≡ Some (put_document doc q c)
+  inside_read broken size = (changed broken size).read
+
   pub inside_both : x.broken ≡ true → length (new_text (put_segments x (lines ++ break_text l.br))) ≤ text_limit →
       ReadsAfter (append doc steps key v) c (new_text (put_segments x (lines ++ break_text l.br))) × IsLocalTo (put_segments x (lines ++ break_text l.br)) c
   inside_both broken size =
       let uncommented = break_uncommented l.br in
-      let w = entry doc steps key v c x read at g (break_text l.br) uncommented in
-      let changed =
-      block_appended (cut_text c) c doc part steps place.h place.front place.back new w.deep.0 w.line w.under (there doc steps c x read at) place.collection place.count
-      (written doc steps key v c x read at g (break_text l.br) uncommented) (takes broken) (readable size) in
+      let is_changed = changed broken size in
       let ss : List Segment = put_segments x (lines ++ break_text l.br) in
       let before_is : x.before ≡ (place.start ++ rows_text place.front []) ++ [] = place.before_is ∙ sym (append-nil (place.start ++ rows_text place.front [])) in
       let local : IsLocal ss c (put_document doc q c) =
@@ -153,6 +165,6 @@ module _ (doc : ℕ) (steps : List Step) (key : Option (List ℕ)) (v : Node) (c
         new_is = sym new_is;
       }) refl (first_nothing (rows_items new [])) refl (last_nothing (rows_items new [])) in (
         subst (ReadsAfter (append doc steps key v) c) new_is
-            (finished doc steps key v c x read at g q (break_text l.br) uncommented changed same_lead same_block (ap no_rows q_split ∙ some_rows place.others place.last (new ++ place.back))),
-        cut_known ss c (put_document doc q c) changed.read new_is local,
+            (finished doc steps key v c x read at g q (break_text l.br) uncommented is_changed same_lead same_block (ap no_rows q_split ∙ some_rows place.others place.last (new ++ place.back))),
+        cut_known ss c (put_document doc q c) is_changed.read new_is local,
       )

@@ -2,6 +2,8 @@
 use Rattle.std.proofs.Common.{rules, inl, inr, ◌⊎◌, ◌≡◌, ℕ, suc, ◌+◌, ◌<◌, ◌≤◌, Bool, true, false, ◌&&◌, List, [], ◌∷◌, ◌++◌, length, take}
 use Rattle.std.proofs.Common.{Option, Some, None, refl, sym, ap, ◌∙◌, subst, arith, append_assoc, append-nil, length-append}
 use Rattle.std.{proofs.lemmas.Bool.{cases_lt, false≢true}, proofs.lemmas.Option.same_Some, specs.List.slice_get, specs.Option.is_none}
+use Rattle.std.specs.Prelude.{option_and_then}
+use mathlib.Core.List.{head-eq_of_cons-eq, tail-eq_of_cons-eq}
 use Rattle.yq_core.{specs.Paths.Step, specs.Text.is_empty, specs.Tree.Node}
 use Rattle.yq_outline.{specs.Comments.head_comment, specs.Outline.{Line, Outline, flatten}}
 use Rattle.yq_outline.{specs.Places.{FoundLine, here, lines_after, lines_before}, specs.Positions.has_no_mark, proofs.Decides.flatten-group}
@@ -13,11 +15,24 @@ use Rattle.yq_documents.{specs.Documents.document_parts, specs.Reading.part_outl
 use Rattle.yq_places.{specs.CollectionEnds.{CollectionEnd, is_broken}, specs.Standings.{RowsOfEntry, before_entry, behind_entry, is_alone}}
 use Rattle.yq_places.{proofs.FlowViewLaws.before_under, proofs.RowPathLaws.found_lines, proofs.UnderExchange.lines_append}
 use Rattle.yq_edit_rules.{specs.Changed.put_document, specs.CollectionPlaces.{BeginsAt, IsCollectionEnd}}
-use Rattle.yq_edit_rules.{specs.DocumentRows.behind_document, specs.Siblings.{HasEntries, IsEntry, under_line}}
+use Rattle.yq_edit_rules.specs.DocumentRows.{behind_document}
+use Rattle.yq_edit_rules.specs.Siblings.{HasEntries, IsEntry, NodeLines, lines_at, lines_below, under_line}
 use Rattle.yq_edit_rules.{specs.StandingLaws.StandsThere, proofs.EndedRowLaws.row_there, proofs.LineLaws.row_count}
 use Rattle.yq_edit_rules.{proofs.PartLaws.{document_known, part_rows}, proofs.CommentRowLaws.rows_front, proofs.SamePlaceLaws.put_own}
 use Rattle.yq_edit_laws.proofs.CollectionRows.{get_behind, get_front, behind_front, row_agrees_in, columns_are, no_bare}
 use Rattle.yq_row_table.specs.Rows as rows
+
+-- rows in two parts in two ways, of which the first ones have as many lines
+rows_by_lines : (a b c d : List Row) → a ++ b ≡ c ++ d → length (lines_of_rows a) ≡ length (lines_of_rows c) → (a ≡ c) × (b ≡ d)
+rows_by_lines [] b [] d e size = (refl, e)
+rows_by_lines [] b (y ∷ c) d e size = absurd (omega (arith, size, row_count y, length-append (row_lines y) (lines_of_rows c)))
+rows_by_lines (x ∷ a) b [] d e size = absurd (omega (arith, size, row_count x, length-append (row_lines x) (lines_of_rows a)))
+rows_by_lines (x ∷ a) b (y ∷ c) d e size =
+    let first : x ≡ y = head-eq_of_cons-eq e in
+    let h =
+    rows_by_lines a b c d (tail-eq_of_cons-eq e)
+    (omega (arith, size, ap (λ (r : Row). length (row_lines r)) first, length-append (row_lines x) (lines_of_rows a), length-append (row_lines y) (lines_of_rows c))) in
+    (λ i. first i ∷ h.0 i, h.1)
 
 -- ---- under a line
 
@@ -144,6 +159,26 @@ module _ (n : ℕ) (s : Step) (ss : List Step) (c : Cut) (e : RowsOfEntry) (ther
         old_text = sym (ap cut_text (put_own n c p there.old.there)) ∙ there.put p;
         new_text = there.put;
       }
+
+  -- whichever end of it is told, these rows are in front
+  pub front_there : (x : CollectionEnd) (a : IsCollectionEnd c n p (s ∷ ss) x) → f.line.head ≡ None → (a.front ≡ e.front ++ (e.row ∷ e.under)) × (a.back ≡ e.back)
+  front_there x a none =
+      let found : lines_at (s ∷ ss) (part_outline p) ≡ Some (under_line f) =
+      ap (option_and_then (λ (y : FoundLine × List Step). lines_below y.0.line.head y.1 y.0)) there.is ∙ ap (λ (o : Option Node). lines_below o [] f) none in
+      let same : under_line f ≡ a.h = same_Some _ _ (sym found ∙ a.collection.place_is) in
+      let above : length (lines_before (under_line f).place) ≡ length (lines_before f.place) + 1 = ap length (before_under f.place f.line f.after) ∙ length-append (lines_before f.place) (f.line ∷ []) in
+      rows_by_lines a.front a.back (e.front ++ (e.row ∷ e.under)) e.back (sym a.rows_are ∙ (there.rows_are ∙ sym (append_assoc e.front (e.row ∷ e.under) e.back)))
+      (omega (
+        arith,
+        a.count,
+        ap (λ (h : NodeLines). length (lines_before h.place)) same,
+        ap (λ (h : NodeLines). length (flatten h.lines)) same,
+        above,
+        ap length (lines_append e.front (e.row ∷ e.under)),
+        length-append (lines_of_rows e.front) (lines_of_rows (e.row ∷ e.under)),
+        there.number,
+        there.count,
+      ))
 
 -- ---- at the root
 

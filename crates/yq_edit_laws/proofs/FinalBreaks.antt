@@ -23,7 +23,7 @@ abbrev pub ends_feed : List ℕ → Bool
 ends_feed [] = false
 ends_feed (b ∷ p) = cond (is_empty p) (is_feed b) (ends_feed p)
 
-feed_more : (a b : List ℕ) → is_empty b ≡ false → ends_feed (a ++ b) ≡ ends_feed b
+pub feed_more : (a b : List ℕ) → is_empty b ≡ false → ends_feed (a ++ b) ≡ ends_feed b
 feed_more [] b h = refl
 feed_more (x ∷ a) b h = rw (some_behind a b h) (feed_more a b h)
 
@@ -39,10 +39,10 @@ feed_before : (a b : List ℕ) → ends_feed (a ++ b) ≡ false → ends_feed b 
 feed_before a [] h = refl
 feed_before a (b ∷ bs) h = sym (feed_more a (b ∷ bs) refl) ∙ h
 
-lf_feed : (t : List ℕ) → IsLf t → ends_feed t ≡ true
+pub lf_feed : (t : List ℕ) → IsLf t → ends_feed t ≡ true
 lf_feed t h = ap ends_feed h.1 ∙ feed_more h.0 (10 ∷ []) refl
 
-feed_lf : (t : List ℕ) → ends_feed t ≡ true → IsLf t
+pub feed_lf : (t : List ℕ) → ends_feed t ≡ true → IsLf t
 feed_lf [] e = absurd (false≢true e)
 feed_lf (b ∷ []) e = ([], ap (λ x. x ∷ []) (eqb-true b 10 e))
 feed_lf (b ∷ (c ∷ t)) e = append_lf (b ∷ []) (c ∷ t) (feed_lf (c ∷ t) e)
@@ -52,10 +52,10 @@ unfolding is_line
 no_line h = false≢true h
 
 -- it has a last break then
-feed_some : (t : List ℕ) → ends_feed t ≡ true → not (is_empty (last_break t)) ≡ true
+pub feed_some : (t : List ℕ) → ends_feed t ≡ true → not (is_empty (last_break t)) ≡ true
 feed_some t h = search (rules, lf_last, feed_lf, no_line)
 
-feed_none : (t : List ℕ) → ends_feed t ≡ false → last_break t ≡ []
+pub feed_none : (t : List ℕ) → ends_feed t ≡ false → last_break t ≡ []
 feed_none t h = go (last_is t)
   where
     ended : (b : List ℕ) → last_break t ≡ b → is_empty b ≡ false → ends_feed b ≡ true → last_break t ≡ []

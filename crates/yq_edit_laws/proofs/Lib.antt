@@ -123,3 +123,4 @@ pub mod FittingExists
 pub mod EditsHold
 pub mod RemoveExists
 pub mod PrintedDocuments
+pub mod UnderAppends

@@ -37,7 +37,7 @@ more_edit_at : (n : ℕ) (steps : List Step) (key : Option (List ℕ)) (v : Node
 more_edit_at n steps key v c x us read place put = ((x, place), edit_at n steps key v c x us read place put)
 
 module _ (n : ℕ) (s : Step) (ss : List Step) (key : Option (List ℕ)) (v : Node) (c : Cut) (e : RowsOfEntry) (read : read_at (cut_text c) ≡ Some c) (is_there : rows_of_entry n (s ∷ ss) c ≡ Some e) where
-  there : StandsThere n s ss c e
+  abbrev pub there : StandsThere n s ss c e
   there = rows_stand n s ss c e read is_there
 
   place : (column : ℕ) (broken : Bool) → IsCollectionEnd c n there.part (s ∷ ss) (end_at n s ss c e there column broken) → IsAppendPlace n (s ∷ ss) c (end_at n s ss c e there column broken)
@@ -52,26 +52,38 @@ module _ (n : ℕ) (s : Step) (ss : List Step) (key : Option (List ℕ)) (v : No
       (subst (λ rs. AreRows unlimited rs there.part.end (behind_document n c)) (there.rows_are ∙ sym (append_assoc e.front (e.row ∷ e.under) e.back)) (are n s ss c e there)) a t is some
 
   -- the lines under a key or dash
-  under_edit : (r : Row) (rs : List Row) → e.line ≡ length e.row.dashes → is_empty (slices e.row).head ≡ true → e.under ≡ r ∷ rs → is_alone r ≡ false →
-      IsMore n (s ∷ ss) key v c (behind_held (held e) (more_lines (layout_of n c) key v r.column (held e).last))
-  under_edit r rs last none is single =
-      let below_text : List ℕ = (slices e.row).raw ++ rows_text e.under [] in
+  pub under_spelled : (held e).before ++ ((held e).space ++ ((held e).head ++ ((held e).white ++ ((held e).comment ++ ((held e).break ++ ((held e).lines ++ (held e).last)))))) ≡ before_entry e ++ print_row e.row (rows_text e.under [])
+  under_spelled =
+      let bare : RowsOfEntry = record { start = e.start; front = e.front; row = e.row; line = e.line; under = e.under; back = []; end = []; behind = [] } in
+      let h : Held = held e in
+      ap (λ t. h.before ++ (h.space ++ (h.head ++ (h.white ++ (h.comment ++ (h.break ++ (h.lines ++ t))))))) (sym (append-nil h.last)) ∙ sym (held_spelled bare)
+
+  pub below_some : (r : Row) (rs : List Row) → e.under ≡ r ∷ rs → is_alone r ≡ false → is_empty ((slices e.row).raw ++ rows_text e.under []) ≡ false
+  below_some r rs is single =
       let first : IsRow _ r _ = (row_there unlimited (e.front ++ (e.row ∷ [])) r (rs ++ e.back) there.part.end (behind_document n c)
       (subst (λ us. AreRows unlimited us there.part.end (behind_document n c))
       (there.rows_are ∙ (ap (λ us. e.front ++ (e.row ∷ (us ++ e.back))) is ∙ sym (append_assoc e.front (e.row ∷ []) (r ∷ (rs ++ e.back)))))
       (are n s ss c e there))).1 in
       let own : is_empty (print_row r (rows_text rs [])) ≡ false = search (rules, some_behind, entry_some) in
-      let some : is_empty below_text ≡ false = ap (λ us. is_empty ((slices e.row).raw ++ rows_text us [])) is ∙ some_behind (slices e.row).raw (print_row r (rows_text rs [])) own in
-      let last_is : (held e).last ≡ last_break below_text = cond-false _ _ _ some in
-      let text : rows_text (e.front ++ (e.row ∷ e.under)) [] ≡ (rows_text e.front [] ++ (text_to_line_end e.row ++ (slices e.row).tail)) ++ below_text =
-      search (rules, rows_front, row_text_parts, append_assoc) in
-      let broken : not (is_empty (held e).last) ≡ is_broken rows.last.content = ap (λ t. not (is_empty t)) last_is ∙ broken_by _ below_text text some in
-      let end = ends_there n s ss c e there r.column (not (is_empty (held e).last)) (headless_mark n s ss c e there last none) (begins_under n s ss c e there r rs last is single) broken in
-      let bare : RowsOfEntry = record { start = e.start; front = e.front; row = e.row; line = e.line; under = e.under; back = []; end = []; behind = [] } in
-      let h : Held = held e in
-      let spelled : h.before ++ (h.space ++ (h.head ++ (h.white ++ (h.comment ++ (h.break ++ (h.lines ++ h.last)))))) ≡ before_entry e ++ print_row e.row (rows_text e.under []) =
-      ap (λ t. h.before ++ (h.space ++ (h.head ++ (h.white ++ (h.comment ++ (h.break ++ (h.lines ++ t))))))) (sym (append-nil h.last)) ∙ sym (held_spelled bare) in
-      more_edit_at n (s ∷ ss) key v c (end_at n s ss c e there r.column (not (is_empty h.last))) _ read (place r.column (not (is_empty h.last)) end) (held_put_at h r.column _ _ _ spelled)
+      ap (λ us. is_empty ((slices e.row).raw ++ rows_text us [])) is ∙ some_behind (slices e.row).raw (print_row r (rows_text rs [])) own
+
+  pub upto_below : rows_text (e.front ++ (e.row ∷ e.under)) [] ≡ (rows_text e.front [] ++ (text_to_line_end e.row ++ (slices e.row).tail)) ++ ((slices e.row).raw ++ rows_text e.under [])
+  upto_below = search (rules, rows_front, row_text_parts, append_assoc)
+
+  -- they end where a collection does
+  pub under_end : (r : Row) (rs : List Row) → e.line ≡ length e.row.dashes → is_empty (slices e.row).head ≡ true → e.under ≡ r ∷ rs → is_alone r ≡ false →
+      IsCollectionEnd c n there.part (s ∷ ss) (end_at n s ss c e there r.column (not (is_empty (held e).last)))
+  under_end r rs last none is single =
+      let some = below_some r rs is single in
+      let last_is : (held e).last ≡ last_break ((slices e.row).raw ++ rows_text e.under []) = cond-false _ _ _ some in
+      let broken : not (is_empty (held e).last) ≡ is_broken rows.last.content = ap (λ t. not (is_empty t)) last_is ∙ broken_by _ ((slices e.row).raw ++ rows_text e.under []) upto_below some in
+      ends_there n s ss c e there r.column (not (is_empty (held e).last)) (headless_mark n s ss c e there last none) (begins_under n s ss c e there r rs last is single) broken
+
+  under_edit : (r : Row) (rs : List Row) → e.line ≡ length e.row.dashes → is_empty (slices e.row).head ≡ true → e.under ≡ r ∷ rs → is_alone r ≡ false →
+      IsMore n (s ∷ ss) key v c (behind_held (held e) (more_lines (layout_of n c) key v r.column (held e).last))
+  under_edit r rs last none is single =
+      let broken : Bool = not (is_empty (held e).last) in
+      more_edit_at n (s ∷ ss) key v c (end_at n s ss c e there r.column broken) _ read (place r.column broken (under_end r rs last none is single)) (held_put_at (held e) r.column _ _ _ under_spelled)
 
   -- a compact collection
   compact_edit : e.line < length e.row.dashes →

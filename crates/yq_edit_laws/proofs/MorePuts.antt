@@ -28,7 +28,7 @@ put_both n steps key v c x read at g = go x.broken refl
     go true is size = inside_both n steps key v c x read at g is size
     go false is size = end_both n steps key v c x read at g is size
 
-asked : (n : ℕ) (steps : List Step) (key : Option (List ℕ)) (v : Node) (c : Cut) (x : CollectionEnd) (read : read_at (cut_text c) ≡ Some c)
+pub asked : (n : ℕ) (steps : List Step) (key : Option (List ℕ)) (v : Node) (c : Cut) (x : CollectionEnd) (read : read_at (cut_text c) ≡ Some c)
     (at : IsAppendPlace n steps c x) → HasOperand (append n steps key v) → Fits (room_of (cut_text c)) (append n steps key v) (documents c) →
     IsAsked steps key v (p n steps c x read at)
 asked n steps key v c x read at operand fits = search (rules, same_Some, nth_map, tree_unique)

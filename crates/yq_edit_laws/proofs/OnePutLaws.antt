@@ -5,7 +5,7 @@ use Rattle.yq_core.{specs.Text.is_empty, specs.Tree.Node, specs.declared.style.P
 use Rattle.yq_places.specs.Standings.{Held}
 use Rattle.yq_text.{specs.Script.{Segment, changes, keep, keep_before, merged, put, put_before, splice_at, splices_at}, specs.Splice.Splice}
 use Rattle.yq_text.proofs.TouchLaws.{put_twice}
-use Rattle.yq_edit_rules.{specs.CommentEdits.comment_written, specs.ReplaceEdits.spaced_text}
+use Rattle.yq_edit_rules.{specs.CommentEdits.comment_written, specs.EntryEdits.behind_held, specs.ReplaceEdits.spaced_text}
 use Rattle.yq_edit_rules.specs.RowChanges.{CommentPutsOne, InlinePutsOne, PiecePutsOne, PutsOne, inline_put, takes_white}
 use Rattle.yq_edit_rules.specs.WrittenValues.{value_text}
 
@@ -80,6 +80,40 @@ module _ (h : Held) (v : Node) (some : is_empty h.head ≡ false) (none : h.brea
 
 pub inline_puts : InlinePutsOne
 inline_puts v h some none no_lines = one_put h v some none no_lines
+
+-- ---- lines after those under a key or dash
+
+pub lines_put_one : (h : Held) (new : List ℕ) → PutsOne (behind_held h new) (h.before ++ (h.space ++ (h.head ++ (h.white ++ (h.comment ++ (h.break ++ (h.lines ++ h.last))))))) [] new h.behind
+unfolding changes
+lines_put_one h new =
+    let n : ℕ = length h.before in
+    let last : List Segment = put [] new ∷ (keep h.behind ∷ []) in
+    let lines : List Segment = keep h.break ∷ (keep h.lines ∷ (keep h.last ∷ last)) in
+    record {
+      old_is = simp (append_assoc, append-nil) refl;
+      new_is = simp (append_assoc, append-nil) refl;
+      changes_are =
+          first_keep h.before (merged (keep h.space ∷ (keep h.head ∷ (keep h.white ∷ (keep h.comment ∷ lines)))))
+          ∙ (after_keep n h.space (merged (keep h.head ∷ (keep h.white ∷ (keep h.comment ∷ lines))))
+          ∙ (after_keep (n + length h.space) h.head (merged (keep h.white ∷ (keep h.comment ∷ lines)))
+          ∙ (after_keep (n + length h.space + length h.head) h.white (merged (keep h.comment ∷ lines))
+          ∙ (after_keep (n + length h.space + length h.head + length h.white) h.comment (merged lines)
+          ∙ (after_keep (n + length h.space + length h.head + length h.white + length h.comment) h.break (merged (keep h.lines ∷ (keep h.last ∷ last)))
+          ∙ (after_keep (n + length h.space + length h.head + length h.white + length h.comment + length h.break) h.lines (merged (keep h.last ∷ last))
+          ∙ (after_keep (n + length h.space + length h.head + length h.white + length h.comment + length h.break + length h.lines) h.last (merged last)
+          ∙ (put_quiet (n + length h.space + length h.head + length h.white + length h.comment + length h.break + length h.lines + length h.last) [] new (keep h.behind ∷ []) tt
+          ∙ ap (λ (m : ℕ). splice_at m [] new)
+          (omega (
+            arith,
+            length-append h.before (h.space ++ (h.head ++ (h.white ++ (h.comment ++ (h.break ++ (h.lines ++ h.last)))))),
+            length-append h.space (h.head ++ (h.white ++ (h.comment ++ (h.break ++ (h.lines ++ h.last))))),
+            length-append h.head (h.white ++ (h.comment ++ (h.break ++ (h.lines ++ h.last)))),
+            length-append h.white (h.comment ++ (h.break ++ (h.lines ++ h.last))),
+            length-append h.comment (h.break ++ (h.lines ++ h.last)),
+            length-append h.break (h.lines ++ h.last),
+            length-append h.lines h.last,
+          ))))))))));
+    }
 
 -- ---- a line comment
 
