@@ -3,7 +3,7 @@ ghost use Rattle.std.specs.Prelude.{◌≡◌, ◌≤◌, ◌∷◌, IfOk, Some,
 ghost use Rattle.yq_core.{specs.Values.value_node, specs.Strings.{AddsText, GivesText}};
 ghost use Rattle.yq_places.specs.StandingViews.{held_view, lines_view};
 ghost use Rattle.yq_edit_rules.specs.Answers.{GivesSegments};
-ghost use Rattle.yq_block_edits.specs.SegmentsPut.{IsExchange, more_at_path, put_after};
+ghost use Rattle.yq_block_edits.specs.SegmentsPut.{IsExchange, more_at_path};
 ghost use Rattle.yq_block_edits.specs.TextsPut.{layout_in, child_lines, more_text, text_after_line};
 ghost use Rattle.yq_edit_rules.specs.EntryEdits as spec;
 ghost use Rattle.yq_edit_rules.specs.PiecePuts as pieces;

@@ -11,8 +11,8 @@ use Rattle.yq_documents.specs.Reading.{documents, read_at}
 use Rattle.yq_semantics.{specs.Fits.Fits, specs.Operations.{Operation, append}, specs.Rooms.room_of}
 use Rattle.yq_places.{specs.CollectionEnds.CollectionEnd, specs.CommentPlaces.text_to_line_end, specs.FlowNodes.flow_collection}
 use Rattle.yq_places.{specs.PrintedLines.last_break, proofs.CommentEndLaws.row_text_parts}
-use Rattle.yq_places.specs.Standings.{RowsOfEntry, Standing, alone, before_entry, behind_entry, behind_mark, below, beside, compact}
-use Rattle.yq_places.specs.Standings.{compact_in, entry_standing, held, is_alone, lone, rows_of_entry, under}
+use Rattle.yq_places.specs.Standings.{RowsOfEntry, Standing, alone, before_entry, behind_entry, behind_mark, below, beside, compact_in}
+use Rattle.yq_places.specs.Standings.{entry_standing, held, is_alone, lone, rows_of_entry, under}
 use Rattle.yq_edit_rules.{specs.declared.layout.Layout.Layout, specs.Alone.singleton, specs.Appends.inserted, specs.BlockReading.is_filled}
 use Rattle.yq_edit_rules.{specs.BlockRows.{children_rows, key_row, node_rows}, specs.Changed.put_document}
 use Rattle.yq_edit_rules.{specs.CollectionPlaces.IsCollectionEnd, specs.Edits.op_edits, specs.FlowParts.flow_more}
@@ -41,7 +41,7 @@ entry_row_is l column end key (tree.map a (tree.child label n cs)) h = absurd (f
 -- rows under a key or dash after which nothing is written are its collection
 pub under_there : (e : RowsOfEntry) (r : Row) (rs : List Row) → e.line ≡ length e.row.dashes → is_block e.row.content ≡ false → is_empty (slices e.row).head ≡ true → e.under ≡ r ∷ rs → is_alone r ≡ false →
     entry_standing e ≡ under (held e) r.column
-under_there e r rs last plain none is single = ap (λ (b : Bool). cond b (behind_mark e e.row.content) (compact (compact_in e))) (eq-eqb e.line (length e.row.dashes) last) ∙ go e.row.content refl
+under_there e r rs last plain none is single = ap (λ (b : Bool). cond b (behind_mark e e.row.content) (compact_in e)) (eq-eqb e.line (length e.row.dashes) last) ∙ go e.row.content refl
   where
     rows : below e e.under ≡ under (held e) r.column
     rows = ap (below e) is ∙ ap (λ (b : Bool). cond b (alone (lone (before_entry e ++ print_row e.row []) r (rows_text rs (behind_entry e)))) (under (held e) r.column)) single
