@@ -50,7 +50,10 @@ children-preserved c =
     }
 
 pub returns : goal.returns
-returns c = search (rules, children_done, none_counted, c.children.invariant.so_far)
+returns c = λ root named within.
+    children_done (λ q. and_then (all_allowed root) (effect_of c.args.effect.now c.args.documents.now q)) (place_at_path (path_of c.args.parent.now.path) (node_of c.args.parent.now.node))
+    c.children.before (left_of c.children.children) (map changed_of c.children.changes.items) _ (none_counted (left_of c.children.children) (omega (arith, c.children.invariant.counted, c.children-test.false)))
+    (c.children.invariant.so_far root named within)
 
 pub overflow_add-before : goal.overflow_add-before
 overflow_add-before c = omega (arith, c.children-test.true)
