@@ -1,4 +1,4 @@
-use Rattle.std.proofs.Common.{◌≡◌, ◌∙◌, List, ℕ, subst, arith, slice_index_or}
+use Rattle.std.proofs.Common.{◌≡◌, ◌∙◌, List, ℕ, subst, arith}
 use Rattle.yq_documents.specs.Reading.{cut_of}
 use Rattle.yq_batch.{specs.OpenRows.MayDo, proofs.RowOpenAnswers.puts_set}
 use Rattle.yq_batch.proofs.any_row.puts_inside.Goals as goal
