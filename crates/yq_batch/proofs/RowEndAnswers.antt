@@ -9,7 +9,7 @@ use Rattle.yq_row_table.specs.Rows.{Block, Content, Cut, Inline, Nothing, Row, R
 use Rattle.yq_row_table.{specs.Rows.rows_text, specs.Seams.is_block, specs.View.{Slices, content_cut, last_dash, slices}}
 use Rattle.yq_documents.{specs.Located.steps_of, specs.Reading.{cut_of, read_at}}
 use Rattle.yq_places.specs.StandingViews.{IsHeldRow}
-use Rattle.yq_places.specs.Standings.{Held, RowsOfEntry, alone, before_entry, behind_entry, behind_mark, below, beside, compact, compact_in}
+use Rattle.yq_places.specs.Standings.{Held, RowsOfEntry, alone, before_entry, behind_entry, behind_mark, below, beside, compact_in}
 use Rattle.yq_places.specs.Standings.{entry_standing, held, is_alone, lone, standing_at, under}
 use Rattle.yq_places.{specs.declared.places.held_row.HeldRow.HeldRow, proofs.HeldRowLaws.no_root_rows}
 use Rattle.yq_edit_rules.proofs.HeldPieces.{held_spells}
@@ -44,7 +44,7 @@ module _ (e : RowsOfEntry) (h : Held) (column : ℕ) (last : e.line ≡ length e
 
   pub is_under : IsUnder
   is_under =
-      mark_by e.row.content refl (sym (ap (λ (b : Bool). cond b (behind_mark e e.row.content) (compact (compact_in e))) (eq-eqb e.line (length e.row.dashes) last)) ∙ at)
+      mark_by e.row.content refl (sym (ap (λ (b : Bool). cond b (behind_mark e e.row.content) (compact_in e)) (eq-eqb e.line (length e.row.dashes) last)) ∙ at)
 
 -- ---- how deep it is
 
