@@ -81,14 +81,11 @@ word_no_dash t word = scalar_no_dash t (word_scalar t word)
 pub key_begun : (t key colon behind : List ℕ) → is_dash t ≡ false → read_row_key t ≡ Some (key, colon, behind) → record { dashes = []; columns = 0; mark = Key key colon; rest = behind } ≡ begun (read_marks t)
 key_begun t key colon behind none h = sym (ap begun (marks_none t none ∙ ap (λ o. undashed (key_mark t o)) h))
 
--- no entry begins with a word that is no key
-pub word_no_entry : (t : List ℕ) → front is_word_byte t ≡ true → read_row_key t ≡ None → begins_entry t ≡ false
-word_no_entry t word none = rw (word_no_dash t word, none) refl
-
 pub dash_begun : (t dash behind s next : List ℕ) → is_dash t ≡ true → dash ≡ take 1 t → behind ≡ drop 1 t → (s, next) ≡ cut no_space behind →
-    begins_entry next ≡ false → record { dashes = dash; columns = 0; mark = Dash; rest = behind } ≡ begun (read_marks t)
-dash_begun t dash behind s next is one back e none =
-    let goes : (not (is_empty s) && begins_entry next) ≡ false = and_right (not (is_empty s)) (begins_entry next) none in
+    front is_word_byte next ≡ true → read_row_key next ≡ None →
+    record { dashes = dash; columns = 0; mark = Dash; rest = behind } ≡ begun (read_marks t)
+dash_begun t dash behind s next is one back e word none =
+    let goes : (not (is_empty s) && begins_entry next) ≡ false = and_right (not (is_empty s)) (begins_entry next) (rw (word_no_dash next word, none) refl) in
     let here : (s, next) ≡ cut no_space (drop 1 t) = e ∙ ap (cut no_space) back in
     let neither = subst (λ (y : List ℕ × List ℕ). (not (is_empty y.0) && begins_entry y.1) ≡ false) here goes in
     let first : dash ≡ 45 ∷ [] = one ∙ ap (take 1) (dash_is t is).0 in

@@ -22,10 +22,6 @@ mark_view (signs.Key key colon) = Key key.now colon.now
 abbrev pub begin_view : Begin → Begun
 begin_view b = record { dashes = b.dashes.now; columns = b.columns; mark = mark_view b.mark; rest = b.rest.now }
 
--- what begins with a dash after which no entry begins, and what follows that dash (own)
-abbrev pub one_dash : List ℕ → List ℕ → Begun
-one_dash dash behind = record { dashes = dash; columns = 0; mark = Dash; rest = behind }
-
 -- the same of the code (own)
 abbrev pub filling_view : Filling → Filled
 filling_view f = record {

@@ -170,7 +170,7 @@ pub(crate) fn may_be_alone(space: &str, nothing: bool) -> bool
 }
 
 /// A node that an anchor, an alias or a flow collection begins, after white space, and its tail.
-pub(crate) fn read_inline_content<'t>(
+fn read_inline_content<'t>(
     whole: &str,
     mark: RowMark<'t>,
     parent: i64,

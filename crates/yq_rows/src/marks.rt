@@ -156,7 +156,7 @@ fn colon_len(text: &[u8]) -> usize
 }
 
 /// Whether a `:` is in front of the end of the line.
-pub(crate) fn holds_colon(text: &[u8]) -> bool
+fn holds_colon(text: &[u8]) -> bool
     ensures { result ≡ spec.holds_colon text.now }
 {
     first_is(b':', text.split_at(colon_len(text)).1)

@@ -48,45 +48,10 @@ pub(crate) fn may_stand(limit: Limit, column: usize, text: &[u8]) -> bool
     limit.allows(column) && !(column == 0 && is_marker(text))
 }
 
-/// Where the row in front is, whose gap is read already, what it asks of the next one, what follows, and that
-/// it is no word row for sure.
+/// Where the row in front is, whose gap is read already, what it asks of the next one, what follows, and
+/// whether it is a word row for sure.
 #[tactic(auto, unfolding(yq_row_table::specs::Reading::row_at))]
-#[inline(never)]
-fn read_any_row<'t>(
-    whole: &'t str,
-    limit: Limit,
-    at: &'t str,
-    gap: &'t str,
-    text: &'t str,
-) -> Result<(Offsets, Limit, &'t str, bool), ReadError>
-    requires ends { Ends at.now whole.now }
-    requires cut { at.now ≡ gap.now ++ text.now }
-    requires short { length text.now ≤ length whole.now }
-    requires small { length whole.now < 2 ^ 32 }
-    ensures read { GivesRow whole.now result (row_sliced (limit_view limit) gap.now text.now) }
-    ensures stands { IfOk result (λ x. IsCutIn whole.now x.0) }
-    ensures place { IfOk result (λ x. x.0 ≡ offsets_from whole.now at.now (slices_in whole.now x.0)) }
-    ensures word { IfOk result (MayBeWordRow whole.now) }
-    ensures fault { IfErr result IsOfText }
-{
-    let (indent, rest) = split_spaces(text);
-    let column = indent.len();
-    if !may_stand(limit, column, rest.as_bytes()) {
-        return Err(ReadError::Fault(fault(FaultKind::BadIndent, whole, text)));
-    }
-    let begin = read_begin(rest);
-    let content = match read_marked(whole, column, &begin) {
-        Ok(content) => content,
-        Err(e) => return Err(e),
-    };
-    let place = offsets_of(whole, at, gap, column, &begin, &content);
-    let parent = parent_of(begin.mark, column + begin.columns);
-    let limit = Limit::behind(parent, content.plain);
-    Ok((place, limit, content.rest, false))
-}
-
-/// The same, and whether it is a word row for sure.
-#[inline(always)]
+#[inline]
 fn read_row<'t>(
     whole: &'t str,
     limit: Limit,
@@ -104,10 +69,23 @@ fn read_row<'t>(
     ensures word { IfOk result (MayBeWordRow whole.now) }
     ensures fault { IfErr result IsOfText }
 {
-    match find_row(whole, limit, at, gap, text) {
-        Some(found) => Ok(found),
-        None => read_any_row(whole, limit, at, gap, text),
+    if let Some(found) = find_row(whole, limit, at, gap, text) {
+        return Ok(found);
     }
+    let (indent, rest) = split_spaces(text);
+    let column = indent.len();
+    if !may_stand(limit, column, rest.as_bytes()) {
+        return Err(ReadError::Fault(fault(FaultKind::BadIndent, whole, text)));
+    }
+    let begin = read_begin(rest);
+    let content = match read_marked(whole, column, &begin) {
+        Ok(content) => content,
+        Err(e) => return Err(e),
+    };
+    let place = offsets_of(whole, at, gap, column, &begin, &content);
+    let parent = parent_of(begin.mark, column + begin.columns);
+    let limit = Limit::behind(parent, content.plain);
+    Ok((place, limit, content.rest, false))
 }
 
 /// Whether no row follows: the end is in front, or a marker.

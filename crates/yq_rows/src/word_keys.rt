@@ -1,16 +1,14 @@
 //! What most rows begin with: a key, most often a word, or one dash before a word.
-ghost use Rattle.std.{specs.List.prefix_len, specs.Prelude.{◌≡◌, ◌≤◌, length, false, true, IfSome, IsTrue, None, Some}};
+ghost use Rattle.std.{specs.List.prefix_len, specs.Prelude.{◌≡◌, ◌≤◌, length, true, IfSome, IsTrue, None, Some}};
 ghost use Rattle.yq_core.{specs.Nodes.begins_with, specs.Runs.{is_word_byte, run_goes_on}, specs.Text.front};
 ghost use Rattle.yq_core.specs.declared.runs.Run.TheVariants.{Plain};
-ghost use Rattle.yq_row_table.{specs.Grammar.is_entry, specs.Reading.{begins_entry, read_marks, read_row_key}, specs.Rows.Dash};
-ghost use Rattle.yq_row_table.specs.Slicing.{begun};
-ghost use Rattle.yq_rows.specs.ReadPieces.{begin_view, mark_view, one_dash};
+ghost use Rattle.yq_row_table.{specs.Grammar.is_entry, specs.Reading.{read_marks, read_row_key}, specs.Slicing.begun};
+ghost use Rattle.yq_rows.specs.ReadPieces.{begin_view, mark_view};
 
-use crate::marks::{Begin, RowMark, find_key, has_key_room, holds_colon, is_colon, is_dash};
+use crate::marks::{Begin, RowMark, find_key, has_key_room, is_colon, is_dash};
 use crate::words::begins_word;
 use yq_core::text::split_spaces;
 use yq_core::{Run, first_is, run_len};
-use yq_inline::pieces::begins_scalar;
 use yq_inline::short::short_scalar;
 
 /// The word of so many bytes in front as a key, if its `:` follows it at once; that `:`, and what follows.
@@ -60,30 +58,7 @@ fn ends_in_word(text: &[u8], n: usize) -> bool
     first_is(b'\n', text.split_at(n).1)
 }
 
-/// Whether neither a dash nor a key is in front for sure: no scalar begins there, or no `:` is on the line.
-#[inline(never)]
-fn begins_no_entry(text: &str) -> bool
-    ensures { IsTrue result → begins_entry text.now ≡ false }
-{
-    !is_dash(text.as_bytes())
-        && (!begins_scalar(false, text.as_bytes()) || !holds_colon(text.as_bytes()))
-}
-
-/// What begins with a dash after which no entry begins.
-#[inline(always)]
-fn dash_alone<'t>(dash: &'t str, behind: &'t str) -> Begin<'t>
-    ensures { begin_view result ≡ one_dash dash.now behind.now }
-{
-    Begin {
-        dashes: dash,
-        columns: 0,
-        mark: RowMark::Dash,
-        rest: behind,
-    }
-}
-
-/// The dash in front, and the key after it or none, where a word follows it that is a key or ends its line, or no
-/// entry begins after it for sure.
+/// The dash in front, and the key after it or none, where a word follows it that is a key or ends its line.
 #[inline(always)]
 fn begin_behind(text: &str) -> Option<Begin<'_>>
     ensures read { IfSome result (λ b. begin_view b ≡ begun (read_marks text.now)) }
@@ -99,14 +74,16 @@ fn begin_behind(text: &str) -> Option<Begin<'_>>
         return None;
     }
     if !begins_word(next.as_bytes()) {
-        if !begins_no_entry(next) {
-            return None;
-        }
-        return Some(dash_alone(dash, behind));
+        return None;
     }
     let n = run_len(Run::Plain, next.as_bytes());
     if ends_in_word(next.as_bytes(), n) {
-        return Some(dash_alone(dash, behind));
+        return Some(Begin {
+            dashes: dash,
+            columns: 0,
+            mark: RowMark::Dash,
+            rest: behind,
+        });
     }
     let (key, colon, rest) = word_key(next, n)?;
     let columns = text.len() - next.len();

@@ -1,14 +1,12 @@
 //! Most rows: a key, or one dash before a word, and a scalar without an anchor or nothing.
 ghost use Rattle.std.specs.Prelude.{◌≡◌, ◌<◌, ◌≤◌, ◌++◌, ◌^◌, length, false, true, IfSome, IsTrue, Some};
 ghost use Rattle.yq_core.{specs.Plain.{ends_plain, holds_break}, specs.Text.{cut, upto}};
-ghost use Rattle.yq_row_table.{specs.Offsets.{Ends, IsCutIn, slices_in}, specs.Slicing.{filled_at, inline_sliced, row_sliced}};
+ghost use Rattle.yq_row_table.{specs.Offsets.{Ends, IsCutIn, slices_in}, specs.Slicing.{filled_at, row_sliced}};
 ghost use Rattle.yq_row_table.specs.WordRows.{is_word_head};
 ghost use Rattle.yq_rows.specs.ReadPieces.{filling_view, limit_view, mark_view};
 ghost use Rattle.yq_rows.specs.RowAnswers.{FindsRow, FindsScalar, IsFrontScalar, MayBeWordRow, is_word_mark, offsets_from};
 
-use crate::content::{
-    Filling, begins_block, begins_other, find_tail, may_be_alone, read_inline_content,
-};
+use crate::content::{Filling, begins_block, begins_other, find_tail, may_be_alone};
 use crate::lengths::offsets_of;
 use crate::limit::Limit;
 use crate::marks::{RowMark, parent_of};
@@ -98,18 +96,7 @@ fn find_line<'t>(space: &'t str, head: &'t str, behind: &'t str) -> Option<Filli
     })
 }
 
-/// A node after white space that an anchor, an alias or a flow collection begins, and its tail.
-#[inline(never)]
-fn find_other<'t>(parent: i64, space: &'t str, text: &'t str) -> Option<Filling<'t>>
-    ensures { IfSome result (λ f. inline_sliced parent space.now text.now ≡ Some (filling_view f)) }
-{
-    match read_inline_content(text, RowMark::Bare, parent, space, text) {
-        Ok(content) => Some(content),
-        Err(_) => None,
-    }
-}
-
-/// A break, or a node and its tail, after a mark and white space; and whether it is a word head for sure.
+/// A break, or a scalar and its tail, after a mark and white space; and whether it is a word head for sure.
 #[inline(always)]
 fn find_content(parent: i64, text: &str) -> Option<(Filling<'_>, bool)>
     ensures read { IfSome result (λ f. filled_at parent text.now ≡ Some (filling_view f.0)) }
@@ -140,8 +127,7 @@ fn find_content(parent: i64, text: &str) -> Option<(Filling<'_>, bool)>
         return None;
     }
     if begins_other(rest.as_bytes()) {
-        let content = find_other(parent, space, rest)?;
-        return Some((content, false));
+        return None;
     }
     if !begins_scalar(false, rest.as_bytes()) {
         return None;

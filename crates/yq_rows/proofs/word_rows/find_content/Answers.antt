@@ -1,7 +1,7 @@
 use Rattle.std.{proofs.Common.{◌≡◌, ◌∙◌, ℕ, List, Some, true, false, arith, w64, sym, ap, subst}, proofs.lemmas.Int.to_z-of_z}
 use Rattle.yq_core.{specs.Piece.deeper, specs.Nodes.begins_with, specs.Scalars.begins_scalar, proofs.Bounds.boundary_first}
 use Rattle.yq_row_table.{specs.WordRows.is_word_head, specs.Slicing.begins_other, proofs.MarkAgain.scalar_node}
-use Rattle.yq_row_table.{proofs.ScalarSlicing.other_node, proofs.RowSlicing.content_inline}
+use Rattle.yq_row_table.proofs.RowSlicing.{content_inline}
 use Rattle.yq_rows.{proofs.QuotedFronts.head_in_quotes, proofs.WordRows.feed_content}
 use Rattle.yq_rows.proofs.word_rows.find_content.Goals as goal
 
@@ -24,13 +24,6 @@ returns-in-Some-clause-read c =
 pub returns-in-Some-clause-word : goal.returns-in-Some-clause-word
 returns-in-Some-clause-word c = λ yes.
     subst (λ (h : List ℕ). is_word_head h ≡ true) (sym c.in_ok-content.ensures.head) (c.in-Some.ensures.word yes)
-
-pub returns-then-begins_other-clause-read : goal.returns-then-begins_other-clause-read
-returns-then-begins_other-clause-read c =
-    let text = c.split_white.result.1.now in
-    let other = ap begins_other (sym c.as_bytes-2.ensures.value) ∙ (sym c.begins_other.ensures ∙ c.if-begins_other.true) in
-    content_inline c.args.parent c.args.text.now _ _ c.split_white.ensures (sym c.begins_block.ensures ∙ c.if-begins_block.false) (other_node text other)
-    ∙ rw (to_z-of_z w64 c.args.parent c.ranges.parent) at c.in_ok-content-2.ensures
 
 pub returns-in_ok-content-in-Ok-clause-read : goal.returns-in_ok-content-in-Ok-clause-read
 returns-in_ok-content-in-Ok-clause-read c =

@@ -2,7 +2,7 @@ use Rattle.std.{proofs.Common.{◌≡◌, SFits, Some, ap, arith, length, rules,
 use Rattle.yq_row_table.{specs.Grammar.Limit, specs.Slicing.limit_by, specs.Offsets.offsets_of, specs.Rows.parent_of, specs.View.Slices}
 use Rattle.yq_row_table.{proofs.Failing.fails_by, proofs.RowSlicing.row_as}
 use Rattle.yq_rows.{specs.ReadPieces.{mark_view, read_slices, limit_view}, proofs.Columns.column_small}
-use Rattle.yq_rows.proofs.reading.read_any_row.Goals as goal
+use Rattle.yq_rows.proofs.reading.read_row.Goals as goal
 
 pub returns-in-Err-clause-read : goal.returns-in-Err-clause-read
 returns-in-Err-clause-read c =
