@@ -15,11 +15,11 @@ use crate::in_rows::is_behind;
 use crate::near::Near;
 use crate::together::changed_collection;
 use std::alloc::{AllocError, Global};
-use yq_core::Step;
+use yq_core::{Step, copied_steps};
 use yq_documents::Path;
 use yq_lookup::CutText;
 use yq_places::FlowHead;
-use yq_semantics::{ExprError, Op, copied_steps};
+use yq_semantics::{ExprError, Op};
 use yq_text::Edited;
 
 /// A head with the steps that lead to it in a document, and how many rows come before its own.

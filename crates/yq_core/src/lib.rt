@@ -34,7 +34,7 @@ pub use gap::gap_len;
 pub use inline::{Form, Inline};
 pub use kind::Kind;
 pub use lines::{is_line, line_len, split_at_break, split_line};
-pub use path::{DEPTH_LIMIT, Entry, Step};
+pub use path::{DEPTH_LIMIT, Entry, Step, copied_steps};
 pub use piece::{Piece, further_spaces, inline_piece};
 pub use quotes::between_quotes;
 pub use runs::{Run, run_len};

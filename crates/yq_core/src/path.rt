@@ -1,11 +1,12 @@
 //! Paths inside inline nodes, and the places to which they lead.
-ghost use Rattle.std.specs.Prelude.{◌≡◌, None, map, option_map};
+ghost use Rattle.std.specs.Prelude.{◌≡◌, IfOk, None, map, option_map};
 ghost use Rattle.yq_core.{specs.Trees.placed_tree, specs.View.{entries_end, items_end, inline_view}};
 ghost use Rattle.yq_core.specs.Paths as paths;
 ghost use Rattle.yq_core.specs.Entries as spec;
 
 use crate::Piece;
 use crate::inline::{Form, Inline};
+use std::alloc::{AllocError, Global};
 
 /// A step of a path.
 #[derive(Debug, Drop)]
@@ -14,6 +15,27 @@ pub enum Step {
     Key(String),
     /// To an item, counted from 0.
     Index(usize),
+}
+
+/// The same step again.
+fn copied_step(alloc: Global, step: &Step) -> Result<Step, AllocError>
+    ensures { IfOk result (λ s. spec.tree_step s ≡ spec.tree_step step.now) }
+{
+    match step {
+        Step::Key(key) => Ok(Step::Key(String::from_str(alloc, key.as_str())?)),
+        Step::Index(index) => Ok(Step::Index(*index)),
+    }
+}
+
+/// The same steps again.
+pub fn copied_steps(alloc: Global, steps: &[Step]) -> Result<Vec<Step>, AllocError>
+    ensures { IfOk result (λ v. map spec.tree_step v.items ≡ map spec.tree_step steps.now) }
+{
+    let mut copies = Vec::with_capacity(alloc, steps.len())?;
+    'each: for step in steps {
+        copies.push(copied_step(alloc, step)?)?;
+    }
+    Ok(copies)
 }
 
 /// An item or entry of a collection, or the node at which a path begins.

@@ -8,11 +8,10 @@ ghost use Rattle.yq_edit_laws.specs.Emptying as spec;
 
 use crate::edit::last_step;
 use std::alloc::{AllocError, Global};
-use yq_core::Value;
+use yq_core::{Value, copied_steps};
 use yq_documents::Path;
 use yq_lookup::CutText;
 use yq_places::NodeAt;
-use yq_semantics::copied_steps;
 
 /// The empty collection of the kind of this one.
 fn emptied(alloc: Global, node: &NodeAt<'_>) -> Option<Value>

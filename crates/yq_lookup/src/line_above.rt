@@ -1,6 +1,5 @@
-//! The line to which the steps before the last one of a path lead: walks along paths beside it go on from there.
-ghost use Rattle.std.specs.Prelude.{◌≡◌, IfOk, IfSome, map};
-ghost use Rattle.yq_core.specs.Entries.{tree_step};
+//! The line to which the steps before the last one of a path lead: walks along paths next to it go on from there.
+ghost use Rattle.std.specs.Prelude.{◌≡◌, IfOk, IfSome};
 ghost use Rattle.yq_documents.specs.Reading.{cut_of};
 ghost use Rattle.yq_row_table.specs.View.{RowsView, rows_view};
 ghost use Rattle.yq_row_walk.specs.Walk.{IsLineAbove};
@@ -8,7 +7,7 @@ ghost use Rattle.yq_lookup.specs.Knowledge.{IsLineKept};
 
 use crate::cut_text::CutText;
 use std::alloc::{AllocError, Global};
-use yq_core::Step;
+use yq_core::{Step, copied_steps};
 use yq_outline::{Position, Stretch};
 use yq_row_walk::KnownLine;
 
@@ -18,27 +17,6 @@ pub(crate) struct LineAbove {
     pub(crate) document: Stretch,
     pub(crate) steps: Vec<Step>,
     pub(crate) at: Position,
-}
-
-/// The same step again.
-fn copied_step(alloc: Global, step: &Step) -> Result<Step, AllocError>
-    ensures { IfOk result (λ s. tree_step s ≡ tree_step step.now) }
-{
-    match step {
-        Step::Key(key) => Ok(Step::Key(String::from_str(alloc, key.as_str())?)),
-        Step::Index(index) => Ok(Step::Index(*index)),
-    }
-}
-
-/// The same steps again.
-fn copied_steps(alloc: Global, steps: &[Step]) -> Result<Vec<Step>, AllocError>
-    ensures { IfOk result (λ v. map tree_step v.items ≡ map tree_step steps.now) }
-{
-    let mut copies = Vec::with_capacity(alloc, steps.len())?;
-    'each: for step in steps {
-        copies.push(copied_step(alloc, step)?)?;
-    }
-    Ok(copies)
 }
 
 /// Whether a line is that one.

@@ -34,13 +34,17 @@ first_entry n steps c = line_row_line n steps c >>= λ s. if s.line == 0 then No
 abbrev pub piece_between : (before text behind : List ℕ) → TextPiece
 piece_between before text behind = record { before = before; text = text; behind = behind }
 
+-- a piece with the spaces before it (own)
+abbrev pub with_spaces : TextPiece → TextPiece
+with_spaces p = piece_between (less_spaces p.before) (end_spaces p.before ++ p.text) p.behind
+
 -- what is taken out with such an item or entry: where a gap is after its last line, what comes after the dash up to the end of that line,
 -- before its break; else all up to the next one (8.2.1; own)
 abbrev pub first_out : TextPiece → TextPiece
 first_out p =
     let line = cut_line p.behind in
     let next = cut no_space line.1 in
-    if begins_gap line.1 then piece_between (less_spaces p.before) (end_spaces p.before ++ p.text) p.behind else piece_between p.before (p.text ++ (line.0 ++ next.0)) next.1
+    if begins_gap line.1 then with_spaces p else piece_between p.before (p.text ++ (line.0 ++ next.0)) next.1
 
 -- what is taken out with the item or entry to which steps lead in document n, if it is the first one of a compact collection (8.2.1; own)
 abbrev pub first_removal : ℕ → List Step → Cut → Option TextPiece

@@ -12,7 +12,7 @@ pub use laws::{
     changes_apart, places_apart, plan_fits, plan_means, plan_refused, plan_rooms, rest_follows,
     rooms_alike, rooms_ready,
 };
-pub use op::{Op, copied_steps};
+pub use op::Op;
 pub use program::{
     Assignment, Comment, CommentPlace, Comparison, Condition, Operand, Operator, PathStep, Program,
     Stage, Syntax, Term, Update, is_index, is_simple,

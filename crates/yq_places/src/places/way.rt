@@ -139,12 +139,14 @@ pub struct Way<'s> {
 
 /// The line to which steps lead, as one that is known.
 #[inline(always)]
-fn line_above<'s>(
+pub fn line_known<'s>(
     document: Stretch,
     steps: &'s [Step],
     at: Option<Position>,
 ) -> Option<KnownLine<'s>>
-    ensures { (s : RowsView) → ArriveAt s document steps.now at → IfSome result (IsLineAbove s) }
+    ensures known { (s : RowsView) → IfSome at (IsLineAt s document (map tree_step steps.now)) →
+        IfSome result (IsKnownLine s) }
+    ensures above { (s : RowsView) → ArriveAt s document steps.now at → IfSome result (IsLineAbove s) }
 {
     let at = at?;
     Some(KnownLine {
@@ -179,7 +181,7 @@ pub fn known_along<'s>(
     let Some((count, from)) = known_above(walk, known, front) else {
         return nothing;
     };
-    let above = line_above(walk.document, front, from);
+    let above = line_known(walk.document, front, from);
     match step_along(walk, known, count, from, last) {
         Some((items, at)) => Way {
             items,
@@ -192,22 +194,4 @@ pub fn known_along<'s>(
             at: None,
         },
     }
-}
-
-/// The line to which steps lead, as one that is known.
-#[inline(always)]
-pub fn line_known<'s>(
-    document: Stretch,
-    steps: &'s [Step],
-    at: Option<Position>,
-) -> Option<KnownLine<'s>>
-    ensures { (s : RowsView) → IfSome at (IsLineAt s document (map tree_step steps.now)) →
-        IfSome result (IsKnownLine s) }
-{
-    let at = at?;
-    Some(KnownLine {
-        document,
-        steps,
-        at,
-    })
 }

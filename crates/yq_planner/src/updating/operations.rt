@@ -8,9 +8,9 @@ ghost use Rattle.yq_semantics.specs.Plans as spec;
 
 use crate::updating::change::{Addition, Change, PlacedChange};
 use std::alloc::{AllocError, Global};
-use yq_core::Step;
+use yq_core::{Step, copied_steps};
 use yq_documents::Path;
-use yq_semantics::{CommentPlace, Op, copied_steps};
+use yq_semantics::{CommentPlace, Op};
 
 /// The operation of an addition at a path.
 fn add_op(alloc: Global, path: &Path, addition: Addition) -> Result<Op, AllocError>

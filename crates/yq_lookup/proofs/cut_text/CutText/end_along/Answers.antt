@@ -11,7 +11,7 @@ known_end-requires c =
       rows_view = c.in-Some.ensures.walk.rows_view;
       document = c.in-Some.ensures.walk.document;
       known = search rules;
-      line = line_borrowed s c.line_known-line.result c.as_ref.result c.as_ref.ensures.value (c.line_known-line.ensures s c.known_along-way.ensures.line);
+      line = line_borrowed s c.line_known-line.result c.as_ref.result c.as_ref.ensures.value (c.line_known-line.ensures.known s c.known_along-way.ensures.line);
       above = c.in-Some.ensures.walk.above;
     }
 

@@ -8,7 +8,7 @@ pub returns-clause-known : goal.returns-clause-known
 returns-clause-known c = items_agree c.args.self.now c.in-Some.walk.rows.now c.known_along-way.new.known.items c.in-Some.ensures.cut.rows c.known_along-way.ensures.known
 
 pub returns-clause-line : goal.returns-clause-line
-returns-clause-line c = line_agrees c.args.self.now c.in-Some.walk.rows.now c.line_known.result c.in-Some.ensures.cut.rows (c.line_known.ensures c.in-Some.walk.rows.now c.known_along-way.ensures.line)
+returns-clause-line c = line_agrees c.args.self.now c.in-Some.walk.rows.now c.line_known.result c.in-Some.ensures.cut.rows (c.line_known.ensures.known c.in-Some.walk.rows.now c.known_along-way.ensures.line)
 
 pub returns-clause-above : goal.returns-clause-above
 returns-clause-above c = above_agrees c.args.self.now c.in-Some.walk.rows.now c.known_along-way.result.above c.in-Some.ensures.cut.rows c.known_along-way.ensures.above

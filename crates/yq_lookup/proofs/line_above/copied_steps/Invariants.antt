@@ -1,6 +1,0 @@
-use Rattle.std.proofs.Common.{◌≡◌, map, take}
-use Rattle.yq_core.specs.Entries.{tree_step}
-use Rattle.yq_lookup.proofs.line_above.copied_steps.Given as goal
-
-abbrev pub invariant-each : goal.invariant-each
-invariant-each l = map tree_step l.copies.items ≡ map tree_step (take l.step-index l.steps)
