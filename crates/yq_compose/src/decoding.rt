@@ -159,7 +159,7 @@ fn decode_head<'t>(
     if let Some(node) = borrow_head(keys, text, head, behind) {
         return Ok(Some(DecodedHead::Borrowed(node)));
     }
-    let parent = rows.row(i).parent_indent();
+    let parent = rows.parent_indent(i);
     match read_head(alloc, text, parent, head, behind) {
         Ok(head) => Ok(Some(DecodedHead::Owned(head))),
         Err(e) => Err(e),

@@ -43,7 +43,7 @@ fn decode_others<'t>(
     ensures decoded { IfOk result (λ ms. AreDecoded text.now ms.items) }
     ensures fault { IfErr result IsOfText }
 {
-    let mut decoded = Vec::new(alloc);
+    let mut decoded = Vec::with_capacity(alloc, others.len())?;
     let mut keys = Keys::new(alloc);
     let mut left = others;
     'rows: while let [row, behind @ ..] = left {

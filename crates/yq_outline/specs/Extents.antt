@@ -4,17 +4,13 @@ use Rattle.yq_row_table.{specs.Exchange.before_content, specs.Offsets.row_length
 use Rattle.yq_row_table.specs.View.{Slices, slices, RowsView, rows_view}
 use Rattle.yq_text.specs.Limit.{text_limit}
 use Rattle.yq_core.specs.Text.{is_empty}
-pub use Rattle.yq_row_table.specs.RowStarts.{bound_length, passed_length, row_start}
+pub use Rattle.yq_row_table.specs.RowStarts.{bound_length, front_length, passed_length, row_start}
 
 -- The place of a row's head: after the text before the row's content, white space, an anchor and the white space after that.
 abbrev pub head_place : ℕ → Cut → Row → ℕ × ℕ
 head_place i c r =
     let s = slices r in
     let start = length (before_content i c ++ (s.space ++ (s.anchor ++ s.apart))) in (start, start + length s.head)
-
--- how long the pieces of a row before its head are
-abbrev pub front_length : Slices → ℕ
-front_length s = length s.gap + s.column + length s.dashes + length s.key + length s.colon + length s.space + length s.anchor + length s.apart
 
 -- how long all pieces of a cut are
 abbrev pub view_length : RowsView → ℕ

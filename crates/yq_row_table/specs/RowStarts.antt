@@ -19,6 +19,10 @@ row_start i s = sum_by row_length (take i s.rows) + sum_by (passed_length i) s.b
 abbrev pub part_end : ℕ → Bound → RowsView → ℕ
 part_end i b s = sum_by row_length (take b.rows s.rows) + sum_by bound_length (take i s.bounds) + length b.end
 
+-- how long the pieces of a row before its head are (own)
+abbrev pub front_length : Slices → ℕ
+front_length s = length s.gap + s.column + length s.dashes + length s.key + length s.colon + length s.space + length s.anchor + length s.apart
+
 -- how deep a row begins: three for each column, and 3 for a dash, 2 for a key, or 1 for a node itself (YAML 1.2.2, section 8.2.3; own)
 abbrev pub row_level : Slices → ℕ
 row_level s = 3 * s.column + (if is_empty s.dashes then (if is_empty s.colon then 1 else 2) else 3)

@@ -78,7 +78,7 @@ impl Offsets {
 
     /// The parent indentation of what comes after the row's mark: the column of its key, else one
     /// column less than its indentation and its dashes take.
-    fn parent(&self) -> i64
+    pub(crate) fn parent(&self) -> i64
         ensures { result ≡ spec.parent_by (self.now.column + self.now.dashes) self.now.colon }
     {
         let columns = self.column as usize + self.dashes as usize;

@@ -1,7 +1,7 @@
 //! Pieces of rows by their number, without making the rows.
 ghost use Rattle.std.specs.Prelude.{◌≡◌, ◌<◌, ◌++◌, Some, length, not, slice_get};
 ghost use Rattle.yq_core.specs.Text.{is_empty};
-ghost use Rattle.yq_row_table.specs.View.{Slices};
+ghost use Rattle.yq_row_table.{specs.RowStarts.front_length, specs.View.Slices};
 
 use crate::rows::Rows;
 
@@ -67,6 +67,15 @@ impl<'t> Rows<'t> {
         row.tail(text)
     }
 
+    /// How many bytes of row `i` come before its head.
+    #[inline]
+    pub fn before_head(&self, i: usize) -> usize
+        requires { i < length self.now.rows }
+        ensures { (s : Slices) → slice_get self.now.rows i ≡ Some s → result ≡ front_length s }
+    {
+        self.places.kept(i).before_head()
+    }
+
     /// Row `i` from its head on: the head, what ends its line, and the lines of a block scalar.
     #[inline]
     pub fn from_head(&self, i: usize) -> &'t str
@@ -76,6 +85,17 @@ impl<'t> Rows<'t> {
     {
         let (row, text) = self.found(i);
         row.from_head(text)
+    }
+
+    /// The indentation, in columns, that further lines of the head of row `i` must pass, as `Row` has it.
+    #[inline]
+    #[tactic(auto, unfolding(crate::specs::Offsets::pieces_of))]
+    pub fn parent_indent(&self, i: usize) -> i64
+        requires { i < length self.now.rows }
+        ensures { (s : Slices) → slice_get self.now.rows i ≡ Some s → result ≡ s.parent }
+    {
+        let (row, _) = self.found(i);
+        row.parent()
     }
 
     /// Whether row `i` has dashes.

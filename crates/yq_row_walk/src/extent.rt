@@ -24,21 +24,6 @@ pub fn row_len(row: &Row<'_>) -> usize
         + row.raw().len()
 }
 
-/// How long the pieces of a row before its head are.
-pub fn front_len(row: &Row<'_>) -> usize
-    requires { row_length (row_view row.now) ≤ text_limit }
-    ensures { result ≡ spec.front_length (row_view row.now) }
-{
-    row.gap().len()
-        + row.column()
-        + row.dashes().len()
-        + row.key().len()
-        + row.colon().len()
-        + row.space().len()
-        + row.anchor().len()
-        + row.apart().len()
-}
-
 /// Where row `i` begins, with its gap.
 pub fn row_start(rows: &Rows<'_>, i: usize) -> usize
     requires within { i < length rows.now.rows }
@@ -55,9 +40,8 @@ pub fn head_place(rows: &Rows<'_>, i: usize) -> (usize, usize)
     ensures { (c : Cut) → rows.now ≡ rows_view c → (r : RowOf) → slice_get (rows_of c) i ≡ Some r →
         (result.0, result.1) ≡ spec.head_place i c r }
 {
-    let row = rows.row(i);
-    let start = rows.start(i) + front_len(&row);
-    (start, start + row.head().len())
+    let start = rows.start(i) + rows.before_head(i);
+    (start, start + rows.head(i).len())
 }
 
 /// How many dashes are in a text.

@@ -13,7 +13,7 @@ mod position_reach;
 mod walk;
 mod written_key;
 
-pub use extent::{dash_at, front_len, head_place, lines_before_mark, row_len, row_start};
+pub use extent::{dash_at, head_place, lines_before_mark, row_len, row_start};
 pub use known_count::{counted, first_known, known_to};
 pub use known_item::{item_before, known_among};
 pub use known_line::walk_start;

@@ -13,7 +13,7 @@ use yq_core::lines::split_at_break;
 use yq_core::text::split_white;
 use yq_documents::{Span, is_comment, last_run};
 use yq_row_table::Rows;
-use yq_row_walk::{front_len, row_start};
+use yq_row_walk::row_start;
 
 /// The place of the comment in a tail that begins at a place.
 fn tail_comment(start: usize, tail: &str) -> Option<Span>
@@ -40,7 +40,8 @@ pub fn line_comment_in(rows: &Rows<'_>, row_line: RowLine) -> Option<Span>
         return None;
     }
     let row = rows.row(row_line.row);
-    let start = row_start(rows, row_line.row) + front_len(&row) + row.head().len();
+    let start =
+        row_start(rows, row_line.row) + rows.before_head(row_line.row) + row.head().len();
     tail_comment(start, row.tail())
 }
 

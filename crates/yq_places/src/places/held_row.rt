@@ -9,7 +9,7 @@ ghost use Rattle.yq_places.specs.StandingViews as row_agrees;
 use yq_documents::is_block_head;
 use yq_outline::Position;
 use yq_row_table::Rows;
-use yq_row_walk::{front_len, lines_before_mark};
+use yq_row_walk::lines_before_mark;
 
 /// A key or dash of a text whose line is the last one of its row, with what that row holds after it.
 #[derive(Clone, Copy)]
@@ -48,7 +48,7 @@ pub fn row_of_last<'t>(rows: &Rows<'t>, at: Position) -> Option<HeldRow<'t>>
     Some(HeldRow {
         row: at.row,
         inline: is_inline(head),
-        start: rows.start(at.row) + front_len(&row),
+        start: rows.start(at.row) + rows.before_head(at.row),
         head,
         tail: row.tail(),
     })

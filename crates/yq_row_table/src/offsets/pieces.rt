@@ -45,7 +45,7 @@ impl Offsets {
 
     /// How many bytes of the row come before its head.
     #[inline]
-    fn before_head(&self) -> usize
+    pub(crate) fn before_head(&self) -> usize
         ensures { result ≡ spec.before_head self.now }
     {
         self.before_anchor() + self.anchor as usize + self.apart as usize

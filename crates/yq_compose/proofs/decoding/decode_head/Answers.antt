@@ -86,7 +86,7 @@ returns-in-Ok-clause-fits c = λ r is.
     let head = c.head-head.ensures (slices r) pieces in
     let start = ap (λ (x : ℕ × ℕ). x.0) (c.head_place-start.ensures (cut_of c.args.text.now) k.rows r is) in
     let f : SFits w64 c.parent_indent-parent.result = search rules in
-    let parent = to_z-of_z w64 c.parent_indent-parent.result f ∙ (c.parent_indent-parent.ensures ∙ ap (λ (x : Slices). x.parent) (same_Some _ _ (sym c.row.ensures ∙ pieces))) in
+    let parent = to_z-of_z w64 c.parent_indent-parent.result f ∙ c.parent_indent-parent.ensures (slices r) pieces in
     fit_agrees _ _ _ _ (head_read c.args.text.now c.args.rows.now k c.args.i r is c.split_at.result.1.now c.head_place-start.result.0 c.split_at.ensures.back start _ c.head-head.result.now parent head) c.in-Ok.ensures.view
 
 pub returns-in-Ok-clause-agrees : goal.returns-in-Ok-clause-agrees
@@ -96,7 +96,7 @@ returns-in-Ok-clause-agrees c = λ r is.
     let head = c.head-head.ensures (slices r) pieces in
     let start = ap (λ (x : ℕ × ℕ). x.0) (c.head_place-start.ensures (cut_of c.args.text.now) k.rows r is) in
     let f : SFits w64 c.parent_indent-parent.result = search rules in
-    let parent = to_z-of_z w64 c.parent_indent-parent.result f ∙ (c.parent_indent-parent.ensures ∙ ap (λ (x : Slices). x.parent) (same_Some _ _ (sym c.row.ensures ∙ pieces))) in
+    let parent = to_z-of_z w64 c.parent_indent-parent.result f ∙ c.parent_indent-parent.ensures (slices r) pieces in
     read_decoded c.args.text.now c.args.rows.now k c.args.i r is c.split_at.result.1.now c.head_place-start.result.0 c.split_at.ensures.back start _
     c.head-head.result.now parent head (kept.TheVariants.Owned c.in-Ok.head) c.in-Ok.ensures.view c.in-Ok.ensures.flow
 
@@ -107,7 +107,7 @@ returns-in-Err-clause-fits c = λ r is.
     let head = c.head-head.ensures (slices r) pieces in
     let start = ap (λ (x : ℕ × ℕ). x.0) (c.head_place-start.ensures (cut_of c.args.text.now) k.rows r is) in
     let f : SFits w64 c.parent_indent-parent.result = search rules in
-    let parent = to_z-of_z w64 c.parent_indent-parent.result f ∙ (c.parent_indent-parent.ensures ∙ ap (λ (x : Slices). x.parent) (same_Some _ _ (sym c.row.ensures ∙ pieces))) in
+    let parent = to_z-of_z w64 c.parent_indent-parent.result f ∙ c.parent_indent-parent.ensures (slices r) pieces in
     unfit_agrees c.in-Err.e _ _ _ (head_read c.args.text.now c.args.rows.now k c.args.i r is c.split_at.result.1.now c.head_place-start.result.0 c.split_at.ensures.back start _ c.head-head.result.now parent head) c.in-Err.ensures.view
 
 pub head_place-start-requires-clause-rows_view : goal.head_place-start-requires-clause-rows_view

@@ -10,7 +10,7 @@ pub rows-init : goal.rows-init
 rows-init c = record {
   at = 0;
   within = omega arith;
-  upto = decoded_start c.args.text.now c.new-decoded.result.items c.new-decoded.ensures.items;
+  upto = decoded_start c.args.text.now c.in_ok-decoded.decoded.items c.in_ok-decoded.ensures.items;
   others = c.requires.others;
 }
 
@@ -30,9 +30,9 @@ rows-preserved c =
     record {
       at = suc (get_or c.rows.left.now 0 0);
       within = omega (arith, u.0);
-      upto = subst (λ (n : ℕ). DecodedUpto c.args.text.now n c.in_ok-decoded.decoded.items) (omega arith)
+      upto = subst (λ (n : ℕ). DecodedUpto c.args.text.now n c.in_ok-decoded-2.decoded.items) (omega arith)
           (row_step c.args.text.now (get_or c.rows.left.now 0 0) c.rows.decoded.items u.1 r.0 r.1 (c.in-Ok.ensures.fits r.0 r.1) c.in-Ok.found
-          c.in_ok-decoded.decoded.items c.in-Ok.ensures.row c.in_ok-decoded.ensures (c.in-Ok.ensures.agrees r.0 r.1));
+          c.in_ok-decoded-2.decoded.items c.in-Ok.ensures.row c.in_ok-decoded-2.ensures (c.in-Ok.ensures.agrees r.0 r.1));
       others = u.2;
     }
 

@@ -3,9 +3,6 @@ use Rattle.yq_row_table.specs.View.{row_view}
 use Rattle.yq_outline.proofs.LengthLaws.{row_fits, view_small}
 use Rattle.yq_places.proofs.places.comment_place.line_comment_in.Goals as goal
 
-pub front_len-requires : goal.front_len-requires
-front_len-requires c = let f = row_fits c.args.rows.now c.args.row_line.row (row_view c.row-row.result) c.row-row.ensures in omega (arith, f, view_small c.args.rows.now c.requires.rows_view)
-
 pub overflow_add-start : goal.overflow_add-start
 overflow_add-start c = search (rules, row_fits, view_small)
 

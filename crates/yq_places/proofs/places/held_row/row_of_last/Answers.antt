@@ -4,14 +4,11 @@ use Rattle.yq_outline.proofs.LengthLaws.{row_fits, view_small}
 use Rattle.yq_places.proofs.HeldRowLaws.{last_of}
 use Rattle.yq_places.proofs.places.held_row.row_of_last.Goals as goal
 
-pub front_len-requires : goal.front_len-requires
-front_len-requires c = let f = row_fits c.args.rows.now c.args.at.row (row_view c.row-row.result) c.row-row.ensures in omega (arith, f, view_small c.args.rows.now c.requires.rows_view)
-
 pub overflow_add-result : goal.overflow_add-result
 overflow_add-result c =
-    let f = row_fits c.args.rows.now c.args.at.row (row_view c.row-row.result) c.row-row.ensures in omega (arith, f, view_small c.args.rows.now c.requires.rows_view, c.start.ensures, c.front_len.ensures)
+    let f = row_fits c.args.rows.now c.args.at.row (row_view c.row-row.result) c.row-row.ensures in omega (arith, f, view_small c.args.rows.now c.requires.rows_view, c.start.ensures, c.before_head.ensures (row_view c.row-row.result) c.row-row.ensures)
 
 pub returns : goal.returns
 returns c = λ d is r there.
     last_of d c.args.rows.now c.args.at r _ (row_view c.row-row.result) is c.row-row.ensures there refl
-    (c.if-at-lines_before_mark.false ∙ c.lines_before_mark.ensures _ c.row-row.ensures) (λ i. c.start.ensures i + c.front_len.ensures i) c.head-head.ensures c.tail.ensures c.is_inline.ensures
+    (c.if-at-lines_before_mark.false ∙ c.lines_before_mark.ensures _ c.row-row.ensures) (λ i. c.start.ensures i + c.before_head.ensures (row_view c.row-row.result) c.row-row.ensures i) c.head-head.ensures c.tail.ensures c.is_inline.ensures
