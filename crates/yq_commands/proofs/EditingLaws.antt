@@ -1,13 +1,13 @@
 -- Texts without a reading, and why a program is refused on a text.
-use Rattle.std.proofs.Common.{rules, ◌≡◌, ◌≢◌, ℕ, List, true, false, if◌then◌else◌, None, sym, ap, subst, ◌∙◌, true≢false, Err}
+use Rattle.std.proofs.Common.{rules, ◌≡◌, ◌≢◌, ℕ, List, true, false, if◌then◌else◌, None, sym, ap, subst, ◌∙◌, true≢false}
 use Rattle.std.specs.Str.{is_utf8}
 use Rattle.yq_core.{specs.declared.ReadFault.ReadFault, specs.declared.fault.FaultKind.TheVariants.NotUtf8}
 use Rattle.yq_documents.specs.Reading.{read_at, checked_at}
 use Rattle.yq_semantics.specs.Program.{Program}
 use Rattle.yq_edit_laws.{specs.Carried.{edit_of, program_done}, specs.Edit.by_reading}
 use Rattle.yq_fault.{specs.declared.fault.Fault.Fault, specs.declared.fault.Fault.TheVariants.{OutOfMemory, Unreadable}}
-use Rattle.yq_history.specs.Causes.{IsUnreadable}
-use Rattle.yq_commands.{specs.Editing.{Refuses, program_edits, program_in, unreadable, edit_outcome}, specs.CommandFaults.of_parse}
+use Rattle.yq_history.specs.Causes.{IsFor, IsUnreadable, no_reading}
+use Rattle.yq_commands.{specs.CommandFaults.{cause_in, of_parse}, specs.Editing.{Refuses, program_edits, program_in, refused, edit_outcome}}
 use Rattle.yq_expr_parser.{specs.Outcome.{AnswersError, ParseError}, specs.Parse.outcome}
 
 -- bytes that are no UTF-8
@@ -16,7 +16,7 @@ unfolding read_at
 not_read t is = ap (λ b. if b then checked_at t else None) is
 
 -- nothing is made of them
-unread : (p : Program) (t : List ℕ) → read_at t ≡ None → program_edits p t ≡ unreadable t
+unread : (p : Program) (t : List ℕ) → read_at t ≡ None → program_edits p t ≡ refused (no_reading t)
 unfolding program_edits edit_of
 unread p t is = ap (λ o. edit_outcome t (by_reading (λ c. program_done p t) o)) is
 
@@ -24,7 +24,7 @@ pub unread_refuses : (p : Program) (t : List ℕ) (e : Fault) → read_at t ≡ 
 unread_refuses p t e none reports = subst (λ o. Refuses o e) (sym (unread p t none)) reports
 
 -- why an expression has no program
-pub parse_refused : (t : List ℕ) (e : ParseError) → AnswersError e (outcome t) → of_parse e ≢ OutOfMemory → program_in t ≡ Err (of_parse e)
+pub parse_refused : (t : List ℕ) (e : ParseError) → AnswersError e (outcome t) → of_parse e ≢ OutOfMemory → IsFor (cause_in (program_in t)) (of_parse e)
 unfolding program_in
 parse_refused t e h other = search rules
 

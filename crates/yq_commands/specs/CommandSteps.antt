@@ -6,11 +6,9 @@ use Rattle.yq_journal.{specs.History.{History, text_at, after_edit}, specs.Refus
 use Rattle.yq_journal.specs.declared.fault.JournalFault.TheVariants.{JournalFull}
 use Rattle.yq_args.specs.declared.command.Command.{Command}
 use Rattle.yq_args.specs.declared.command.Command.TheVariants.{Eval, Undo, Redo, History as Lists, Squash, Help}
-use Rattle.yq_fault.specs.declared.fault.Fault.{Fault}
-use Rattle.yq_history.specs.Causes.{Cause, named, no_reading}
-use Rattle.yq_history.specs.Steps.{move_cause, move_next, squash_cause, squash_next, listing_cause}
-use Rattle.yq_commands.specs.Editing.{EditOutcome, unreadable, refused, edited, program_in, program_edits}
-use Rattle.yq_commands.specs.Evaluation.{evaluated, cause_in}
+use Rattle.yq_history.{specs.Causes.{Cause, named}, specs.Steps.{move_cause, move_next, squash_cause, squash_next, listing_cause}}
+use Rattle.yq_commands.{specs.Editing.{EditOutcome, refused, edited, program_in, program_edits}, specs.Evaluation.evaluated}
+use Rattle.yq_commands.specs.CommandFaults.{cause_in}
 use Rattle.yq_journal.specs.declared.moves.Move.TheVariants as move
 use Rattle.yq_fault.specs.declared.fault.Fault.TheVariants as fault
 
@@ -22,27 +20,25 @@ room_cause h text =
 
 -- why an edit is refused, by what it gives
 abbrev pub edit_cause : History → EditOutcome → Option Cause
-edit_cause h (unreadable old) = Some (no_reading old)
-edit_cause h (refused f) = Some (named f)
+edit_cause h (refused x) = Some x
 edit_cause h (edited text changes) = room_cause h text
 
 -- the history after it: one to an equal text leaves it
 abbrev pub edit_next : History → List ℕ → EditOutcome → History
-edit_next h expr (unreadable old) = h
-edit_next h expr (refused f) = h
+edit_next h expr (refused x) = h
 edit_next h expr (edited text changes) =
     if bytes_eq text (text_at h) then h
     else if nat_le most_records h.at then h else after_edit h expr text
 
 -- why the edit of a file is refused, by what its expression is
-abbrev pub update_cause : Result Program Fault → Option History → Option Cause
-update_cause (Err f) h = Some (named f)
+abbrev pub update_cause : Result Program Cause → Option History → Option Cause
+update_cause (Err x) h = Some x
 update_cause (Ok p) None = Some (named fault.NotThere)
 update_cause (Ok p) (Some h) = edit_cause h (program_edits p (text_at h))
 
 -- the history after it
-abbrev pub update_next : List ℕ → Result Program Fault → Option History → Option History
-update_next expr (Err f) h = h
+abbrev pub update_next : List ℕ → Result Program Cause → Option History → Option History
+update_next expr (Err x) h = h
 update_next expr (Ok p) None = None
 update_next expr (Ok p) (Some h) = Some (edit_next h expr (program_edits p (text_at h)))
 

@@ -4,16 +4,15 @@ use Rattle.yq_semantics.specs.Program.{Program}
 use Rattle.yq_expr_parser.specs.Parse.{outcome}
 use Rattle.yq_text.{specs.Splice.{Splice, all_done, lengths_done}, specs.declared.edited.Edited.Edited}
 use Rattle.yq_edit_laws.{specs.Carried.edit_of, specs.Edit.Edit}
-use Rattle.yq_history.specs.Causes.{IsUnreadable}
+use Rattle.yq_history.specs.Causes.{Cause, IsFor, named, no_reading}
 use Rattle.yq_fault.{specs.declared.fault.Fault.Fault, specs.declared.fault.Fault.TheVariants.OutOfMemory}
 use Rattle.yq_expr_parser.specs.Outcome as expr
 use Rattle.yq_edit_laws.specs.Edit as edit
 use Rattle.yq_fault.specs.declared.fault.Fault.TheVariants as fault
 
--- what an edit gives: this text has no reading, or the program is refused on it, or it gives a text by splices (own)
+-- what an edit gives: it is refused for this cause, or it gives a text by splices (own)
 pub data EditOutcome : Type 0 where
-  unreadable : List ℕ → EditOutcome
-  refused : Fault → EditOutcome
+  refused : Cause → EditOutcome
   edited : List ℕ → List Splice → EditOutcome
 
 -- the same, of a text that was edited (own)
@@ -30,29 +29,28 @@ LengthsLead t e = lengths_done e.splices.items (length t) ≡ Some (length (stri
 
 -- the fault tells why nothing is given (own)
 abbrev pub Refuses : EditOutcome → Fault → Type 0
-Refuses (unreadable text) e = IsUnreadable text e
-Refuses (refused f) e = e ≡ f
+Refuses (refused x) e = IsFor (Some x) e
 Refuses (edited text changes) e = ⊥
 
 -- an edit is refused for that, or for want of memory (own)
 abbrev pub RefusedBy : EditOutcome → {T : Type 0} → Result T Fault → Type 0
 RefusedBy outcome r = IfErr r (λ e. e ≢ OutOfMemory → Refuses outcome e)
 
--- what comes of an expression, as a program or a fault (own)
-abbrev pub result_of : expr.Outcome → Result Program Fault
+-- what comes of an expression, as a program or as the cause why it is none (own)
+abbrev pub result_of : expr.Outcome → Result Program Cause
 result_of (expr.parsed p) = Ok p
-result_of expr.ill_formed = Err fault.Syntax
-result_of expr.not_in_profile = Err fault.NotInProfile
-result_of expr.with_pattern = Err fault.Pattern
+result_of expr.ill_formed = Err (named fault.Syntax)
+result_of expr.not_in_profile = Err (named fault.NotInProfile)
+result_of expr.with_pattern = Err (named fault.Pattern)
 
--- the program of an expression, or the fault of one that has none (own)
-unfoldable pub program_in : List ℕ → Result Program Fault
+-- the program of an expression, or the cause why it is none (own)
+unfoldable pub program_in : List ℕ → Result Program Cause
 program_in expr = result_of (outcome expr)
 
 -- what an edit of a text gives (own)
 abbrev pub edit_outcome : List ℕ → Edit → EditOutcome
-edit_outcome old edit.unreadable = unreadable old
-edit_outcome old (edit.refuses why) = refused (fault.Refused why)
+edit_outcome old edit.unreadable = refused (no_reading old)
+edit_outcome old (edit.refuses why) = refused (named (fault.Refused why))
 edit_outcome old (edit.gives text changes) = edited text changes
 
 -- what a program makes of a text (own)

@@ -1,14 +1,14 @@
 -- What an expression that isn't carried out in place shows of a file (own).
-use Rattle.std.specs.Prelude.{◌≢◌, ℕ, List, Option, Some, None, option_map, Result, Ok, Err, IfErr, IfOk, if◌then◌else◌}
+use Rattle.std.specs.Prelude.{ℕ, List, Option, Some, None, option_map, Result, Ok, Err, IfOk, if◌then◌else◌}
 use Rattle.yq_core.specs.Tree.{Node}
 use Rattle.yq_documents.{specs.Documents.Document, specs.Reading.{documents, read_at}}
 use Rattle.yq_semantics.{specs.Copies.matches, specs.Judgement.{Judgement, gives, refuses}, specs.Program.{Program, Stage, read, updates}}
 use Rattle.yq_journal.specs.History.{History, text_at}
 use Rattle.yq_args.specs.declared.eval_options.EvalOptions.{EvalOptions}
 use Rattle.yq_fault.{specs.declared.fault.Fault.Fault, specs.declared.fault.Fault.TheVariants.OutOfMemory}
-use Rattle.yq_history.{specs.Causes.{Cause, IsFor, named, no_reading}, specs.Output.{Output, Showing, Shows, bytes, diff, showing_nothing}}
+use Rattle.yq_history.{specs.Causes.{Cause, named, no_reading}, specs.Output.{Output, Showing, Shows, bytes, diff, showing_nothing}}
 use Rattle.yq_history.specs.Report.{Report, report_by}
-use Rattle.yq_commands.{specs.Editing.{EditOutcome, unreadable, refused, edited, program_edits}, specs.Expecting.changes_as_expected}
+use Rattle.yq_commands.{specs.Editing.{EditOutcome, refused, edited, program_edits}, specs.Expecting.changes_as_expected}
 use Rattle.yq_commands.specs.Reads.{report_matches}
 use Rattle.yq_history.specs.declared.report.Report as declared
 use Rattle.yq_fault.specs.declared.fault.Fault.TheVariants as fault
@@ -19,8 +19,7 @@ edit_output options t u = if options.diff then diff t u else bytes u
 
 -- of an edit of this text that is shown; with `--expect-change` the new text is to be another one
 abbrev pub show_edit : EvalOptions → List ℕ → EditOutcome → Result Showing Cause
-show_edit options t (unreadable old) = Err (no_reading old)
-show_edit options t (refused f) = Err (named f)
+show_edit options t (refused x) = Err x
 show_edit options t (edited u changes) = Ok (record { output = edit_output options t u; is_match = changes_as_expected options t u })
 
 -- of a read its matches are shown, by what matching gives
@@ -44,14 +43,9 @@ of_file of_text None = Err (named fault.NotThere)
 of_file of_text (Some h) = of_text (text_at h)
 
 -- the same, by what an expression is
-abbrev pub evaluated : EvalOptions → Result Program Fault → Option History → Result Showing Cause
-evaluated options (Err f) h = Err (named f)
+abbrev pub evaluated : EvalOptions → Result Program Cause → Option History → Result Showing Cause
+evaluated options (Err x) h = Err x
 evaluated options (Ok p) h = of_file (shows options p) h
-
--- why nothing is shown
-abbrev pub cause_in : Result Showing Cause → Option Cause
-cause_in (Ok s) = None
-cause_in (Err x) = Some x
 
 -- what is shown, where there is no cause for a refusal
 abbrev pub report_in : Result Showing Cause → Showing
@@ -66,7 +60,3 @@ IsShowing file (Err x) s = ⊥
 -- what is given is to be shown of a file
 abbrev pub GivesShowing : List ℕ → Result Showing Cause → Result declared.Report Fault → Type 0
 GivesShowing file due r = IfOk r (λ s. IsShowing file due (report_by s))
-
--- nothing is given for that cause, or for want of memory
-abbrev pub FailsFor : Result Showing Cause → {T : Type 0} → Result T Fault → Type 0
-FailsFor due r = IfErr r (λ e. e ≢ OutOfMemory → IsFor (cause_in due) e)

@@ -4,7 +4,7 @@ ghost use Rattle.yq_semantics.specs.View.{program_of};
 ghost use Rattle.yq_documents.specs.Reading.{read_at};
 ghost use Rattle.yq_history.specs.Causes.{IsUnreadable};
 ghost use Rattle.yq_fault.specs.Faults.{is_failure, is_output};
-ghost use Rattle.yq_commands.{specs.CommandFaults.of_parse, specs.Editing.program_in};
+ghost use Rattle.yq_commands.{specs.CommandFaults.{FailsFor, of_parse}, specs.Editing.program_in};
 
 use std::alloc::Global;
 use yq_expr_parser::{ParseError, ParseFault, parse_expr};
@@ -30,7 +30,7 @@ fn parse_fault(error: ParseError) -> Fault
 #[tactic(auto, using(crate::proofs::EditingLaws::parse_refused), unfolding(crate::specs::Editing::program_in))]
 pub fn parse(alloc: Global, expr: &str) -> Result<Program, Fault>
     ensures ok { IfOk result (λ p. program_in expr.now ≡ Ok (program_of p)) }
-    ensures err { IfErr result (λ e. e ≢ Fault.OutOfMemory → program_in expr.now ≡ Err e) }
+    ensures err { FailsFor (program_in expr.now) result }
     ensures inside { IfErr result (λ e. is_failure e ≡ false) }
     ensures no_output { IfErr result (λ e. is_output e ≡ false) }
 {
