@@ -11,6 +11,7 @@ mod judging;
 mod many_keys;
 mod modified;
 mod oversized;
+mod oversized_text;
 mod parts;
 mod placed;
 mod planning;
@@ -18,6 +19,7 @@ mod put;
 mod right_value;
 mod same_term;
 mod steps;
+mod value_weight;
 mod weights;
 
 pub use fixed::{is_sole, plan_by_rows};

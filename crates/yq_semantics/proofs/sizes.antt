@@ -1,3 +1,4 @@
+pub mod ContentSizes
 pub mod FlowSizes
 pub mod RowSizes
 pub mod AfterSizes
