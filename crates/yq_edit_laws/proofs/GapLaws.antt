@@ -1,12 +1,12 @@
 -- Rows of a document taken out, and the gap after them exchanged: the item that begins with that goes with them.
 use Rattle.std.proofs.Common.{rules, ◌≡◌, ℕ, ◌+◌, ◌≤◌, List, [], ◌∷◌, ◌++◌, length, refl, sym, ap, ◌∙◌, append_assoc, arith}
 use Rattle.std.{proofs.lemmas.List.length-append, specs.List.slice_get}
-use Rattle.yq_row_table.{specs.Items.{Item, end_item, rows_items, items_text}, specs.ItemSplices.first_item}
-use Rattle.yq_row_table.specs.Rows.{Row, print_row, behind_gap, rows_text, Part, part_text, Cut, cut_text}
+use Rattle.yq_row_table.{proofs.ItemLaws.rows_items_text, specs.Items.{Item, end_item, rows_items, items_text}}
+use Rattle.yq_row_table.{specs.ItemSplices.first_item, specs.Rows.{Row, print_row, behind_gap, rows_text, Part, part_text, Cut, cut_text}}
 use Rattle.yq_row_table.{specs.Splices.{with_row_gap, first_gap, with_first_gap, end_gap, behind_first}, specs.Touched.item_text}
 use Rattle.yq_row_table.{proofs.KeptLaws.items_apart, proofs.PlaceLaws.row_then}
-use Rattle.yq_edit_rules.{specs.Changed.put_document, specs.DocumentRows.{behind_document, put_rows}}
-use Rattle.yq_edit_rules.{proofs.DocumentItemLaws.{rows_before, rows_spell}, specs.Local.IsLocal}
+use Rattle.yq_edit_rules.{specs.Changed.put_document, specs.DocumentRows.{behind_document, put_rows}, proofs.DocumentItemLaws.rows_before}
+use Rattle.yq_edit_rules.specs.Local.{IsLocal}
 use Rattle.yq_edit_rules.proofs.ItemsLocal.{rows_last, ItemsGiveWay, come_inside, items_local, one_first, one_last, first_within}
 use Rattle.yq_edit_rules.{proofs.ItemsLocal.last_within, proofs.LocalLaws.{h, front_items, around, front_text}}
 use Rattle.yq_text.specs.Script.{Segment, old_text, new_text, are_kept, kept_front, kept_back}
@@ -36,7 +36,7 @@ gap_apart back end marker = search rules
 later_text : (back : List Row) (end marker : List ℕ) (below : List Item) → behind_first back end (marker ++ items_text below []) ≡ behind_first_gap back marker ++ items_text (later_items back end marker below) []
 later_text [] end marker below = refl
 later_text (b ∷ bs) end marker below =
-    row_then (with_row_gap [] b) [] (rows_text bs (end ++ (marker ++ items_text below []))) ∙ ap (λ t. behind_gap b [] ++ t) (sym (rows_spell bs (end_item end marker ∷ below) []))
+    row_then (with_row_gap [] b) [] (rows_text bs (end ++ (marker ++ items_text below []))) ∙ ap (λ t. behind_gap b [] ++ t) (sym (rows_items_text bs (end_item end marker ∷ below) []))
 
 -- bytes that end a gap, and what comes after that
 ends_gap : (text gap u rest : List ℕ) → text ≡ gap ++ rest → length u ≤ length gap → length (u ++ rest) ≤ length text

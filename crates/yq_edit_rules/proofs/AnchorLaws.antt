@@ -10,24 +10,17 @@ use Rattle.yq_edit_rules.{specs.Conditions.{last_anchor, BeginsEntry, AnchorsSta
 use Rattle.yq_edit_rules.{proofs.NodeLineLaws.{after_under, Under, lines_found, under_even}, proofs.SiblingLaws.{next, entry_out}}
 use Rattle.yq_outline.proofs.Allowing as allowing
 
--- an anchor before lines, where more follow
-free_longer : (a : Option (List ℕ)) (xs ys : List Line) → IsFree a xs → BeginsEntry ys → IsFree a (xs ++ ys)
-free_longer a xs ys h1 h2 = search rules
-
 each_join : (xs ys : List Line) → HaveOneAnchorEach xs → HaveOneAnchorEach ys → IsFree (last_anchor xs) ys → HaveOneAnchorEach (xs ++ ys)
 each_join [] ys h k f = k
 each_join (l ∷ []) ys h k f = (f, k)
-each_join (l ∷ (m ∷ xs)) ys h k f = (first l.anchor h.0, each_join (m ∷ xs) ys h.1 k f)
-  where
-    first : (a : Option (List ℕ)) → IsFree a (m ∷ xs) → IsFree a (m ∷ (xs ++ ys))
-    first a h = search rules
+each_join (l ∷ (m ∷ xs)) ys h k f = search (rules, each_join (m ∷ xs) ys h.1 k f)
 
 pub any_free : (a : Option (List ℕ)) (ys : List Line) → BeginsEntry ys → IsFree a ys
-any_free a ys e = search (rules, free_longer)
+any_free a ys e = search (rules)
 
 pub anchors_stay : AnchorsStay
 anchors_stay before gone come after h new free anew =
-    search (rules, each_back gone after (each_back before (gone ++ after) h), each_join, each_front, any_free, free_longer)
+    search (rules, each_back gone after (each_back before (gone ++ after) h), each_join, each_front, any_free)
 
 -- the lines after a place begin with an entry
 pub collection_anew : (o : Outline) → IsCollection o → BeginsEntry (flatten o)

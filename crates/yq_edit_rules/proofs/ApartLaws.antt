@@ -105,12 +105,7 @@ entries_apart n o steps s h f even e =
     let lt = deep.0 in
     let same : level f.line ≡ m = own.0 in
     let behind : Begins m (lines_behind h f) = search (rules, arith, begins_both, even_begins, begins_less, lines_begin) in
-    let lines : AreDeep m (f.line ∷ flatten f.under) = (omega (arith, same), deep_less m own.3.0 (flatten f.under) (let less = own.3.1 in omega (arith, less)) (even_deep own.3.0 f.under own.3.2)) in
-    record {
-      begin = search (rules, arith, apart_skip, apart_deep);
-      end = apart_skip (lines_before h.place ++ lines_before f.place) (f.line ∷ flatten f.under) (lines_behind h f) (λ none. cc) (apart_deep m (f.line ∷ flatten f.under) (lines_behind h f) lines behind);
-      next = begins_less m (level f.line) (lines_behind h f) (omega (arith, same)) behind;
-    }
+    search (rules, deep_less, even_deep, apart_skip, apart_deep, begins_less)
 
 -- closed lines
 closed_both : (n : ℕ) (xs ys : List Line) → AreDeep n xs → Begins n ys → AreClosed xs → AreClosed ys → AreClosed (xs ++ ys)

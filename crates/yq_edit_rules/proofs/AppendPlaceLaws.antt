@@ -14,9 +14,9 @@ use Rattle.yq_places.{specs.CollectionEnds.CollectionEnd, proofs.UnderExchange.l
 use Rattle.yq_documents.{specs.Reading.part_outline, specs.PartNumbers.part_number}
 use Rattle.yq_edit_rules.{specs.CollectionPlaces.IsCollectionEnd, specs.DocumentRows.{IsDocumentPart, behind_document}}
 use Rattle.yq_edit_rules.{specs.LineRows.{Begins, AreDeep}, specs.Moved.dash_lines, proofs.ApartLaws.{even_deep, lines_apart, block_some}}
-use Rattle.yq_edit_rules.proofs.ColumnLaws.{allowed_content, below_entry, below_node, high_level, next_low}
-use Rattle.yq_edit_rules.{proofs.LineLaws.{above_mark, mark_behind}, proofs.NodeLineLaws.lines_even}
-use Rattle.yq_edit_rules.{proofs.PartLaws.{document_known, part_numbered}, proofs.PlacedLaws.{same_parts, whole_lines}}
+use Rattle.yq_edit_rules.{proofs.ColumnLaws.{allowed_content, below_node, high_level, next_low}, proofs.LineLaws.{above_mark, mark_behind}}
+use Rattle.yq_edit_rules.{proofs.NodeLineLaws.lines_even, proofs.PartLaws.{document_known, part_numbered}}
+use Rattle.yq_edit_rules.proofs.PlacedLaws.{same_parts, whole_lines}
 
 -- ---- a row whose last line is deep
 
@@ -41,7 +41,7 @@ row_last r = ap last_line (mark_behind (head_comment r.gap) r.column r.dashes r.
 -- an entry or item in a column less deep than the last line of a row may come after that row
 mark_limit : (n column : ℕ) (r : Row) → 3 * column + 1 < n → n ≤ level (mark_line (above_mark (head_comment r.gap) r.dashes) (mark_column r) r.mark r.content) → allows (limit_after r) column ≡ true
 unfolding level
-mark_limit n column r low deep = search (rules, allowed_content, above_mark, high_level, below_node, below_entry)
+mark_limit n column r low deep = search (rules, allowed_content, above_mark, high_level, below_node)
 
 -- after the last of rows
 pub last_limit : (limit : Limit) (others : List Row) (r : Row) → asked_behind limit (others ++ (r ∷ [])) ≡ limit_after r

@@ -2,10 +2,9 @@
 use Rattle.std.proofs.Common.{inl, inr, ◌≡◌, ℕ, suc, true, false, List, [], ◌∷◌, ◌++◌, length, Option, Some, None, sym, ap, ◌∙◌, subst}
 use Rattle.std.{proofs.Common.{append_assoc, append-nil, rules}, proofs.lemmas.Bool.false≢true, proofs.lemmas.Option.same_Some}
 use Rattle.std.specs.List.{slice_get}
-use Rattle.yq_core.{specs.Keys.{HasUniqueKeys, keys_of}, specs.Paths.{Step, append_child, changed_at, node_at, within}, specs.Tree.Node}
+use Rattle.yq_core.{specs.Keys.HasUniqueKeys, specs.Paths.{Step, append_child, changed_at, node_at, within}, specs.Tree.Node}
 use Rattle.yq_flow_edits.specs.Valued.{IsValueTree}
-use Rattle.yq_outline.{specs.LineAnchors.HaveOneAnchorEach, specs.Outline.{children, label}, specs.Places.content_under}
-use Rattle.yq_outline.specs.Comments.{line_comment as said}
+use Rattle.yq_outline.{specs.Outline.label, specs.Places.content_under, specs.Comments.line_comment as said}
 use Rattle.yq_row_table.{specs.Grammar.{unlimited, AreRows, no_rows, Limit, allows}, specs.Rows.{rows_text, Part, Cut, cut_text}}
 use Rattle.yq_row_table.{proofs.seams.SeamLaws.rows_text-append, specs.Gap.IsGap}
 use Rattle.yq_places.{specs.CollectionEnds.CollectionEnd, proofs.CommentPieceLaws.Ended}
@@ -15,9 +14,9 @@ use Rattle.yq_edit_rules.{proofs.AppendEntryLaws.entry_bare, proofs.LaidRows.lai
 use Rattle.yq_edit_rules.{specs.declared.layout.Layout.Layout, specs.Alone.singleton, specs.BlockRows.node_rows}
 use Rattle.yq_edit_rules.{specs.BlockValues.{IsFilledValue, IsEnd}, proofs.CharacterLaws.value_sound, specs.Appends.AreAppendedRows}
 use Rattle.yq_edit_rules.{specs.Changed.{IsChanged, put_document}, specs.CollectionPlaces.IsCollectionEnd}
-use Rattle.yq_edit_rules.{specs.DocumentRows.{IsDocumentPart, behind_document}, specs.Rooms.is_block_root}
-use Rattle.yq_edit_rules.{specs.SoundRoots.{IsNewKey, IsNewValue}, specs.TextPieces.IsPiece, proofs.AppendPlaceLaws.{EndAllows, end_allows}}
-use Rattle.yq_edit_rules.{proofs.EditedLaws.lines_are_there, proofs.EndedRowLaws.{rows_ended, rows_then}, proofs.LeadLaws.same_lead_goes}
+use Rattle.yq_edit_rules.{specs.DocumentRows.{IsDocumentPart, behind_document}, specs.Rooms.is_block_root, specs.TextPieces.IsPiece}
+use Rattle.yq_edit_rules.{proofs.AppendPlaceLaws.{EndAllows, end_allows}, proofs.EditedLaws.lines_are_there}
+use Rattle.yq_edit_rules.{proofs.EndedRowLaws.{rows_ended, rows_then}, proofs.LeadLaws.same_lead_goes}
 use Rattle.yq_edit_rules.{proofs.TextPieceLaws.{text_is_piece, pieces_joined, line_cut}, specs.Layouts.layout_of}
 use Rattle.yq_edit_rules.{specs.EntryEdits.entry_lines, specs.Operands.KeyIsUtf8, specs.ReadsAfter.ReadsAfter}
 use Rattle.yq_edit_rules.{proofs.DoneLaws.document_done, proofs.EditsFitLaws.{new_value, key_near, near_keys}}
@@ -25,7 +24,6 @@ use Rattle.yq_edit_rules.{proofs.CommentPieceLaws.nothing, proofs.RemovalPieceLa
 use Rattle.yq_edit_rules.proofs.LayoutLaws.{steps_least}
 use Rattle.yq_semantics.{specs.Changes.{is_overlong_key, has_long_key, is_deep}, specs.Fits.Takes, specs.Operations.append}
 use Rattle.yq_text.specs.Script.{Segment, keep, put}
-use Rattle.yq_core.specs.Tree as tree
 
 -- The place of one more item or entry: the end of the block collection to which steps lead in document doc.
 pub record IsAppendPlace (doc : ℕ) (steps : List Step) (c : Cut) (x : CollectionEnd) : Type 0 where
@@ -118,15 +116,7 @@ module _ (doc : ℕ) (steps : List Step) (key : Option (List ℕ)) (v : Node) (c
       (entry last uncommented).under (length steps)
   written last uncommented =
       let w = entry last uncommented in
-      record {
-        lines = w.lines;
-        bare = entry_bare key v l x.column last;
-        fits = record { level_is = w.level_is ∙ sym known_taker.level_is; headless = w.headless; deep = w.deep.1; even = w.deep.2 };
-        anchors = subst HaveOneAnchorEach w.lines (entry_anchors key v l x.column last g.key_utf8 g.value_tree);
-        keys = entry_keys key v l x.column last g.key_utf8 g.value_tree;
-        value_is = subst (λ y. IsNewValue y (suc (length steps))) (sym w.node_is) (new_value (suc (length steps)) v g.value_tree g.unique g.deep);
-        key = subst (λ (y : tree.Label). IsNewKey y.key (keys_of (children place.h.lines))) (sym w.label_is) known_taker.key_is;
-      }
+      search (rules, entry_bare, known_taker, entry_anchors, entry_keys, new_value)
 
   pub new_rows_are : (last gap rest : List ℕ) (limit : Limit) → IsEnd x.column last (gap ++ rest) → allows limit x.column ≡ true → IsGap gap rest → AreRows limit (node_rows l x.column last (singleton key v)) gap rest
   new_rows_are last gap rest limit ends allowed h = search (rules, rows_gap, laid_rows, value_laid, alone_writable, key_near, near_keys)

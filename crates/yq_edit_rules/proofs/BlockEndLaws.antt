@@ -1,8 +1,6 @@
 -- What comes after rows that are written one after the other.
 use Rattle.std.proofs.Common.{rules, ◌≡◌, ℕ, suc, ◌≤◌, Bool, true, false, not, ◌&&◌, ◌||◌, eqb, List, ◌++◌, Option, Some, refl, sym, ◌∙◌}
-use Rattle.std.proofs.Common.{inl, inr, arith, []}
-use Rattle.std.proofs.lemmas.Bool.{false≢true, not-true, false_from_ne_true, le-leb, leb-true, and_parts, cases_Bool}
-use Rattle.std.specs.Prelude.{nat_le}
+use Rattle.std.{proofs.Common.{inl, inr, arith, []}, proofs.lemmas.Bool.{false≢true, not-true, false_from_ne_true, and_parts, cases_Bool}}
 use Rattle.yq_core.{specs.declared.block_types.Break.Break, specs.BlockWritten.break_text}
 use Rattle.yq_core.specs.Plain.{no_gap, last_line, plain_may_follow, follows, ends_plain, ends_text}
 use Rattle.yq_core.specs.Text.{cut, is_space, is_empty, is_line, front}
@@ -22,12 +20,8 @@ break_ends br d rest at = let tail = break_tail br rest in tail_ends d tail.whit
 pub line_ends : (br : Break) (column : ℕ) (rest : List ℕ) → AtLine (suc column) rest → IsEnd column (break_text br) rest
 line_ends br column rest at = record { tail = break_tail br rest; plain = break_ends br (suc column) rest at }
 
--- where a plain scalar ends, one that is deeper ends too
-less_deep : (d e n : ℕ) → d ≤ e → nat_le e n ≡ true → nat_le d n ≡ true
-less_deep d e n h k = let le : e ≤ n = leb-true e n k in le-leb d n (omega (arith, le, h))
-
 follow_less : (d e : ℕ) (line : Option (List ℕ)) (text : List ℕ) → d ≤ e → plain_may_follow (Some e) line text ≡ true → plain_may_follow (Some d) line text ≡ true
-follow_less d e line text h k = search (rules, and_parts, less_deep)
+follow_less d e line text h k = search (rules, and_parts)
 
 abbrev may_go_on : List ℕ → Bool
 may_go_on t = not (is_empty t) && not (front (λ b. eqb b 35) t) && not (ends_text false t)

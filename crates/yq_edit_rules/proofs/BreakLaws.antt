@@ -1,8 +1,7 @@
 -- The break that ends a text.
 use Rattle.std.proofs.Common.{◌≡◌, ◌⊎◌, inl, ℕ, List, [], ◌∷◌, true, ◌&&◌, refl, eqb-true, rules}
 use Rattle.std.proofs.lemmas.Bool.{false≢true, and_parts}
-use Rattle.yq_core.specs.Text.{is_break, is_line}
-use Rattle.yq_row_table.proofs.EmptyTexts.{empty_is}
+use Rattle.yq_core.{proofs.LineLaws.is_empty_is, specs.Text.{is_break, is_line}}
 use Rattle.yq_places.specs.PrintedLines.{less_break, last_break}
 
 -- a break: LF or CR LF
@@ -11,7 +10,7 @@ IsLfOrCrLf t = (t ≡ 10 ∷ []) ⊎ (t ≡ 13 ∷ (10 ∷ []))
 
 pub break_is : (p : List ℕ) → (is_break p && is_line p) ≡ true → IsLfOrCrLf p
 unfolding is_line
-break_is p h1 = search (rules, false≢true, and_parts, eqb-true, empty_is)
+break_is p h1 = search (rules, false≢true, and_parts, eqb-true, is_empty_is)
 
 pub last_is : (t : List ℕ) → (last_break t ≡ []) ⊎ IsLfOrCrLf (last_break t)
 unfolding less_break

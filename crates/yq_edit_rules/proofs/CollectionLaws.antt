@@ -107,15 +107,12 @@ pub level_mark : (l : Line) (a : Outline) → HasEntries a → level l ≡ level
 level_mark l end b e = absurd b
 level_mark l (row k u c) b e = same_entry k.mark l.mark (entry_in k.mark b) (same_rank k l (sym e))
 
-still_block : (a b : Outline) → HasEntries a → HasEntries (append_outline a b)
-still_block a b h = search rules
-
 pub appended : Appended
 appended n m o v l steps h even there fits =
     let deep = lines_even n o steps h even there.place_is there.block in
     let k : ℕ = level_or 0 h.lines in
     let u : Outline = append_outline h.lines (row l v end) in
-    let block : HasEntries u = still_block h.lines (row l v end) there.block in
+    let block : HasEntries u = search rules in
     let one : IsEven k (row l v end) = search (rules, entry_whole, level_mark) in
     let new : IsEven k u = even_append k h.lines (row l v end) (entries u block) deep.1 one in
     let law = collection_replaced n o u steps h (append_child (label l) (content_under l v)) even there block new (last_child h.lines v l) in

@@ -1,7 +1,7 @@
 -- Where rows may be, by the levels of lines.
-use Rattle.std.proofs.Common.{◌≡◌, ℕ, zero, suc, ◌+◌, ◌*◌, ◌-◌, ◌<◌, ◌≤◌, ℤ, pos, List, [], ◌∷◌, ◌++◌, Option, Some, None, is_some, true}
-use Rattle.std.proofs.Common.{refl, sym, ap, rules, ◌∙◌, subst, arith, ⊎_elim, append_assoc}
-use Rattle.std.{proofs.lemmas.Bool.{false≢true, lt-ltb, ltb-true}, proofs.lemmas.Option.{none-some, same_Some}}
+use Rattle.std.proofs.Common.{◌≡◌, ℕ, zero, suc, ◌+◌, ◌*◌, ◌-◌, ◌<◌, ◌≤◌, ℤ, List, [], ◌∷◌, ◌++◌, Option, Some, None, is_some, true, refl}
+use Rattle.std.{proofs.Common.{sym, ap, rules, ◌∙◌, subst, arith, ⊎_elim, append_assoc}, proofs.lemmas.Bool.{false≢true, lt-ltb, ltb-true}}
+use Rattle.std.proofs.lemmas.Option.{none-some, same_Some}
 use mathlib.Core.List.{head-eq_of_cons-eq}
 use Rattle.yq_core.{specs.Block.{BlockText, RawLines, IsDigit, IsTextIndent}, specs.declared.block_lines.TextIndent.TextIndent}
 use Rattle.yq_core.specs.Piece.{deeper}
@@ -40,9 +40,6 @@ bare_high n above column c rest h = h.0
 pub allowed_content : (n : ℤ) (c : Content) (column : ℕ) → column < deeper n → allows (limit_behind n c) column ≡ true
 allowed_content n c column h1 = search (rules, lt-ltb)
 
-pub below_entry : (column n : ℕ) → column ≤ n → column < deeper (pos n)
-below_entry column n h = omega (arith, h)
-
 pub below_node : (column n : ℕ) → column < n → column < deeper (before_column n)
 below_node column zero h = omega (arith, h)
 below_node column (suc n) h = omega (arith, h)
@@ -68,8 +65,8 @@ row_limit n m column r rest d deep less low = allowed_content (parent_indent r) 
 
     go : (mark : rows.RowMark) → r.mark ≡ mark → (ns : List ℕ) → r.dashes ≡ ns → column < deeper (parent_of r.mark (mark_column r))
     go rows.Bare e ns f = subst (λ (x : rows.RowMark). column < deeper (parent_of x (mark_column r))) (sym e) (below_node column (mark_column r) (node ns f e))
-    go rows.Dash e ns f = subst (λ (x : rows.RowMark). column < deeper (parent_of x (mark_column r))) (sym e) (below_entry column (mark_column r) entry)
-    go (rows.Key key colon) e ns f = subst (λ (x : rows.RowMark). column < deeper (parent_of x (mark_column r))) (sym e) (below_entry column (mark_column r) entry)
+    go rows.Dash e ns f = subst (λ (x : rows.RowMark). column < deeper (parent_of x (mark_column r))) (sym e) (omega (arith, entry))
+    go (rows.Key key colon) e ns f = subst (λ (x : rows.RowMark). column < deeper (parent_of x (mark_column r))) (sym e) (omega (arith, entry))
 
 deep_back : (n : ℕ) (xs ys : List Line) → AreDeep n (xs ++ ys) → AreDeep n ys
 deep_back n [] ys h = h

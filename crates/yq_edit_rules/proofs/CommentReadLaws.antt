@@ -1,6 +1,6 @@
 -- What is written for comments reads as their texts.
-use Rattle.std.proofs.Common.{◌≡◌, ◌⊎◌, inl, inr, ℕ, true, ◌&&◌, cond, eqb, List, [], ◌∷◌, ◌++◌, replicate, drop, Option, Some, None, refl}
-use Rattle.std.{proofs.Common.{sym, ap, ◌∙◌, append-nil, append_assoc, rules}, proofs.lemmas.Bool.{and_parts, not-true}}
+use Rattle.std.proofs.Common.{◌≡◌, ◌⊎◌, inl, inr, ℕ, true, ◌&&◌, cond, eqb, List, [], ◌∷◌, ◌++◌, replicate, Some, refl, sym, ap, ◌∙◌}
+use Rattle.std.{proofs.Common.{append-nil, append_assoc, rules}, proofs.lemmas.Bool.{and_parts, not-true}}
 use Rattle.yq_core.specs.BlockWritten.{break_text}
 use Rattle.yq_core.specs.Text.{front, is_empty, is_break, is_line, ends_line, past_white, joined, text_lines, NoneIn}
 use Rattle.yq_core.{specs.declared.block_types.Break.Break, proofs.Bytes.Each, proofs.LineLaws.lines_again, proofs.Upto.cut-append}
@@ -20,9 +20,6 @@ no_breaks_none (b ∷ t) rest h = search (rules, and_parts, not-true, no_breaks_
 no_white_there : (r : List ℕ) → past_white (35 ∷ r) ≡ 35 ∷ r
 unfolding text.upto
 no_white_there r = refl
-
-abbrev of_text : List ℕ → Option (List ℕ)
-of_text c = cond (front (λ b. eqb b 35) c) (Some (less_space (text.cut ends_line (drop 1 c)).0)) None
 
 pub comment_behind : (white rest t : List ℕ) → IsWhite white → comment_text (white ++ (35 ∷ (t ++ rest))) ≡ comment_text (35 ∷ (t ++ rest))
 comment_behind white rest t h = search (rules, ap (λ (x : List ℕ × List ℕ). x.1) (white_again white (35 ∷ (t ++ rest)) h refl), no_white_there)

@@ -3,15 +3,14 @@ use Rattle.std.proofs.Common.{◌≡◌, ◌⊎◌, ⊎_elim, ℕ, suc, ◌+◌,
 use Rattle.std.proofs.Common.{None, option_and_then, option_map, refl, sym, ap, ◌∙◌, subst, append_assoc, rules}
 use Rattle.std.{proofs.lemmas.List.take-append-drop, proofs.lemmas.Bool.{false≢true, or_cases, cases_Bool}}
 use Rattle.std.{proofs.lemmas.Option.{none-some, same_Some}, specs.List.slice_get}
-use Rattle.yq_core.{specs.Answers.◌>>=◌, specs.Paths.Step, specs.Text.{is_empty, ends_line, no_white, past_white}, proofs.Bools.bind_some}
-use Rattle.yq_core.proofs.Upto.{cut_takes}
+use Rattle.yq_core.{proofs.LineLaws.is_empty_is, specs.Answers.◌>>=◌, specs.Paths.Step}
+use Rattle.yq_core.{specs.Text.{is_empty, ends_line, no_white, past_white}, proofs.Bools.bind_some, proofs.Upto.cut_takes}
 use Rattle.yq_outline.{specs.Ends.{found_line, line_at_steps}, specs.Places.{FoundLine, bare_or}, specs.Outline.{LineMark, Bare, Line}}
 use Rattle.yq_outline.specs.Lines.{lines_from, lines_of_rows}
 use Rattle.yq_row_table.{specs.Exchange.row_front, specs.Grammar.{IsTail, IsRow, Limit}}
 use Rattle.yq_row_table.specs.Rows.{Row, behind_indent, dashes_text, mark_text, print_row, rows_text, Cut, Part, cut_text}
 use Rattle.yq_row_table.{specs.View.slices, proofs.Fronts.Starts, proofs.LineEnds.line_end_behind, proofs.PlaceLaws.row_then}
-use Rattle.yq_row_table.{proofs.RowAgain.row_starts, proofs.EmptyTexts.empty_is, proofs.seams.SeamLaws.rows_text-append}
-use Rattle.yq_row_table.proofs.splices.ContentPlaces.{count_front}
+use Rattle.yq_row_table.{proofs.RowAgain.row_starts, proofs.seams.SeamLaws.rows_text-append, proofs.splices.ContentPlaces.count_front}
 use Rattle.yq_places.specs.CommentPlaces.{end_in_line, text_to_line_end}
 use Rattle.yq_places.specs.PlacedRows.{PlacedPart, PlacedRow, placed_document, placed_row, row_of_path}
 use Rattle.yq_places.specs.Standings.{RowsOfEntry, before_entry, behind_entry, entry_rows_at, rows_of_entry, under_count}
@@ -100,7 +99,7 @@ line_some limit r rest h tail = go (cases_Bool (is_empty (text_to_line_end r)))
         subst Starts whole (row_starts limit r rest h)
 
     go : (is_empty (text_to_line_end r) ≡ true) ⊎ (is_empty (text_to_line_end r) ≡ false) → is_empty (text_to_line_end r) ≡ false
-    go h1 = search (rules, line_end_behind, false≢true, ⊎_elim, or_cases, empty_is, starts)
+    go h1 = search (rules, line_end_behind, false≢true, ⊎_elim, or_cases, is_empty_is, starts)
 
 -- ---- a path to a line
 

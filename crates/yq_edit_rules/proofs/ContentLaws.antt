@@ -1,20 +1,18 @@
 -- What is written after the mark of one row is replaced by a value.
-use Rattle.std.proofs.Common.{◌≡◌, ◌⊎◌, inl, inr, ℕ, ℤ, suc, ◌+◌, ◌≤◌, ◌++◌, true, List, [], ◌∷◌, length, Option, Some, None, refl, sym, ap}
-use Rattle.std.proofs.Common.{◌∙◌, subst, arith, length-append, append_assoc, append-nil, rules}
-use Rattle.std.proofs.lemmas.Bool.{cond_both, false≢true}
+use Rattle.std.proofs.Common.{◌≡◌, ◌⊎◌, inl, inr, ℕ, ℤ, suc, ◌+◌, ◌++◌, List, [], ◌∷◌, length, Option, Some, None, refl, sym, ap, ◌∙◌}
+use Rattle.std.{proofs.Common.{subst, arith, length-append, append_assoc, append-nil, rules}, proofs.lemmas.Bool.{cond_both, false≢true}}
 use mathlib.Core.List.{head-eq_of_cons-eq, tail-eq_of_cons-eq}
-use Rattle.yq_core.{specs.Characters.is_text, specs.Paths.{Step, changed_at}, specs.Tree.{Node, Children, anchor_of}}
-use Rattle.yq_core.{specs.Nodes.{takes_anchor, IsFlowNode}, specs.Trees.{tree_of, node_head}, specs.Anchors.{IsNoAlias, names_of}}
-use Rattle.yq_text.specs.Limit.{text_limit}
+use Rattle.yq_core.{specs.Paths.{Step, changed_at}, specs.Tree.{Node, Children, anchor_of}, specs.Nodes.IsFlowNode, specs.Trees.tree_of}
+use Rattle.yq_core.specs.Anchors.{IsNoAlias}
 use Rattle.yq_outline.{specs.LineAnchors.{IsFree, MayTake, HaveOneAnchorEach}, specs.Comments.head_comment, specs.Group.{group, level_or}}
 use Rattle.yq_outline.specs.Laws.{with_lines}
-use Rattle.yq_outline.specs.Outline.{Line, level, Outline, end, row, flatten, IsOpen, IsWhole, IsEven, first_anchor, anchored, head_or}
-use Rattle.yq_outline.{specs.Outline.{null_node, value}, specs.Places.{lines_before, lines_after, FoundLine, find, content_under}}
-use Rattle.yq_outline.specs.Lines.{block_anchor, content_anchor, head_of, line_mark, mark_line, lines_of_rows}
-use Rattle.yq_outline.{proofs.Decides.flatten-group, proofs.NodeLaws.anchored_twice, proofs.NameLaws.each_back}
+use Rattle.yq_outline.specs.Outline.{Line, level, Outline, end, row, flatten, IsOpen, IsWhole, IsEven, anchored, head_or, null_node, value}
+use Rattle.yq_outline.specs.Places.{lines_before, lines_after, FoundLine, find, content_under}
+use Rattle.yq_outline.{specs.Lines.{content_anchor, head_of, line_mark, mark_line, lines_of_rows}, proofs.Decides.flatten-group}
+use Rattle.yq_outline.{proofs.NodeLaws.anchored_twice, proofs.NameLaws.each_back}
 use Rattle.yq_row_table.{specs.Exchange.{asked_behind, with_content}, specs.Grammar.{unlimited, IsContent, IsCut, no_rows}}
 use Rattle.yq_row_table.{specs.Rows.{Content, Row, mark_column, parent_indent, rows_text, Part, Cut, cut_text}, specs.SpliceFits.StandsFor}
-use Rattle.yq_row_table.{specs.Splices.{asked_at, first_gap, nth_part, rest_behind, splice}, proofs.splices.RowReplaced.row_exchanged}
+use Rattle.yq_row_table.{specs.Splices.{first_gap, nth_part, splice}, proofs.splices.RowReplaced.row_exchanged}
 use Rattle.yq_row_table.proofs.splices.SpliceTexts.{own_gap}
 use Rattle.yq_documents.{specs.Documents.{HaveFitKeys, HasShortRoot, lead_of}, specs.TreeEdits.replaced_node}
 use Rattle.yq_documents.{specs.Reading.{part_outline, root_of}, specs.PartNumbers.part_number}
@@ -28,7 +26,6 @@ use Rattle.yq_edit_rules.{proofs.LineLaws.{above_mark, dashes_count}, proofs.Nod
 use Rattle.yq_edit_rules.proofs.PartLaws.{document_known, is_put, part_numbered, part_rows, rows_put, take_front}
 use Rattle.yq_edit_rules.{proofs.PlacedLaws.{same_parts, whole_line}, proofs.CommentPutLaws.last_lines, proofs.ReplaceLaws.rows_before_some}
 use Rattle.yq_edit_rules.proofs.RowCommentLaws.{rows_behind, lead_content}
-use Rattle.yq_core.specs.Nodes as inline
 use Rattle.yq_core.specs.Trees as trees
 use Rattle.yq_outline.specs.Outline as outline
 use Rattle.yq_row_table.specs.Rows as rows
@@ -38,28 +35,13 @@ use Rattle.yq_row_table.specs.Rows as rows
 coll_named : (k : ℕ) (a : Option (List ℕ)) (cs : Children) → anchor_of (anchored a (trees.tree_collection k cs)) ≡ a
 coll_named k a cs = search (rules, cond_both)
 
-core_named : (name : List ℕ) (node : inline.FlowNode) → takes_anchor node ≡ true → anchor_of (anchored (Some name) (head_or (node_head node) null_node)) ≡ Some name
-unfolding tree_of
-core_named name node h1 = search (rules, false≢true, coll_named)
-
-block_named : (a : Option rows.Anchor) → first_anchor (block_anchor a) None ≡ block_anchor a
-block_named a = search rules
-
 -- the anchor in a row is that of the node
 pub content_named : (n : ℤ) (x : Content) (rest : List ℕ) → IsContent n x rest → anchor_of (spelled_node x) ≡ content_anchor x
 unfolding tree_of IsFlowNode
-content_named n x rest h1 = search (rules, coll_named, core_named, block_named)
-
--- the same after another anchor, if it may take that
-under_named : (a b : Option (List ℕ)) (n : Node) → anchor_of n ≡ b → (a ≡ None) ⊎ IsNoAlias (Some n) → anchor_of (anchored a n) ≡ first_anchor a b
-under_named a b n e h = search rules
+content_named n x rest h1 = search (rules, coll_named, false≢true)
 
 no_alias : (a : Option (List ℕ)) (h : Option Node) → IsNoAlias h → IsNoAlias (Some (anchored a (head_or h null_node)))
 no_alias a h h2 = search rules
-
--- a value without names is no alias
-value_no_alias : (v : Node) → names_of v ≡ [] → IsNoAlias (Some v)
-value_no_alias v h = search rules
 
 -- an anchor before a line of its own
 bare_takes : (a : Option (List ℕ)) (h : Option Node) → MayTake outline.Bare a h → (a ≡ None) × IsNoAlias h
@@ -117,11 +99,7 @@ row_cut t c k p front back r s old cut rows stands new =
     let one : length front + 1 ≡ suc (length front) = omega arith in
     let same : splice j (length front) (suc (length front)) (s ∷ []) (first_gap back (nth_part j c).end) c ≡ put_document k (inserted front (s ∷ []) back p) c =
     (λ i. splice j (length front) (sym one i) (s ∷ []) (first_gap back (is i).end) c) ∙ whole_is in
-    let asked : asked_behind unlimited front ≡ asked_at j (length front) c = search (rules, take_front) in
-    let there : StandsFor (asked_at j (length front) c) r s back (rest_behind j back c) = search rules in
-    subst (λ (x : Cut). IsCut (cut_text x) x) same
-    (row_exchanged t c j front r back s cut (ap (λ (x : Part). x.rows) is ∙ rows) there
-    (ap (λ (x : Cut). is_text (cut_text x)) same ∙ new.characters) (subst (λ (x : Cut). length (cut_text x) ≤ text_limit) (sym same) new.size))
+    search (rules, take_front, row_exchanged)
 
 module _ (t : List ℕ) (c : Cut) (k : ℕ) (p : Part) (front : List Row) (r : Row) (back : List Row) (v : Node) (new : Content) (h : TakesContent t c k p front r back v new) where
   abbrev q : Part
@@ -205,7 +183,7 @@ module _ (t : List ℕ) (c : Cut) (k : ℕ) (p : Part) (front : List Row) (r : R
 
       new_free : (f.line.anchor ≡ None) ⊎ ((content_anchor r.content ≡ None) × IsNoAlias (head_of r.content)) → (f.line.anchor ≡ None) ⊎ ((content_anchor new ≡ None) × IsNoAlias (head_of new))
       new_free (inl e) = inl e
-      new_free (inr e) = inr (h.anchor_is ∙ e.0, subst IsNoAlias (sym h.head_is) (value_no_alias v may.value_is.bare))
+      new_free (inr e) = inr (h.anchor_is ∙ e.0, subst IsNoAlias (sym h.head_is) (search rules))
 
       not_alias : (f.line.anchor ≡ None) ⊎ ((content_anchor r.content ≡ None) × IsNoAlias (head_of r.content)) → (f.line.anchor ≡ None) ⊎ IsNoAlias (Some (spelled_node r.content))
       not_alias (inl e) = inl e
@@ -214,7 +192,7 @@ module _ (t : List ℕ) (c : Cut) (k : ℕ) (p : Part) (front : List Row) (r : R
       node_is : f.under ≡ row x end end → line_mark r.mark ≡ outline.Bare →
           (f.line.anchor ≡ None) ⊎ ((content_anchor r.content ≡ None) × IsNoAlias (head_of r.content)) →
           content_under f.line (row l end end) ≡ replaced_node v (content_under f.line f.under)
-      node_is alone bare takes = search (rules, alone_value, under_named, named, not_alias, spelled_new, anchored_twice)
+      node_is alone bare takes = search (rules, alone_value, named, not_alias, spelled_new, anchored_twice)
 
   -- as a root
   pub root_is : length (lines_of_rows p.rows) ≡ 1 → r.mark ≡ rows.Bare → MayReplace v (root_of p) (root_of p) 0 → IsChanged c (put_document k q c) k (lead_of p) (changed_at [] (replaced_node v))

@@ -51,9 +51,6 @@ begins : (spaces : Option ℕ) (d : ℕ) (core : FlowNode) (rest : List ℕ) →
 unfolding IsFlowNode node_text
 begins spaces d core rest h1 h2 h3 = search (rules, false≢true, or_right, scalar_begins, cond_both)
 
-no_empty_gap : (g : List ℕ) → (false || not (is_empty g)) ≡ true → is_empty g ≡ false
-no_empty_gap g h = search rules
-
 name_space : (n t u : List ℕ) → IsName n t → IsName n (32 ∷ u)
 name_space n t u h = record { some = h.some; inside = none_unless in_name n t (32 ∷ u) h.inside; ends = refl }
 
@@ -76,7 +73,7 @@ module _ (spaces : Option ℕ) (d : ℕ) (core : FlowNode) (rest : List ℕ) (un
       IsLead false (begins_content false) g t → (is_empty_node old || not (is_empty g)) ≡ true → IsFlowNode false spaces d (anchored n g core) rest
   unfolding IsFlowNode node_text
   anchored_node n g old t full name lead apart_is =
-      search (rules, no_empty_gap g (ap (λ b. b || not (is_empty g)) (sym full) ∙ apart_is), name_again, lead_again, or_right)
+      search (rules, name_again, lead_again, or_right)
 
 pub core_node : (spaces : Option ℕ) (d : ℕ) (core : FlowNode) (rest : List ℕ) → node_anchor core ≡ None → is_empty_node core ≡ false → takes_anchor core ≡ true → IsFlowNode false spaces d core rest →
     (node : FlowNode) → IsFlowNode false spaces d node rest → IsFlowNode false spaces d (recore core node) rest

@@ -1,8 +1,7 @@
 -- The items of a cut in which a document is exchanged.
 use Rattle.std.proofs.Common.{rules, ◌≡◌, ℕ, zero, suc, List, [], ◌∷◌, ◌++◌, refl, sym, ap, ◌∙◌}
 use Rattle.yq_row_table.specs.Items.{Item, row_item, end_item, rows_items, items_of_cut, items_text}
-use Rattle.yq_row_table.{specs.Rows.{Row, rows_text, Part, Cut, last, marked}, specs.Splices.{behind_part, nth_part}}
-use Rattle.yq_row_table.proofs.ItemLaws.{items_of_text}
+use Rattle.yq_row_table.{specs.Rows.{Row, Part, Cut, last, marked}, specs.Splices.{behind_part, nth_part}, proofs.ItemLaws.items_of_text}
 use Rattle.yq_edit_rules.{specs.Changed.put_part, specs.DocumentItems.DocumentHasItems}
 use Rattle.yq_documents.{specs.PartNumbers.part_number, proofs.PartNumberLaws.part_there}
 
@@ -15,10 +14,6 @@ rows_before (r ∷ rs) a b = ap (λ is. row_item r ∷ is) (rows_before rs a b)
 pub rows_joined : (a b : List Row) (is : List Item) → rows_items (a ++ b) is ≡ rows_items a (rows_items b is)
 rows_joined [] b is = refl
 rows_joined (r ∷ a) b is = ap (λ js. row_item r ∷ js) (rows_joined a b is)
-
-pub rows_spell : (rs : List Row) (is : List Item) (rest : List ℕ) → items_text (rows_items rs is) rest ≡ rows_text rs (items_text is rest)
-rows_spell [] is rest = refl
-rows_spell (r ∷ rs) is rest = ap (λ t. items_text (row_item r ∷ []) t) (rows_spell rs is rest)
 
 -- ---- a document among items
 

@@ -5,25 +5,23 @@ use Rattle.std.proofs.lemmas.Bool.{false≢true, cond-true, cond-false, and_part
 use Rattle.yq_core.{specs.Characters.{is_text, pairs_returns}, specs.Lines.is_hash}
 use Rattle.yq_core.{specs.Text.{cut, ends_line, is_break, is_line, no_white, past_white}, proofs.Upto.cut-append}
 use Rattle.yq_text.specs.Limit.{text_limit}
-use Rattle.yq_outline.{specs.Comments.{comment_text, head_comment, less_space, line_comment}, specs.Group.level_or}
-use Rattle.yq_outline.{specs.Lines.lines_of_rows, specs.Outline.{Line, flatten}, specs.Places.{lines_before, lines_after}}
-use Rattle.yq_outline.{proofs.Decides.flatten-group, proofs.HeadLaws.end_no_hash}
+use Rattle.yq_outline.{specs.Comments.{comment_text, less_space, line_comment}, specs.Group.level_or, specs.Lines.lines_of_rows}
+use Rattle.yq_outline.{specs.Outline.{Line, flatten}, specs.Places.{lines_before, lines_after}, proofs.Decides.flatten-group}
+use Rattle.yq_outline.proofs.HeadLaws.{end_no_hash}
 use Rattle.yq_row_table.{specs.Exchange.row_front, specs.Gap.{IsBreak, IsComment, IsWhite}}
 use Rattle.yq_row_table.specs.Grammar.{Limit, IsTail, unlimited, AreRows, IsCut, no_rows}
 use Rattle.yq_row_table.specs.Rows.{Row, content_text, parent_indent, print_row, rows_text, Part, Cut, cut_text}
-use Rattle.yq_row_table.{specs.Splices.{before_rows, behind_part, nth_part, splice}, specs.Appending.closed_by}
-use Rattle.yq_row_table.{specs.Seams.{tail_behind, with_tail}, proofs.splices.AppendLaws.end_appended}
-use Rattle.yq_row_table.{proofs.splices.SpliceTexts.front_text, proofs.CharacterLaws.pairs_back}
+use Rattle.yq_row_table.{specs.Splices.{before_rows, behind_part, nth_part, splice}, specs.Appending.closed_by, specs.Seams.tail_behind}
+use Rattle.yq_row_table.{proofs.splices.AppendLaws.end_appended, proofs.splices.SpliceTexts.front_text, proofs.CharacterLaws.pairs_back}
 use Rattle.yq_row_table.{proofs.LineEnds.{behind_comment, white_again}, proofs.PlaceLaws.row_front-append}
 use Rattle.yq_row_table.{proofs.seams.ScalarSeams.ends_return, proofs.seams.SeamLaws.{line_by_break, rows_drop}}
 use Rattle.yq_row_table.{proofs.splices.PartPlaces.part_in, proofs.seams.TailLaws.{comment_closed, no_end_return, content_tail, tail_pairs}}
 use Rattle.yq_documents.{specs.Documents.{HaveFitKeys, HasShortRoot}, specs.Reading.part_outline, specs.PartNumbers.part_number}
 use Rattle.yq_places.{specs.RowPaths.IsReadable, proofs.RemovalLines.front_some, proofs.UnderExchange.lines_append}
-use Rattle.yq_edit_rules.{specs.Changed.put_document, specs.Moved.dash_lines, specs.Siblings.put_lines}
-use Rattle.yq_edit_rules.{proofs.AnchorLaws.{fit_parts, fit_from}, proofs.CollectionLaws.appended, proofs.BlockChangeLaws.entry_appended}
-use Rattle.yq_edit_rules.{proofs.PlacedLaws.same_parts, specs.Ends.{TakesRowsLast, closed_with, EndAppended}}
-use Rattle.yq_edit_rules.{specs.DocumentRows.{IsDocumentPart, behind_document}, proofs.AppendLaws.around}
-use Rattle.yq_edit_rules.proofs.PartLaws.{part_numbered, rows_put, document_known, is_put, drop_front}
+use Rattle.yq_edit_rules.{specs.Changed.put_document, specs.Siblings.put_lines, proofs.AnchorLaws.{fit_parts, fit_from}}
+use Rattle.yq_edit_rules.{proofs.CollectionLaws.appended, proofs.BlockChangeLaws.entry_appended, proofs.PlacedLaws.same_parts}
+use Rattle.yq_edit_rules.{specs.Ends.{TakesRowsLast, closed_with, EndAppended}, specs.DocumentRows.{IsDocumentPart, behind_document}}
+use Rattle.yq_edit_rules.{proofs.AppendLaws.around, proofs.PartLaws.{part_numbered, rows_put, document_known, is_put, drop_front}}
 use Rattle.yq_edit_rules.proofs.CommentPutLaws.{fit_retail, short_retail, last_lines}
 
 -- the comment of a line's end
@@ -101,10 +99,7 @@ end_of_text_appended t c k p steps h front new r break m l u old there_is size w
     let tail : List ℕ = tail_behind r.content ++ break in
     let there : q.rows ≡ front ++ (closed_by break r ∷ new) = ap (λ (rs : List Row). front ++ (closed_by break r ∷ rs)) (append-nil new) in
     let stays : (back : List Row) → lines_of_rows (front ++ (closed_by break r ∷ back)) ≡ lines_of_rows (front ++ (r ∷ back)) =
-    λ back. last_lines front r back (with_tail tail r.content)
-    ∙ (ap (λ (x : Line). (lines_of_rows front ++ dash_lines (head_comment r.gap) r.column r.dashes) ++ (x ∷ lines_of_rows back))
-    (search (rules, false≢true))
-    ∙ sym (last_lines front r back r.content)) in
+    λ back. search (rules, last_lines, false≢true) in
     let olds : flatten o ≡ put_lines h (flatten h.lines) = (appended (level_or 0 o) m o u l steps h known.even there_is w.fits).0 in
     let whole : lines_of_rows p.rows ++ ([] ++ []) ≡ (lines_before h.place ++ flatten h.lines) ++ ([] ++ lines_after h.place) =
     append-nil (lines_of_rows p.rows) ∙ (sym (flatten-group (lines_of_rows p.rows)) ∙ (olds ∙ sym (append_assoc (lines_before h.place) (flatten h.lines) (lines_after h.place)))) in

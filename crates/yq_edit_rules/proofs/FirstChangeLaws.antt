@@ -1,6 +1,6 @@
 -- The text without the first item or entry of a compact collection, and what it reads as.
-use Rattle.std.proofs.Common.{◌≡◌, ℕ, zero, suc, ◌+◌, ◌&&◌, eqb, Bool, true, false, cond, List, [], ◌∷◌, ◌++◌, length, replicate, take}
-use Rattle.std.proofs.Common.{drop, refl, sym, ap, ◌∙◌, arith, append_assoc, append-nil, rules}
+use Rattle.std.proofs.Common.{◌≡◌, ℕ, zero, suc, ◌+◌, true, false, cond, List, [], ◌∷◌, ◌++◌, length, replicate, take, drop, refl, sym, ap}
+use Rattle.std.proofs.Common.{◌∙◌, arith, append_assoc, append-nil, rules}
 use Rattle.yq_core.{specs.Paths.{Step, changed_at, remove_child, within}, specs.Text.{cut, no_space}, specs.Anchors.names_of}
 use Rattle.yq_outline.{specs.Comments.head_comment, specs.Places.{plug, FoundLine, content_under}, specs.Lines.{lines_from, lines_of_rows}}
 use Rattle.yq_outline.proofs.RowLaws.{no_comments}
@@ -59,10 +59,7 @@ spaces_end (suc n) = spaces_end n
 
 no_spaces : (x : List ℕ) (n : ℕ) → are_spaces (x ++ (45 ∷ replicate n 32)) ≡ false
 no_spaces [] n = refl
-no_spaces (b ∷ x) n = go (eqb b 32) (no_spaces x n)
-  where
-    go : (c : Bool) → are_spaces (x ++ (45 ∷ replicate n 32)) ≡ false → (c && are_spaces (x ++ (45 ∷ replicate n 32))) ≡ false
-    go c e = search rules
+no_spaces (b ∷ x) n = search (rules, no_spaces x n)
 
 none_less : (n : ℕ) → less_spaces (replicate n 32) ≡ []
 unfolding less_spaces

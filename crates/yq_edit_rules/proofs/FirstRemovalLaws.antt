@@ -3,7 +3,7 @@ use Rattle.std.proofs.Common.{rules, ◌≡◌, ◌⊎◌, inl, inr, ℕ, ◌+�
 use Rattle.std.proofs.Common.{take, drop, Option, Some, None, refl, sym, ap, ◌∙◌, subst, arith, append_assoc}
 use Rattle.std.{proofs.Math.Seq.take-append_seam, proofs.lemmas.List.{take-append-drop, length-append, length-take-le}}
 use Rattle.std.{proofs.lemmas.Str.{IsUtf8-take, is_utf8-from_IsUtf8}, specs.Str.IsUtf8}
-use Rattle.yq_core.{specs.Answers.◌>>=◌, specs.Paths.{Step, changed_at, remove_child, within}, specs.Text.{cut, cut_line, no_space}}
+use Rattle.yq_core.{specs.Answers.◌>>=◌, specs.Paths.{Step, changed_at, remove_child, within}, specs.Text.{cut, no_space}}
 use Rattle.yq_core.{proofs.Bools.guard_then, specs.Anchors.names_of}
 use Rattle.yq_text.specs.Limit.{text_limit}
 use Rattle.yq_outline.{specs.Ends.line_at_steps, specs.Group.{group, level_or, is_fine}, specs.Places.{plug, content_under}}
@@ -281,10 +281,7 @@ module _ (c : Cut) (k : ℕ) (y : Step) (ys ss : List Step) (s : Step) (x : Text
       )
 
   out_as : first_out e.piece ≡ either (begins_gap next)
-  out_as =
-      ap (λ (l : List ℕ × List ℕ). cond (begins_gap l.1) (piece_between (less_spaces e.piece.before) (end_spaces e.piece.before ++ e.piece.text) e.piece.behind)
-      (piece_between e.piece.before (e.piece.text ++ (l.0 ++ (cut no_space l.1).0)) (cut no_space l.1).1))
-      (ap cut_line ft.behind ∙ break_cut ft.break next ft.one)
+  out_as = search (rules, ft, break_cut)
 
   out_is_so : (b : Bool) → begins_gap next ≡ b → x ≡ either b
   out_is_so b is = sym e.out ∙ (out_as ∙ ap either is)

@@ -3,7 +3,7 @@ use Rattle.std.proofs.Common.{rules, ◌≡◌, ℕ, ◌<◌, true, false, List,
 use Rattle.std.proofs.Common.{append_assoc}
 use Rattle.yq_core.{specs.Text.separates, specs.Alike.{Alike, byte}}
 use Rattle.yq_row_table.specs.Exchange.{allows_first, asked_behind}
-use Rattle.yq_row_table.specs.Grammar.{IsContent, IsTail, AreDashes, is_entry, IsRow, Limit, unlimited, limit_after, limit_behind, AreRows}
+use Rattle.yq_row_table.specs.Grammar.{IsContent, IsTail, AreDashes, is_entry, IsRow, Limit, unlimited, limit_after, AreRows}
 use Rattle.yq_row_table.specs.Joined.{dashed_row}
 use Rattle.yq_row_table.specs.Rows.{Nothing, Row, behind_columns, behind_dashes, behind_indent, dashes_text, parent_indent, parent_of}
 use Rattle.yq_row_table.{specs.Rows.{rows_text, Part}, specs.Seams.TakesPlace, specs.Splices.{behind_first, first_gap}}
@@ -65,13 +65,7 @@ moved_replaces p front gone back r b ns es rest h rows f =
     let u : List ℕ = rows_text back (p.end ++ rest) in
     let takes : TakesPlace limit r t new u = moved_takes limit (asked_behind (limit_after r) gone) r b ns es t u own.0 next.0 f in
     let text : u ≡ first_gap back p.end ++ behind_first back p.end rest = first_text back p.end rest in
-    record {
-      rows_are = rows ∙ ap (λ (rs : List Row). front ++ rs) (sym split);
-      some = refl;
-      new_are = (subst (IsRow limit new) text takes.row, first_is (limit_after b) back p.end rest next.1);
-      next = ap (λ (n : _). allows_first (limit_behind n b.content) back) (same_parent r b ns f.column) ∙ first_allowed (limit_after b) back p.end rest next.1;
-      alike = search rules;
-    }
+    search (rules, first_is, same_parent, first_allowed)
 
 -- ---- a row with nothing after its last dash
 
@@ -92,13 +86,7 @@ dropped_replaces p front gone back r n ns es tail rest h rows f =
     let u : List ℕ = first_gap back p.end ++ behind_first back p.end rest in
     let takes : TakesPlace limit r t (dashed_row ns (Nothing tail) r) u =
     row_dashed limit r ns n es (Nothing tail) t u own.0 (record { dash = f.dashes; content = f.ends u; apart = f.apart u }) in
-    record {
-      rows_are = rows;
-      some = refl;
-      new_are = (takes.row, first_is (asked_behind (limit_after r) gone) back p.end rest further);
-      next = free back;
-      alike = takes.alike;
-    }
+    search (rules, first_is, free)
   where
     free : (rs : List Row) → allows_first unlimited rs ≡ true
     free rs = search rules

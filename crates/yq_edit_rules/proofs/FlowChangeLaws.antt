@@ -37,6 +37,7 @@ pub changed_head : (t : List ℕ) (c : Cut) (k : ℕ) (p q : Part) (s : Step) (s
     IsSoundRoot (changed_at (s ∷ ss) g (root_of p)) → IsChanged c (put_document k q c) k (lead_of p) (changed_at (s ∷ ss) g)
 unfolding level
 changed_head t c k p q s ss rest f n m g put found head new is lines sound =
+    let none_free : (a : Option (List ℕ)) → IsFree a [] = λ a. search rules in
     let w = known t c k p q put in
     let o : Outline = part_outline p in
     let whole : plug f.place (row f.line f.under f.after) ≡ o = at (IsFoundIn o) (find s ss o) (f, rest) found (path_whole s ss o) in
@@ -47,6 +48,3 @@ changed_head t c k p q s ss rest f n m g put found head new is lines sound =
     line_exchanged t c k p q s ss rest f g (level f.line + 1) (with_head m f.line) end put found
     (record { label_is = refl; level_is = refl; headless = tt; deep = omega arith; even = tt; node_is = is ∙ ap (changed_at rest g) (sym node) })
     (search (rules, head, old.2)) (record { each = (none_free f.line.anchor, tt); free = free }) lines sound
-  where
-    none_free : (a : Option (List ℕ)) → IsFree a []
-    none_free a = search rules

@@ -3,9 +3,8 @@ use Rattle.std.proofs.Common.{◌≡◌, ◌⊎◌, ℕ, Bool, true, false, cond
 use Rattle.std.{proofs.Common.{◌∙◌, subst, rules}, specs.Option.option_or, proofs.lemmas.Bool.cond_both}
 use Rattle.std.{proofs.lemmas.Option.{none-some, same_Some}, specs.Prelude.is_some}
 use Rattle.yq_core.{specs.Paths.{Step, is_here, further}, specs.Collections.{CollPieces, coll_along, collection_put, change_item}}
-use Rattle.yq_core.specs.Entries.{EntryPieces, item_at}
-use Rattle.yq_core.{specs.Nodes.{Key, FlowNode, coll, anchored, Sep, Items, none, item, sep_text, flow_items_text}, specs.Trees.key_content}
-use Rattle.yq_core.specs.Tree.{key_label}
+use Rattle.yq_core.{specs.Entries.{EntryPieces, item_at}, specs.Nodes.{Key, FlowNode, coll, anchored, Sep, Items, none, item}}
+use Rattle.yq_core.{specs.Trees.key_content, specs.Tree.key_label}
 use Rattle.yq_flow_edits.{specs.FlowEdits.FlowEdit, specs.Removals.{before_next, edit_from_item, gap_of, last_out, removing_from}}
 use Rattle.yq_flow_edits.proofs.RemoveTexts.{either, option_some}
 use Rattle.yq_row_table.{specs.Exchange.with_content, specs.Rows.{Inline, Row, Part}, proofs.splices.SpliceTexts.own_gap}
@@ -21,14 +20,7 @@ fit_items : (ss : List Step) (k : ℕ) (s : Step) (os : Items) (rest : List ℕ)
     option_and_then (λ (y : EntryPieces). coll_along ss y.node y.rest) (item_at k s os rest) ≡ Some w → EachHasFitKeys os →
     ((node : FlowNode) (u : List ℕ) → coll_along ss node u ≡ Some w → HasFitKeys node → HasFitKeys (f node)) → EachHasFitKeys (change_item s f os)
 fit_items ss k s none rest w f e h fits = absurd (none-some _ e)
-fit_items ss k s (item key n sep os) rest w f e h fits = go (is_here s (key_label (key_content key))) (λ again. fit_items ss k (further s) os rest w f again h.2 fits) e
-  where
-    go : (b : Bool) → (option_and_then (λ (y : EntryPieces). coll_along ss y.node y.rest) (item_at k (further s) os rest) ≡ Some w →
-        EachHasFitKeys (change_item (further s) f os)) →
-        option_and_then (λ (y : EntryPieces). coll_along ss y.node y.rest)
-        (cond b (Some (record { key = key; node = n; rest = sep_text sep (flow_items_text k os rest) })) (item_at k (further s) os rest)) ≡ Some w →
-        EachHasFitKeys (cond b (item key (f n) sep os) (item key n sep (change_item (further s) f os)))
-    go b again e = search rules
+fit_items ss k s (item key n sep os) rest w f e h fits = search (rules, fit_items ss k (further s) os rest w f)
 
 fit_at : (ss : List Step) (node : FlowNode) (rest : List ℕ) (w : CollPieces) (g : List ℕ) (is : Items) → coll_along ss node rest ≡ Some w →
     HasFitKeys node → (EachHasFitKeys w.items → EachHasFitKeys is) → HasFitKeys (collection_put ss g is node)

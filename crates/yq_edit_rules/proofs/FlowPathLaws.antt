@@ -1,7 +1,7 @@
 -- From paths to the rows in which flow collections are, and the text outside them.
 use Rattle.std.proofs.Common.{◌≡◌, ℕ, zero, suc, ◌+◌, ◌-◌, List, [], ◌∷◌, ◌++◌, length, Some, refl, sym, ap, ◌∙◌, subst, arith}
 use Rattle.std.{proofs.Common.{append_assoc, length-append, rules}, proofs.lemmas.Bool.{lt-ltb, le-ltb, cond-true, cond-false}}
-use Rattle.std.{proofs.lemmas.Option.{none-some, same_Some}, specs.List.slice_get}
+use Rattle.std.{proofs.lemmas.Option.none-some, specs.List.slice_get}
 use Rattle.yq_core.{specs.Paths.Step, proofs.Bools.bind_some, specs.Collections.{CollPieces, coll_along}, specs.Nodes.{FlowNode, node_text}}
 use Rattle.yq_outline.{specs.Group.level_or, specs.Outline.{Line, Outline, flatten}, specs.Places.{lines_before, lines_after, FoundLine}}
 use Rattle.yq_outline.{proofs.Decides.flatten-group, proofs.PlaceLaws.placed, specs.Lines.lines_of_rows}
@@ -9,7 +9,7 @@ use Rattle.yq_row_table.specs.Exchange.{before_content, text_after_row, behind_r
 use Rattle.yq_row_table.specs.Rows.{Content, Inline, Row, content_text, rows_text, Part, Cut, last, marked, cut_text}
 use Rattle.yq_row_table.{specs.Splices.{behind_part, nth_part}, specs.View.rows_of, proofs.PlaceLaws.{place, new_place}}
 use Rattle.yq_row_table.proofs.splices.SpliceTexts.{own_gap, own_end}
-use Rattle.yq_documents.{specs.Documents.document_parts, specs.Reading.part_outline, specs.LinesInRows.{RowLine, row_line, document_row}}
+use Rattle.yq_documents.{specs.Documents.document_parts, specs.Reading.part_outline, specs.LinesInRows.{row_line, document_row}}
 use Rattle.yq_documents.{specs.PartNumbers.{part_number, rows_to}, proofs.PartNumberLaws.part_there}
 use Rattle.yq_places.{specs.FlowNodes.{content_flow, find_head}, proofs.FlowPlaceLaws.mark_row_line, proofs.FoundEntries.middle}
 use Rattle.yq_edit_rules.{specs.Appends.inserted, specs.Changed.put_part, specs.DocumentRows.behind_document}
@@ -124,8 +124,6 @@ flow_found t c k steps w read e =
     let lines : lines_of_rows p.rows ≡ lines_before f.place ++ (f.line ∷ (flatten f.under ++ (flatten f.after ++ lines_after f.place))) =
     sym (flatten-group (lines_of_rows p.rows)) ∙ (ap flatten (sym (head_whole (level_or 0 o) o steps f rest known.even x.1)) ∙ placed f f.line f.under) in
     let m = mark_row_line p.rows n f.line (ap (λ (ls : List Line). slice_get ls n) lines ∙ middle (lines_before f.place) _ f.line) (head_takes (level_or 0 o) o steps f rest known.even x.1) in
-    let mark : s.0.line ≡ length s.0.row.dashes = subst (λ (z : RowLine). z.line ≡ length z.row.dashes) (same_Some _ _ (sym m.1 ∙ s.1)) m.2 in
-    let same : behind_row (document_row k c + s.0.before) c ≡ rows_text a.back (p.end ++ behind_document k c) = ap (λ (z : ℕ). behind_row (document_row k c + z) c) (sym a.before) ∙ h.behind in
     record {
       part = p;
       there = d.1;

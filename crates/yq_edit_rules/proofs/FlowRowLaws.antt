@@ -17,7 +17,7 @@ use Rattle.yq_row_table.specs.Grammar.{IsContent, IsMark, IsRow, Limit, AreRows,
 use Rattle.yq_row_table.specs.Rows.{Content, Inline, Row, content_text, mark_column, mark_text, parent_indent, rows_text, Part, Cut}
 use Rattle.yq_row_table.{specs.Seams.TakesPlace, specs.Splices.first_gap, proofs.AlikeRows.dashes_text_alike, proofs.ExchangeLaws.mark_kept}
 use Rattle.yq_row_table.{proofs.RowPlaces.takes_place, proofs.seams.SeamLaws.rows_drop, proofs.splices.SpliceTexts.own_gap}
-use Rattle.yq_documents.{specs.Documents.{HaveFitKeys, HasShortRoot, is_long_plain}, specs.Reading.part_outline}
+use Rattle.yq_documents.{specs.Documents.{HaveFitKeys, HasShortRoot}, specs.Reading.part_outline}
 use Rattle.yq_places.{proofs.FlowPieces.{named_is, none_anchored, twice}, proofs.RemovalLines.front_some}
 use Rattle.yq_edit_rules.{specs.DocumentRows.{Known, behind_document}, specs.FlowChanges.with_head}
 use Rattle.yq_edit_rules.{specs.FlowRows.{InlineRow, row_collection, with_node, IsFlowAt, FlowStands, FlowEdited}, specs.Moved.dash_lines}
@@ -118,9 +118,6 @@ row_takes limit i m u h e holds inline =
 plain_next : (n : ℤ) (space tail : List ℕ) (m : FlowNode) (back : List Row) → is_plain_content m ≡ false → allows_first (Rattle.yq_row_table.specs.Grammar.limit_behind n (Inline space m tail)) back ≡ true
 plain_next n space tail m back e = search rules
 
-short_node : (mark : rows.RowMark) (space tail : List ℕ) (m : FlowNode) → is_plain_content m ≡ false → is_long_plain mark (Inline space m tail) ≡ false
-short_node mark space tail m h1 = search rules
-
 -- The line of the row's mark is the one at the path, and the document's lines with another line there.
 record LineIs (p : Part) (f : FoundLine) (i : InlineRow) : Type 0 where
   is : mark_line (above_mark (head_comment i.row.gap) i.row.dashes) (mark_column i.row) i.row.mark (Inline i.space i.node i.tail) ≡ f.line
@@ -140,12 +137,7 @@ line_is t c k p steps f rest i w n known at head =
     sym (ap lines_of_rows at.rows_are ∙ last_lines i.front r i.back r.content) ∙ (sym (flatten-group (lines_of_rows p.rows)) ∙ (ap flatten (sym whole) ∙ placed f f.line f.under)) in
     let parts = same_parts a (line r.content ∷ []) (lines_of_rows i.back) (lines_before f.place) (f.line ∷ []) (flatten f.under ++ tail) olds size refl in
     let is : line (Inline i.space i.node i.tail) ≡ f.line = ap line (sym at.content_is) ∙ head-eq_of_cons-eq parts.1 in
-    let even = allows_from (level_or 0 o) f.place f.line f.under f.after (subst (λ x. outlines.IsEven (level_or 0 o) x) (sym whole) known.even) in
-    let under : f.under ≡ end = none_under f.line.head n f.under (sym (ap (λ (l : Line). l.head) is) ∙ head) even.1.1 in
-    record {
-      is = is;
-      put = search (rules, own_gap, last_lines);
-    }
+    search (rules, allows_from, none_under, own_gap, last_lines)
 
 pub flow_edited : FlowEdited
 flow_edited t c k p steps f rest i w e h old at edited keys sound text =
@@ -161,7 +153,8 @@ flow_edited t c k p steps f rest i w e h old at edited keys sound text =
     let cut = document_replaced t c k p i.front (r ∷ []) i.back (b ∷ []) (first_gap i.back p.end) old (row_replaces t c k p i.front i.back r b old takes) text in
     let fits = fit_parts i.front (r ∷ i.back) (subst HaveFitKeys at.rows_are known.document.keys) in
     let fit : HaveFitKeys (i.front ++ (b ∷ i.back)) = fit_from i.front (b ∷ i.back) fits.0 (fits.1.0, keys, fits.1.2) in
-    let short : HasShortRoot (i.front ++ (b ∷ i.back)) = short_first i.front i.back (r ∷ i.back) b (subst HasShortRoot at.rows_are known.document.short) (short_node r.mark i.space i.tail m holds.plain) in
+    let short : HasShortRoot (i.front ++ (b ∷ i.back)) =
+    short_first i.front i.back (r ∷ i.back) b (subst HasShortRoot at.rows_are known.document.short) (search rules) in
     let put = is_put t c k p q old (ap no_rows there ∙ front_some i.front b i.back) text cut (subst HaveFitKeys (sym there) fit) (subst HasShortRoot (sym there) short) in
     let n = holds.old_head in
     let d = holds.head in

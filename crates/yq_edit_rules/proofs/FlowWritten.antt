@@ -1,20 +1,13 @@
 -- What is written of a value in flow style is the inline node of that value, and a piece of a text.
-use Rattle.std.proofs.Common.{◌≡◌, ℕ, ◌||◌, List, [], ◌∷◌, Option, true, false, subst, rules}
-use Rattle.std.{proofs.lemmas.Bool.{false≢true, ltb-false, or_parts}, specs.Str.chars}
-use Rattle.yq_core.{specs.PlainText.is_plain_text, specs.Tree.Children, proofs.PlainSpells.writable_text}
-use Rattle.yq_core.specs.NodesWritten.{scalar_text, flow_key, flow_of, flow_items}
+use Rattle.std.{proofs.Common.{◌≡◌, ℕ, ◌||◌, List, Option, false, rules}, proofs.lemmas.Bool.{false≢true, ltb-false, or_parts}}
+use Rattle.yq_core.{specs.Tree.Children, proofs.PlainSpells.writable_text, specs.NodesWritten.{scalar_text, flow_key, flow_of, flow_items}}
 use Rattle.yq_documents.specs.Documents.{HasFitKey, HasFitKeys, EachHasFitKeys}
 use Rattle.yq_semantics.specs.Changes.{is_overlong_key, has_long_key, have_long_key}
 use Rattle.yq_core.specs.Tree as tree
 
--- a key doesn't merge
-plain_apart : (k : List ℕ) → is_plain_text true k ≡ true → k ≡ 60 ∷ 60 ∷ [] → ⊥
-unfolding chars
-plain_apart k h e = let text : is_plain_text true (60 ∷ 60 ∷ []) ≡ true = subst (λ (t : List ℕ). is_plain_text true t ≡ true) e h in false≢true text
-
 pub key_fits : (k : Option (List ℕ)) → is_overlong_key k ≡ false → HasFitKey (flow_key k)
 unfolding scalar_text
-key_fits k h1 = search (rules, plain_apart, writable_text, false≢true, ltb-false)
+key_fits k h1 = search (rules, writable_text, false≢true, ltb-false)
 
 mutual
   unfolding flow_of flow_items

@@ -1,6 +1,6 @@
 -- Head comments of items and entries, put and taken away.
 use Rattle.std.proofs.Common.{◌≡◌, ℕ, zero, suc, ◌+◌, ◌<◌, List, [], ◌∷◌, ◌++◌, length, take, Option, Some, None, true, false, refl, sym}
-use Rattle.std.{proofs.Common.{ap, ◌∙◌, subst, arith, rules, append_assoc, replicate}, proofs.lemmas.Bool.{lt-ltb, and_from, cases_Bool}}
+use Rattle.std.{proofs.Common.{ap, ◌∙◌, subst, rules, append_assoc, replicate}, proofs.lemmas.Bool.{lt-ltb, and_from, cases_Bool}}
 use Rattle.yq_core.{specs.Block.{BlockText, RawLines, ends_block, keeps}, specs.BlockRepair.is_behind}
 use Rattle.yq_core.{specs.declared.block_lines.TextIndent.TextIndent, specs.Text.{is_empty, joined, put_byte, text_lines}}
 use Rattle.yq_core.{proofs.BlockRepairLaws.ends_behind, proofs.SpaceLaws.{prefix_none, spaces_front, drop_front as spaces_drop}}
@@ -77,10 +77,8 @@ run_seam front back r run last rest l old limit own is column apart = go (last_b
     go None e = seams_any front (r ∷ back) unlimited last rest (with_run r run ++ x) old refl (last_none front e)
     go (Some b) e =
         let deep = block_is_deeper unlimited front (r ∷ back) last rest b l old e (apart b e) in
-        let less : r.column < b.indent.columns = omega (arith, deep, column) in
         let was = block_was front b (r.gap ++ x) e (seams_were front (r ∷ back) unlimited last rest old) in
         let split : text_lines (r.gap ++ x) ≡ ks ++ text_lines y = ap text_lines gap_is ∙ lines_before ks y y y_some kept in
-        let ended : ends_block (keeps b.chomping) b.indent (ks ++ text_lines y) ≡ true = ap (ends_block (keeps b.chomping) b.indent) (sym split) ∙ was in
         let text : text_lines (with_run r run ++ x) ≡ ks ++ text_lines (run ++ x) = ap text_lines (append_assoc (joined ks) run x) ∙ lines_before ks y (run ++ x) y_some kept in
         let whole_is : ends_block (keeps b.chomping) b.indent (ks ++ text_lines (run ++ x)) ≡ true =
         search (rules, ends_comment, ks, ends_blank, ends_behind, new, cases_Bool) in

@@ -1,6 +1,6 @@
 -- Where what a key or dash holds is cut into pieces.
 use Rattle.std.proofs.Common.{rules, inl, inr, ◌≡◌, ◌⊎◌, ℕ, ℤ, ◌<◌, Bool, true, false, cond, List, [], ◌∷◌, ◌++◌, length, replicate, Some}
-use Rattle.std.proofs.Common.{None, refl, sym, ap, ◌∙◌, subst, arith, append_assoc, append-nil}
+use Rattle.std.proofs.Common.{refl, sym, ap, ◌∙◌, subst, arith, append_assoc, append-nil}
 use Rattle.std.{proofs.lemmas.Bool.{cases_lt, eqb-true, false≢true, false_from_ne_true, not-false}, proofs.Math.Seq.take-append_seam}
 use Rattle.std.{proofs.lemmas.Str.IsUtf8-take, specs.Str.IsUtf8}
 use Rattle.yq_core.{specs.Text.{front, is_empty, is_return, is_white, no_white, unless, NoneIn}, proofs.Bools.at_byte}
@@ -55,11 +55,6 @@ ascii_front a b h = search rules
 
 pub anchor_ends : (n : ℤ) (x : Content) (rest : List ℕ) → is_empty (content_cut x).1 ≡ false → IsContent n x rest → AnchorEnds (content_cut x).1 ((content_cut x).2 ++ (content_cut x).3)
 unfolding IsFlowNode node_text
-anchor_ends n (Nothing z) rest some h = absurd (false≢true (sym some))
-anchor_ends n (Inline space inline.empty z) rest some h = absurd (false≢true (sym some))
-anchor_ends n (Inline space (inline.alias m) z) rest some h = absurd (false≢true (sym some))
-anchor_ends n (Inline space (inline.scalar p) z) rest some h = absurd (false≢true (sym some))
-anchor_ends n (Inline space (inline.coll k g is) z) rest some h = absurd (false≢true (sym some))
 anchor_ends n (Inline space (inline.anchored m g node) z) rest some h =
     let name : IsName m (g ++ node_text node (z ++ rest)) = h.1.valid.0 in
     let text : g ++ node_text node (z ++ rest) ≡ (g ++ node_text node []) ++ (z ++ rest) = ap (λ l. g ++ l) (node_then node (z ++ rest)) ∙ sym (append_assoc g (node_text node []) (z ++ rest)) in
@@ -67,8 +62,8 @@ anchor_ends n (Inline space (inline.anchored m g node) z) rest some h =
       clean = name_clean 38 m (g ++ node_text node (z ++ rest)) refl name.inside;
       ascii = ascii_front (g ++ node_text node []) (z ++ rest) (subst BeginsAscii text (unnamed_ascii (g ++ node_text node (z ++ rest)) name.ends));
     }
-anchor_ends n (Block space None block) rest some h = absurd (false≢true (sym some))
 anchor_ends n (Block space (Some a) block) rest some h = search (rules, name_clean, ascii_front, append_assoc, unnamed_ascii)
+anchor_ends n _ rest some h = absurd (false≢true (sym some))
 
 -- ---- the end of a key or dash
 

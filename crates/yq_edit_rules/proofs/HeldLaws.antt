@@ -1,9 +1,8 @@
 -- What a key or dash holds spells the text of its rows.
 use Rattle.std.proofs.Common.{◌≡◌, ℕ, cond, List, [], ◌∷◌, ◌++◌, Some, refl, sym, ap, ◌∙◌, append_assoc, append-nil, rules}
 use Rattle.std.proofs.lemmas.Bool.{false≢true}
-use Rattle.yq_core.{specs.Paths.Step, specs.Text.is_empty}
+use Rattle.yq_core.{proofs.LineLaws.is_empty_is, specs.Paths.Step, specs.Text.is_empty}
 use Rattle.yq_row_table.{specs.Exchange.row_front, specs.Rows.{Row, Cut, cut_text, print_row, rows_text}, specs.View.{Slices, slices}}
-use Rattle.yq_row_table.proofs.EmptyTexts.{empty_is}
 use Rattle.yq_places.{specs.CommentPlaces.{LineEnd, end_in_line, text_to_line_end}, specs.PrintedLines.{last_break, less_break}}
 use Rattle.yq_places.{specs.RowPieces.{anchor_before, space_before}, proofs.PrintedTexts.less_is, proofs.RunSpans.rows_then}
 use Rattle.yq_places.specs.Standings.{RowsOfEntry, before_entry, behind_entry, rows_of_entry, held}
@@ -13,7 +12,7 @@ use Rattle.yq_edit_rules.{proofs.CommentRowLaws.{cut_spelled, end_parts, entry_r
 
 -- the text of a line up to its tail: the key or dash with its anchor, the white space after that, and the head
 pub front_is : (b : List ℕ) (r : Row) → b ++ text_to_line_end r ≡ ((b ++ row_front r) ++ anchor_before (slices r)) ++ (space_before (slices r) ++ (slices r).head)
-front_is b r = search (rules, empty_is, false≢true, append_assoc, append-nil)
+front_is b r = search (rules, is_empty_is, false≢true, append_assoc, append-nil)
 
 -- ---- the lines below
 

@@ -19,14 +19,7 @@ use Rattle.yq_edit_rules.{proofs.HeldCuts.{low_last, mark_ends, space_white}, pr
 -- the end of a line, as it is cut without what is after
 pub end_agrees : (tail more : List ℕ) (h : IsTail tail more) → end_in_line [] tail ≡ record { before = []; white = h.white; comment = h.comment; behind = h.line.break }
 end_agrees tail more h =
-    let alone : IsTail tail [] =
-    record {
-      white = h.white;
-      comment = h.comment;
-      line =
-          record { break = h.line.break; spelled = h.line.spelled; blank = h.line.blank; as_comment = h.line.as_comment; ends = ends h.line.ends };
-      apart = h.apart;
-    } in
+    let alone : IsTail tail [] = search (rules, ends) in
     ap (end_in_line []) (sym (append-nil tail)) ∙ (tail_is_end [] tail [] alone ∙ ap (λ t. record { before = []; white = h.white; comment = h.comment; behind = t }) (append-nil h.line.break))
   where
     ends : IsBreak h.line.break more → IsBreak h.line.break []

@@ -74,14 +74,12 @@ module _ (p : Part) (front : List Row) (r : Row) (back : List Row) (rows_are : p
 
   lower_next : (s : Step) (ss : List Step) (h : LeadsBelow p s ss front r) → allows_first (record { column = Some (deeper (parent_indent r)) }) back ≡ true
   lower_next s ss h =
+      let begins : (ls : List Line) → StartsAt (level h.found.line) ls → Begins (level h.found.line) ls = λ ls s. search rules in
       let b = lower_back s ss h in
       let starts : Begins (level h.found.line) (lines_of_rows back) = subst (Begins (level h.found.line)) (sym b.0) (begins _ (found_starts (lines_of_rows p.rows) s ss [] h.found h.is fine)) in
       let own : deeper (parent_indent r) ≡ mark_column r = ap (λ m. deeper (parent_of m (mark_column r))) h.mark ∙ deeper_bare (mark_column r) in
       subst (λ d. allows_first (record { column = Some d }) back ≡ true) (sym own)
       (next_by (level h.found.line) (mark_column r) back starts (omega (arith, b.1, level_is, ap (λ m. rank (line_mark m)) h.mark)))
-    where
-      begins : (ls : List Line) → StartsAt (level h.found.line) ls → Begins (level h.found.line) ls
-      begins ls s = search rules
 
   -- the root
   root_back : IsRootRow p r → back ≡ []

@@ -3,14 +3,13 @@ use Rattle.std.proofs.Common.{◌≡◌, append_assoc, Some, ℕ, ◌<◌, ◌�
 use Rattle.std.{proofs.Common.{subst, arith, rules}, proofs.lemmas.Bool.{false≢true, leb-true, leb-false}, proofs.lemmas.List.length-append}
 use mathlib.Core.List.{tail-eq_of_cons-eq}
 use Rattle.yq_core.{proofs.BlockPieceLaws.IsLf, proofs.Bools.guard_then}
-use Rattle.yq_row_table.specs.Grammar.{Limit, limit_after, IsRow}
+use Rattle.yq_row_table.{proofs.ItemLaws.{rows_items_text, items_joined, parts_are_items}, specs.Grammar.{Limit, limit_after, IsRow}}
 use Rattle.yq_row_table.specs.Items.{Item, row_item, rows_items, items_of_cut, items_text, Asked, nothing_asked, asked_by, asked_of}
 use Rattle.yq_row_table.{specs.Items.AreRowItems, specs.Rows.{Row, print_row, rows_text, Part, Cut, cut_text}, specs.Splices.with_row_gap}
-use Rattle.yq_row_table.{proofs.ItemLaws.{items_joined, parts_are_items}, proofs.PlaceLaws.row_then, proofs.RowLaws.row_longer}
-use Rattle.yq_row_table.proofs.seams.FrontSeams.{row_some}
+use Rattle.yq_row_table.{proofs.PlaceLaws.row_then, proofs.RowLaws.row_longer, proofs.seams.FrontSeams.row_some}
 use Rattle.yq_documents.{specs.Reading.read_at, proofs.ReadLaws.text_takes}
 use Rattle.yq_places.proofs.CommentPieceLaws.{Ended}
-use Rattle.yq_edit_rules.{specs.Changed.put_document, proofs.DocumentItemLaws.{rows_before, rows_spell}, proofs.EndedRowLaws.row_ended}
+use Rattle.yq_edit_rules.{proofs.DocumentItemLaws.rows_before, proofs.EndedRowLaws.row_ended, specs.Changed.put_document}
 use Rattle.yq_edit_rules.{specs.Local.{InFirst, InLast, IsLocal}, proofs.OneLines.{is_one_line, left_none, behind_feed}}
 use Rattle.yq_edit_rules.proofs.ItemsLocal.{last_within, IsInside}
 use Rattle.yq_edit_rules.proofs.LocalLaws.{longer_end, RowsGiveWay, rows_way, gone_text, come_text, rows_local}
@@ -67,7 +66,7 @@ unfolding read_at
 cut_line c front rs back lead trail read are inside one =
     let parts = (text_takes (cut_text c) c (guard_then _ read).1).0.parts in
     let all : AreRowItems nothing_asked (front ++ rows_items rs back) [] = subst (λ is. AreRowItems nothing_asked is []) (are ∙ ap (λ is. front ++ is) (sym (rows_before rs [] back))) (parts_are_items c true parts) in
-    let text : rows_text rs [] ≡ (lead ++ inside.middle) ++ trail = sym (rows_spell rs [] []) ∙ (inside.text ∙ sym (append_assoc lead inside.middle trail)) in
+    let text : rows_text rs [] ≡ (lead ++ inside.middle) ++ trail = sym (rows_items_text rs [] []) ∙ (inside.text ∙ sym (append_assoc lead inside.middle trail)) in
     last_line rs (asked_of nothing_asked front) back [] (lead ++ inside.middle) trail (items_joined front (rows_items rs back) nothing_asked [] all) text one
 
 module _ (ss : List Segment) (c : Cut) (k : ℕ) (q : Part) (e : RowsGiveWay ss c k q) where

@@ -4,14 +4,11 @@ use Rattle.yq_core.specs.Tree.{children_of}
 use Rattle.yq_outline.{specs.Group.group, specs.Outline.Line}
 use Rattle.yq_documents.{specs.Documents.lead_of, specs.Reading.root_of, specs.Ready.begins_no_node, specs.TreeEdits.lead_by}
 use Rattle.yq_edit_rules.{specs.Siblings.HasEntries, proofs.AfterLaws.{by_first, none_kept}, proofs.EditedLaws.root_has_lead}
-use Rattle.yq_edit_rules.specs.Rooms.{is_block_root, SameLeadGoes, BlockLeadGoes, KeptLeadGoes}
+use Rattle.yq_edit_rules.specs.Rooms.{SameLeadGoes, BlockLeadGoes}
 
 pub block_lead_goes : BlockLeadGoes
 block_lead_goes p q block has =
     sym (ap (λ b. lead_by b (children_of (root_of q)) (lead_of p)) block ∙ by_first (children_of (root_of q)) (lead_of q) (lead_of p) (root_has_lead q has))
-
-pub kept_lead_goes : KeptLeadGoes
-kept_lead_goes p q same empty = same ∙ sym (none_kept (is_block_root p) (children_of (root_of q)) (lead_of p) empty)
 
 -- a root that is block has items or entries, or no lines
 pub block_entries : (ls : List Line) → begins_no_node ls ≡ true → (HasEntries (group ls)) ⊎ (ls ≡ [])
@@ -19,4 +16,4 @@ block_entries [] h = inr refl
 block_entries (l ∷ ls) h = inl (search (rules, false≢true))
 
 pub same_lead_goes : SameLeadGoes
-same_lead_goes p q same block = search (rules, kept_lead_goes, false≢true, block_entries, block_lead_goes)
+same_lead_goes p q same block = search (rules, none_kept, root_of, false≢true, block_entries, block_lead_goes)

@@ -4,7 +4,7 @@ use Rattle.std.proofs.Common.{append_assoc, append-nil, ⊎_elim, rules}
 use Rattle.std.proofs.lemmas.Bool.{false≢true, or_right, and_from, and_parts, cases_Bool}
 use Rattle.yq_core.{specs.Block.IsIndicators, specs.Characters.pairs_returns}
 use Rattle.yq_core.specs.Text.{front, is_white, is_feed, is_return, is_empty, no_white, unless, NoneIn}
-use Rattle.yq_core.{specs.declared.block_header.BlockStyle.BlockStyle, specs.declared.block_header.Chomping.Chomping, proofs.Bools.at_byte}
+use Rattle.yq_core.{specs.declared.block_header.Chomping.Chomping, proofs.Bools.at_byte}
 use Rattle.yq_core.specs.Nodes.{FlowNode, empty, alias, scalar, coll, anchored, Items, none, item, in_name, is_close, opening_bracket}
 use Rattle.yq_core.specs.Nodes.{key_text, sep_text, node_text, flow_items_text, IsFlowNode}
 use Rattle.yq_core.proofs.NodesWrittenLaws.{key_append, sep_append, node_append}
@@ -98,13 +98,10 @@ plain_clean n space node tail rest h pairs feed = go (content_joined n (Inline s
 indicators_clean : (d : Rattle.std.proofs.Common.Option ℕ) (c : Chomping) (p : List ℕ) → IsIndicators d c p → ends_return p ≡ false
 indicators_clean d c p h = search (rules, ends_return, clean_joined, cases_Bool)
 
-style_clean : (style : BlockStyle) → is_return (Rattle.yq_core.specs.Block.style_indicator style) ≡ false
-style_clean style = search rules
-
 content_clean : (n : ℤ) (c : Content) (rest : List ℕ) → IsContent n c rest → pairs_returns (content_text c rest) ≡ true → front is_feed ((content_cut c).4 ++ ((content_cut c).5 ++ rest)) ≡ true → ends_return (written c) ≡ false
 content_clean n (Nothing tail) rest h pairs feed = refl
 content_clean n (Inline space node tail) rest h pairs feed = search (rules, clean_joined, clean_white, ends_return, node_cut, clean_node, plain_clean)
-content_clean n (Block space anchor block) rest h pairs feed = search (rules, ends_return, clean_byte, style_clean, indicators_clean, ends_more, some_behind)
+content_clean n (Block space anchor block) rest h pairs feed = search (rules, ends_return, clean_byte, indicators_clean, ends_more, some_behind)
 
 -- ---- a row, up to the end of its line
 

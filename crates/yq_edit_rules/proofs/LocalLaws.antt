@@ -2,13 +2,13 @@
 use Rattle.std.proofs.Common.{◌≡◌, ℕ, ◌≤◌, List, [], ◌∷◌, ◌++◌, length, Some, false, refl, sym, ap, ◌∙◌, subst, append_assoc, arith, rules}
 use Rattle.std.{proofs.lemmas.List.{append_cancel_right, length-append}, proofs.lemmas.Option.same_Some, specs.List.slice_get}
 use mathlib.Core.List.{head-eq_of_cons-eq, tail-eq_of_cons-eq}
+use Rattle.yq_row_table.proofs.ItemLaws.{rows_items_text, items_of_text, items_text-append}
 use Rattle.yq_row_table.specs.Items.{Item, row_item, end_item, rows_items, items_text}
-use Rattle.yq_row_table.{specs.Rows.{Row, rows_text, Part, part_text, Cut, cut_text}, proofs.ItemLaws.{items_of_text, items_text-append}}
-use Rattle.yq_row_table.proofs.KeptLaws.{items_apart}
+use Rattle.yq_row_table.{specs.Rows.{Row, rows_text, Part, part_text, Cut, cut_text}, proofs.KeptLaws.items_apart}
 use Rattle.yq_documents.{specs.Documents.document_parts, specs.Reading.read_at}
 use Rattle.yq_places.proofs.RunSpans.{rows_then}
 use Rattle.yq_edit_rules.{specs.Changed.put_document, specs.DocumentItems.HasItems, specs.DocumentRows.behind_document}
-use Rattle.yq_edit_rules.proofs.DocumentItemLaws.{rows_before, rows_joined, rows_spell, document_has_items}
+use Rattle.yq_edit_rules.proofs.DocumentItemLaws.{document_has_items, rows_before, rows_joined}
 use Rattle.yq_edit_rules.specs.Local.{InFirst, InLast, IsLocal, IsLocalTo}
 use Rattle.yq_edit_rules.proofs.ItemsLocal.{IsInside, ItemsGiveWay, gone_inside, come_inside, items_local, one_first, one_last}
 use Rattle.yq_text.{specs.Script.{Segment, old_text, new_text, are_kept, kept_front, kept_back}, proofs.KeptSegments.{IsBetween, between}}
@@ -53,7 +53,7 @@ module _ (c : Cut) (k : ℕ) (p : Part) (there : slice_get (document_parts c) k 
       let tail : List Item = end_item q.end h.marker ∷ h.below in
       sym (items_of_text (put_document k q c))
       ∙ (ap (λ is. items_text is []) (h.put q)
-      ∙ (items_text-append h.above (rows_items q.rows tail) [] ∙ ap (items_text h.above) (rows_spell q.rows tail [] ∙ ap (λ t. rows_text q.rows (q.end ++ t)) (sym h.behind))))
+      ∙ (items_text-append h.above (rows_items q.rows tail) [] ∙ ap (items_text h.above) (rows_items_text q.rows tail [] ∙ ap (λ t. rows_text q.rows (q.end ++ t)) (sym h.behind))))
 
   pub above_is : (t : List ℕ) → items_text h.above t ≡ start ++ t
   above_is t = search (rules, items_apart, append_cancel_right, put_text)
@@ -75,10 +75,10 @@ module _ (c : Cut) (k : ℕ) (p : Part) (there : slice_get (document_parts c) k 
       ∙ sym (append_assoc h.above (rows_items front []) (rows_items mid [] ++ rows_items back tail))
 
   pub front_text : (front : List Row) (t : List ℕ) → items_text (front_items front) t ≡ (start ++ rows_text front []) ++ t
-  front_text front t = items_text-append h.above (rows_items front []) t ∙ (ap (items_text h.above) (rows_spell front [] t) ∙ (above_is (rows_text front t) ∙ at_row start front t))
+  front_text front t = items_text-append h.above (rows_items front []) t ∙ (ap (items_text h.above) (rows_items_text front [] t) ∙ (above_is (rows_text front t) ∙ at_row start front t))
 
   pub back_text : (back : List Row) (end : List ℕ) → items_text (back_items back end) [] ≡ rows_text back (end ++ behind_document k c)
-  back_text back end = rows_spell back (end_item end h.marker ∷ h.below) [] ∙ ap (λ t. rows_text back (end ++ t)) (sym h.behind)
+  back_text back end = rows_items_text back (end_item end h.marker ∷ h.below) [] ∙ ap (λ t. rows_text back (end ++ t)) (sym h.behind)
 
   -- the text of the cut, by rows of the document
   cut_at : (front mid back : List Row) → p.rows ≡ front ++ (mid ++ back) → cut_text c ≡ (start ++ rows_text front []) ++ (rows_text mid [] ++ rows_text back (p.end ++ behind_document k c))
@@ -88,7 +88,7 @@ module _ (c : Cut) (k : ℕ) (p : Part) (there : slice_get (document_parts c) k 
       ∙ (items_text-append (front_items front) (rows_items mid [] ++ back_items back p.end) []
       ∙ (front_text front _
       ∙ ap (λ t. (start ++ rows_text front []) ++ t)
-      (items_text-append (rows_items mid []) (back_items back p.end) [] ∙ (items_apart (rows_items mid []) _ ∙ (λ i. rows_spell mid [] [] i ++ back_text back p.end i))))))
+      (items_text-append (rows_items mid []) (back_items back p.end) [] ∙ (items_apart (rows_items mid []) _ ∙ (λ i. rows_items_text mid [] [] i ++ back_text back p.end i))))))
 
 module _ (ss : List Segment) (c : Cut) (k : ℕ) (q : Part) (e : RowsGiveWay ss c k q) where
   -- as items

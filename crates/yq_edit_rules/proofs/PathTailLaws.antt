@@ -1,9 +1,8 @@
 -- The line comment of an item or entry at a path.
 use Rattle.std.proofs.Common.{◌≡◌, ℕ, ◌+◌, true, false, List, [], ◌∷◌, ◌++◌, length, Option, Some, None, refl, sym, ap, ◌∙◌, subst, rules}
 use Rattle.std.proofs.lemmas.Bool.{false≢true}
-use Rattle.yq_core.{specs.Block.{BlockText, block_text, style_indicator}, specs.Text.separates}
-use Rattle.yq_core.{specs.Paths.{Step, changed_at, relabel_child, within}, specs.declared.block_header.BlockStyle.BlockStyle}
-use Rattle.yq_core.proofs.AlikePieces.{name_by}
+use Rattle.yq_core.{specs.Block.{BlockText, style_indicator}, specs.Text.separates, specs.Paths.{Step, changed_at, relabel_child, within}}
+use Rattle.yq_core.{specs.declared.block_header.BlockStyle.BlockStyle, proofs.AlikePieces.name_by}
 use Rattle.yq_outline.{specs.Comments.line_comment, specs.Ends.line_at_steps, specs.Group.level_or, specs.Lines.lines_of_rows}
 use Rattle.yq_row_table.{specs.Exchange.{asked_behind, with_content}, specs.Gap.IsWhite}
 use Rattle.yq_row_table.specs.Grammar.{unlimited, IsAnchor, IsRow, is_entry, ends_part}
@@ -46,16 +45,7 @@ header_takes p front back r space anchor block tail rest is there fits row =
     let other : BlockText = record block { tail = tail } in
     let mark : (is_entry r.mark ≡ true) × (separates (content_text (Block space anchor block) u) ≡ true) = search (rules, false≢true) in
     let content = subst (λ (x : Content). Rattle.yq_row_table.specs.Grammar.IsContent (parent_indent r) x u) is row.content in
-    record {
-      rows_are = there;
-      takes = one_row (asked_behind unlimited front) r (with_header_tail tail space anchor block) u u row mark.0 (
-        content.0,
-        anchor_other anchor (block_text block u) (block_text other u) content.1,
-        record { indicators = content.2.indicators; tail = fits; indent = content.2.indent; lines = content.2.lines; ends = content.2.ends; behind = content.2.behind },
-      )
-          (header_apart space anchor block.style _ _ content.0 mark.1);
-      next = free_first back;
-    }
+    search (rules, one_row, anchor_other, header_apart, free_first)
 
 -- another end of the line of a row
 abbrev Commented : (c : Cut) (k : ℕ) (p : Part) (steps : List Step) (s : Step) (front back : List Row) (tail : List ℕ) → Row → Type 0
@@ -72,13 +62,7 @@ module _ (t : List ℕ) (c : Cut) (k : ℕ) (p : Part) (steps : List Step) (s : 
   behind_tail inline h =
       let all = own_rows t c k p front x.row back old there in
       let ends : ends_part (behind_document k c) ≡ true = part_ends c (part_number k c) true (document_known t c k p old).cut.parts in
-      path_line_commented t c k p steps s x front back tail old row_line_is last
-      (record {
-        rows_are = there;
-        inline = inline;
-        fits =
-            fits_by (parent_indent x.row) x.row.content tail back p.end (behind_document k c) inline h all.1 ends;
-      }) before
+      search (rules, path_line_commented, fits_by)
 
   in_header : (space : List ℕ) (anchor : Option rows.Anchor) (block : BlockText) → x.row.content ≡ Block space anchor block →
       Rattle.yq_core.specs.Block.is_tail tail ≡ true →

@@ -2,20 +2,18 @@
 use Rattle.yq_edit_rules.{proofs.FirstReplaceLaws.rows_after, proofs.AppendEntryLaws.none_uncommented}
 use Rattle.yq_edit_rules.specs.BlockPlaces.{compact_rows, IsUpto, at_mark, at_dash, IsAbove, Replaces, BeginsUpto}
 use Rattle.yq_edit_rules.{specs.BlockRows.item_column, proofs.LaidRows.{AreLaid, IsLaid, rows_append}, proofs.BlockLineLaws.BeginAt}
-use Rattle.std.proofs.Common.{◌≡◌, ℕ, suc, ◌+◌, true, false, not, ◌&&◌, eqb, List, [], ◌∷◌, ◌++◌, None, refl, sym, ap, ◌∙◌, subst, arith}
+use Rattle.std.proofs.Common.{◌≡◌, ℕ, suc, ◌+◌, true, false, ◌&&◌, eqb, List, [], ◌∷◌, ◌++◌, None, refl, sym, ap, ◌∙◌, subst, arith}
 use Rattle.std.{proofs.Common.{append_assoc, replicate, Some, rules}, proofs.lemmas.Bool.false≢true}
 use Rattle.yq_core.{specs.Text.{separates, upto}, specs.Alike.{Alike, byte}, proofs.Alikes.{alike_append, alike_marker}}
 use Rattle.yq_outline.{proofs.RowLaws.no_comments, specs.Lines.{dash_line, lines_from, row_lines, lines_of_rows}}
 use Rattle.yq_row_table.specs.Exchange.{asked_behind, with_content}
-use Rattle.yq_row_table.specs.Grammar.{IsContent, IsMark, is_entry, is_more, is_plain_content, AreDashes, Limit, unlimited, limit_after}
-use Rattle.yq_row_table.specs.Grammar.{limit_behind, IsRow, AreRows}
+use Rattle.yq_row_table.specs.Grammar.{IsContent, IsMark, is_entry, AreDashes, Limit, unlimited, limit_after, limit_behind, IsRow, AreRows}
 use Rattle.yq_row_table.specs.Rows.{RowMark, Dash, Content, Nothing, dashes_text, mark_text, content_text, behind_dashes, behind_indent}
 use Rattle.yq_row_table.specs.Rows.{behind_gap, Row, behind_columns, mark_column, parent_of, parent_indent, print_row, rows_text}
 use Rattle.yq_row_table.{proofs.AlikeRows.{row_gap_alike, dashes_text_alike}, proofs.ExchangeLaws.{one_row, relimit, chain}}
 use Rattle.yq_row_table.{proofs.NodeExchange.mark_apart, specs.Joined.{dashed_row, compact_row}}
 use Rattle.yq_row_table.proofs.seams.JoinLaws.{space_apart, dashes_text-append, behind_columns-append}
 use Rattle.yq_row_table.proofs.seams.SeamLaws.{rows_text-append}
-use Rattle.yq_core.specs.Nodes as inline
 use Rattle.yq_outline.specs.Outline as outline
 
 -- dashes in front of dashes
@@ -59,10 +57,6 @@ like_row limit r old ns m x t h a dashes mark content =
       alike_append (Some false) r.gap _ _ indent,
     )
 
--- nothing, or an anchor, asks nothing of the next row
-nothing_plain : (node : inline.FlowNode) → not (is_more node) ≡ true → is_plain_content node ≡ false
-nothing_plain node h = search (rules, false≢true)
-
 pub upto_row : {limit : Limit} {r s : Row} {old : List ℕ} (x : Content) (t : List ℕ) → IsRow limit r old → IsUpto s r → IsContent (parent_indent s) x t → separates (content_text x t) ≡ true →
     IsRow limit (with_content x s) t × Alike (Some false) (print_row r old) (print_row (with_content x s) t)
 upto_row {limit} {old} x t h (at_mark {r} entry) content apart =
@@ -74,7 +68,7 @@ pub under_laid : (limit : Limit) (r s : Row) (old : List ℕ) (x : Content) (bel
     AreLaid below rs rest → Replaces limit (mark_column s) r old (with_content x s ∷ rs) rest
 under_laid limit r s old x below rs rest h laid =
     let first = upto_row x (rows_text rs rest) h.row h.upto h.content h.apart in
-    search (rules, nothing_plain, false≢true, first)
+    search (rules, false≢true, first)
 
 -- rows on the line of a dash
 on_line : (limit : Limit) (r : Row) (old ds : List ℕ) (q : Row) (rs : List Row) (rest : List ℕ) → IsRow limit r old →

@@ -13,8 +13,7 @@ use Rattle.yq_edit_rules.{specs.BlockLaws.{ReadsAlone, IsHead}, specs.BlockRows.
 use Rattle.yq_edit_rules.{specs.BlockValues.{HasNearKeys, IsCollection, IsFilled, MayBeRoot}, specs.declared.layout.Layout.Layout}
 use Rattle.yq_edit_rules.proofs.CharacterLaws.{IsUtf8Text, break_sound, value_sound, sound_join}
 use Rattle.yq_edit_rules.proofs.BlockEndLaws.{break_ends, break_tail, line_ends}
-use Rattle.yq_edit_rules.proofs.FitLaws.{RowsAreFit, all_bound, anchors_fit, keys_fit, node_fit}
-use Rattle.yq_edit_rules.proofs.LaidRows.{AreLaid, laid_rows, no_gap_here}
+use Rattle.yq_edit_rules.{proofs.FitLaws.{RowsAreFit, all_bound, anchors_fit, keys_fit, node_fit}, proofs.LaidRows.{laid_rows, no_gap_here}}
 use Rattle.yq_edit_rules.{proofs.BlockLineLaws.{break_uncommented, unanchored, node_stands}, proofs.RowLaws.node_laid}
 use Rattle.yq_edit_rules.{proofs.ScalarLaws.heads, proofs.TextLaws.node_spelled}
 use Rattle.yq_core.specs.Tree as tree
@@ -46,9 +45,6 @@ all_read v text rs w s size h root =
 root_of : {n : ℕ} {ls : List Line} {v : tree.Node} → IsNodeOutline n ls v → IsRoot ls v
 root_of h1 = search rules
 
-laid_short : (column : ℕ) (rs : List Row) → AreLaid column rs [] → HasShortRoot rs
-laid_short column rs h1 = search rules
-
 -- a collection with items or entries
 block_all : (v : tree.Node) (l : Layout) → 1 ≤ l.mapping → IsFilled v → IsValueTree v → HasNearKeys v → IsAllOf v (block_node l 0 v ++ break_text l.br) (node_rows l 0 (break_text l.br) v)
 block_all v l step b h near =
@@ -60,7 +56,7 @@ block_all v l step b h near =
       root = root_of (node_stands v l 0 end step b h (break_uncommented l.br));
       fit = node_fit v l 0 end h;
       gap = search rules;
-      short = laid_short 0 _ laid;
+      short = search rules;
     }
 
 -- an empty collection
@@ -70,17 +66,7 @@ empty_row l node = record { gap = []; column = 0; dashes = []; mark = rows.Bare;
 empty_all : (v : tree.Node) (l : Layout) (node : inline.FlowNode) → IsHead v node → ((t : List ℕ) → is_marker (node_text node t) ≡ false) →
     is_plain_content node ≡ false → IsAllOf v (node_text node [] ++ break_text l.br) (empty_row l node ∷ [])
 empty_all v l node h unmarked plain = record {
-  laid = (
-    record {
-      gap = no_gap_here _;
-      allowed = refl;
-      unmarked = unmarked (break_text l.br ++ []);
-      dashes = tt;
-      mark = h.more;
-      content = (tt, h.stands _ (break_text l.br ++ []) (break_ends l.br 0 [] (end_line 0)), break_tail l.br []);
-    },
-    no_gap_here [],
-  );
+  laid = search (rules, no_gap_here, break_ends, end_line, break_tail, h.stands);
   spelled = node_then node (break_text l.br ++ []) ∙ ap (λ (t : List ℕ). node_text node [] ++ t) (append-nil (break_text l.br));
   root = (_, subst (IsNodeOutline _ (lines_of_rows (empty_row l node ∷ []))) (unanchored _ v h.unnamed) (alone refl refl h.same));
   fit = ((tt, h.keys, h.unnamed), tt);

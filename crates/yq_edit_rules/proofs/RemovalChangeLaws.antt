@@ -1,14 +1,14 @@
 -- An item or entry taken out of a text.
-use Rattle.std.proofs.Common.{◌≡◌, ℕ, ◌-◌, ◌<◌, ◌≤◌, true, List, [], ◌∷◌, ◌++◌, length, take, Option, Some, option_and_then, refl, sym, ap}
-use Rattle.std.{proofs.Common.{◌∙◌, subst, arith, length-append, rules}, proofs.Math.Seq.take-append_seam}
+use Rattle.std.proofs.Common.{◌≡◌, ℕ, ◌-◌, ◌<◌, ◌≤◌, true, List, [], ◌∷◌, ◌++◌, length, take, Some, option_and_then, refl, sym, ap, ◌∙◌}
+use Rattle.std.{proofs.Common.{subst, arith, length-append, rules}, proofs.Math.Seq.take-append_seam}
 use Rattle.std.{proofs.lemmas.Bool.{false≢true, ltb-true}, proofs.lemmas.Option.{none-some, same_Some}}
 use Rattle.std.proofs.lemmas.Str.{is_utf8-from_IsUtf8}
 use Rattle.yq_text.specs.Limit.{text_limit}
-use Rattle.yq_core.{specs.Paths.{Step, child_at, node_at, remove_child}, specs.Tree.{Node, Children, children_of}}
+use Rattle.yq_core.{specs.Paths.{Step, node_at, remove_child}, specs.Tree.{Node, Children, children_of}}
 use Rattle.yq_core.{proofs.Bools.{bind_some, guard_then}, specs.Anchors.names_of}
 use Rattle.yq_outline.{specs.Counts.count, specs.Group.{group, level_or}, specs.Laws.with_lines}
 use Rattle.yq_outline.specs.Outline.{Line, level, Outline, end, row, flatten, IsEven, children, value}
-use Rattle.yq_outline.specs.Places.{Context, here, below, beside, plug, lines_before, lines_after, FoundLine, find_row, find, content_under}
+use Rattle.yq_outline.specs.Places.{plug, lines_before, lines_after, FoundLine, find_row, find, content_under}
 use Rattle.yq_outline.{proofs.Finding.{IsFoundIn, children-collection, path_node, path_whole, row_child}, proofs.PlaceLaws.at}
 use Rattle.yq_outline.{proofs.ChildLaws.anchored_children, specs.Lines.lines_of_rows}
 use Rattle.yq_row_table.{specs.Grammar.no_rows, specs.Rows.{Row, rows_text, Part, part_text, Cut, cut_text}}
@@ -42,11 +42,7 @@ take_init ss s =
 
 node_behind : (ss : List Step) (s : Step) (n : Node) → node_at (ss ++ (s ∷ [])) n ≡ option_and_then (node_at (s ∷ [])) (node_at ss n)
 node_behind [] s n = refl
-node_behind (t ∷ ts) s n = go (child_at t (children_of n)) (λ m. node_behind ts s m)
-  where
-    go : (o : Option Node) → ((m : Node) → node_at (ts ++ (s ∷ [])) m ≡ option_and_then (node_at (s ∷ [])) (node_at ts m)) →
-        option_and_then (node_at (ts ++ (s ∷ []))) o ≡ option_and_then (node_at (s ∷ [])) (option_and_then (node_at ts) o)
-    go o h = search rules
+node_behind (t ∷ ts) s n = search (rules, node_behind ts s)
 
 -- ---- the collection at a path
 
@@ -105,11 +101,6 @@ group_begins ls h = search rules
 first_flatten : (o : Outline) (ls : List Line) → HasEntries o → FirstEntry (flatten o ++ ls)
 first_flatten o ls h = search rules
 
-place_first : (p : Context) (o : Outline) (ls : List Line) → HasEntries (plug p o) → (HasEntries o → FirstEntry ls) → FirstEntry (lines_before p ++ ls)
-place_first here o ls h own = own h
-place_first (below l p a) o ls h own = h
-place_first (beside l u p) o ls h own = h
-
 pub root_entries : (ss : List Step) (o : Outline) (h : NodeLines) → lines_at ss o ≡ Some h → HasEntries h.lines → HasEntries o
 root_entries [] o h e b = subst HasEntries (sym (ap (λ (x : NodeLines). x.lines) (same_Some _ _ e))) b
 root_entries (t ∷ ts) o h e b = let w = lines_found t ts o h e in found_entries t ts o w.found w.is
@@ -124,7 +115,7 @@ left_first (t ∷ ts) s o h f at left = found (lines_found t ts o h at.place_is)
         let g : FoundLine = w.found in
         let whole : plug g.place (row g.line g.under g.after) ≡ o = Rattle.yq_outline.proofs.PlaceLaws.at (IsFoundIn o) (find t ts o) (g, []) w.is (path_whole t ts o) in
         let ls : List Line = (g.line ∷ with_lines f []) ++ (flatten g.after ++ lines_after g.place) in
-        let first : FirstEntry (lines_before g.place ++ ls) = search (rules, place_first, found_entries) in
+        let first : FirstEntry (lines_before g.place ++ ls) = search (rules, found_entries) in
         subst (λ (x : NodeLines). FirstEntry (put_lines x (with_lines f []))) w.place_is (subst FirstEntry (sym (put_under g (with_lines f []))) first)
 
 pub keeps : (p q : Part) → FirstEntry (lines_of_rows q.rows) → KeepsRows p q

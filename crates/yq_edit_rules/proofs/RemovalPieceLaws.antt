@@ -1,11 +1,11 @@
 -- The text with rows taken out is joined of pieces of the old one.
-use Rattle.std.proofs.Common.{◌≡◌, ◌⊎◌, inl, inr, ℕ, zero, suc, ◌<◌, Bool, true, ◌&&◌, cond, List, [], ◌∷◌, ◌++◌, replicate, Option, Some}
-use Rattle.std.{proofs.Common.{None, refl, sym, ap, ◌∙◌, subst, append-nil, arith, rules}, proofs.lemmas.Bool.{cond_both, cases_Bool}}
+use Rattle.std.proofs.Common.{◌≡◌, ◌⊎◌, inl, inr, ℕ, zero, suc, ◌<◌, Bool, true, cond, List, [], ◌∷◌, ◌++◌, replicate, Option, Some, None}
+use Rattle.std.{proofs.Common.{refl, sym, ap, ◌∙◌, subst, append-nil, rules}, proofs.lemmas.Bool.{cond_both, cases_Bool}}
 use Rattle.std.{proofs.lemmas.Str.{IsUtf8-from_ascii, IsUtf8-nil, chars-IsAscii}, proofs.lemmas.Str.Ascii.{IsAscii-nil, IsAscii-cons}}
-use Rattle.std.{specs.List.list_all, specs.Str.{chars, IsAscii}}
+use Rattle.std.specs.Str.{chars, IsAscii}
 use Rattle.yq_core.{specs.Block.RawLines, specs.BlockRepair.{is_short, is_outdented_comment, repaired_blank, repaired_comment, repair}}
-use Rattle.yq_core.{specs.Characters.{is_text_char, pairs_returns}, specs.Lines.is_blank}
-use Rattle.yq_core.{specs.Text.{is_white, joined, text_lines, past_white}, proofs.Boundaries.white_ascii, proofs.SpaceLaws.white_drop}
+use Rattle.yq_core.{specs.Characters.pairs_returns, specs.Lines.is_blank, specs.Text.{is_white, joined, text_lines, past_white}}
+use Rattle.yq_core.{proofs.Boundaries.white_ascii, proofs.SpaceLaws.white_drop}
 use Rattle.yq_row_table.{specs.Gap.{IsGap, IsGapLine, AreGapLines}, specs.Grammar.AreParts, specs.Rows.{Row, rows_text, Cut, cut_text}}
 use Rattle.yq_row_table.{specs.Splices.{behind_first, first_gap}, proofs.seams.GapFronts.gap_lines}
 use Rattle.yq_places.{specs.PlacedRows.{PlacedPart, placed_document}, specs.RemovalPlaces.{Seam, kept_gap, rows_out}}
@@ -53,10 +53,7 @@ past_piece (b ∷ l) h = elim (cases_Bool (is_white b)) [
 
 space_piece : IsPiece (32 ∷ [])
 unfolding pairs_returns
-space_piece = record {
-  utf8 = IsUtf8-from_ascii (32 ∷ []) (byte_ascii 32 (omega arith));
-  characters = ap (λ cs. list_all is_text_char cs && pairs_returns (32 ∷ [])) (chars-IsAscii (32 ∷ []) (byte_ascii 32 (omega arith))) ∙ refl;
-}
+space_piece = search (rules, IsUtf8-from_ascii, byte_ascii, chars-IsAscii)
 
 pub spaces_piece : (n : ℕ) → IsPiece (replicate n 32)
 spaces_piece zero = nothing_piece

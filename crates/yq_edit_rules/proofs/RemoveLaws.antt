@@ -98,8 +98,6 @@ removed_cut t c k p front gone back old cut rows some next less text =
     let here : drop i p.rows ≡ gone ++ back = drop_front p front (gone ++ back) rows in
     let before : front ≡ take i p.rows = sym (take_front p front (gone ++ back) rows) in
     let behind : back ≡ drop j p.rows = sym (drop_gone p front gone back rows) in
-    let asked : allows_first (asked_behind unlimited (take i p.rows)) (drop j p.rows) ≡ true = search (rules, before, j, behind) in
-    let lower : StandsLess (last_block (take i p.rows)) (next_column (drop j p.rows)) = search rules in
     let fits : RepairFits n i j ks (last_run ls) c = search (rules, rows_behind_some, first_same, run_parts) in
     let same : without_rows n i j ks c ≡ put_document k (without front gone back p) c =
     ap (λ (x : Part). splice n i j [] (removed_gap i j ks x) c) is

@@ -4,7 +4,7 @@ use Rattle.std.{proofs.Common.{None, ap, subst}, proofs.Math.Bool.and-false, pro
 use Rattle.yq_core.{specs.declared.block_types.Break.Break, specs.BlockWritten.break_text, specs.Text.{is_marker, separates}}
 use Rattle.yq_core.{specs.Tree.Children, specs.Nodes.node_text, proofs.Alikes.sep_first}
 use Rattle.yq_flow_edits.specs.Valued.{IsLabel, IsValueTree, AreValueTrees}
-use Rattle.yq_row_table.specs.Grammar.{allows, limit_behind, Limit, is_entry, IsMark, IsContent, IsRow, unlimited}
+use Rattle.yq_row_table.specs.Grammar.{allows, Limit, is_entry, IsMark, IsContent, IsRow, unlimited}
 use Rattle.yq_row_table.specs.Rows.{Nothing, Inline, Row, rows_text, RowMark, Dash, Key, Content, content_text, mark_text, parent_of}
 use Rattle.yq_edit_rules.specs.BlockRows.{block_key, children_rows, column_below, end_of_line_before, entry_rows, inline_of, key_row}
 use Rattle.yq_edit_rules.specs.BlockRows.{node_rows, indent_step}
@@ -35,14 +35,10 @@ dash_front column node end rest = record { entry = refl; unmarked = sep_first 45
 front_is : (limit : Limit) (column : ℕ) (m : RowMark) (content : Content) (rest : List ℕ) → allows limit column ≡ true → IsFront column m content rest → IsContent (pos column) content rest → IsRow limit (front_row column m content) rest
 front_is limit column m content rest allowed f c = search (rules, no_gap_here, and-false)
 
--- a key or dash, and an inline node
-row_follows : (column c : ℕ) (node : inline.FlowNode) (end : List ℕ) → c ≤ column → allows (limit_behind (pos column) (Inline (32 ∷ []) node end)) c ≡ true
-row_follows column c node end within = search (rules, arith, lt-ltb)
-
 inline_laid : (column : ℕ) (m : RowMark) (end : List ℕ) (n : tree.Node) (node : inline.FlowNode) (rest : List ℕ) →
     IsFront column m (Inline (32 ∷ []) node end) rest → IsHead n node → IsEnd column end rest →
     AreLaid column (front_row column m (Inline (32 ∷ []) node end) ∷ []) rest
-inline_laid column m end n node rest f h e = search (rules, front_is, pos, no_gap_here, row_follows)
+inline_laid column m end n node rest f h e = search (rules, front_is, pos, no_gap_here, arith, lt-ltb)
 
 above_laid : (column below : ℕ) (br : Break) (k : List ℕ) (rs : List Row) (rest : List ℕ) → IsUtf8 k → IsNear (Some k) → column ≤ below → AreLaid below rs rest → AreLaid column (key_row column k (Nothing (break_text br)) ∷ rs) rest
 above_laid column below br k [] rest u near deep h = absurd h

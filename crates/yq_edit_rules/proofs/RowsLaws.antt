@@ -22,10 +22,4 @@ entry_rows p n steps s h f x even at is first =
     let parts = same_parts (lines_of_rows w.front) [] (lines_of_rows (x.row ∷ w.back)) b [] (e ++ lines_behind h f) whole size refl in
     let apart = apart_later b e (lines_behind h f) (λ none. cc) (entries_apart n (part_outline p) steps s h f even at).end in
     let cut = row_begins (x.row ∷ w.back) e (lines_behind h f) parts.2 apart in
-    record {
-      front = w.front;
-      gone = cut.front;
-      back = cut.back;
-      number = w.before;
-      has = search (rules, length-append);
-    }
+    search (rules, length-append)

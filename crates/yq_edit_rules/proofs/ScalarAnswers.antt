@@ -11,12 +11,8 @@ no_text o e = search rules
 pub has_text_agrees : (o : Option Node) (s : ScalarText) (b : Bool) → Some s ≡ option_and_then scalar_in o → b ≡ holds_text (Some s) → b ≡ has_text o
 has_text_agrees o s b e holds = search rules
 
--- whether a value is equal to it
-other_scalar : (o : Option ScalarText) → false ≡ are_same o None
-other_scalar o = search rules
-
 pub no_scalar : (o : Option Node) (v : Node) → is_some (scalar_in v) ≡ false → false ≡ keeps_scalar o v
-no_scalar o v h2 = search (rules, other_scalar, false≢true)
+no_scalar o v h2 = search (rules, false≢true)
 
 pub not_kept : (o : Option Node) (v : Node) → None ≡ option_and_then scalar_in o → false ≡ keeps_scalar o v
 not_kept o v e = search rules

@@ -8,7 +8,7 @@ use Rattle.yq_outline.specs.Outline.{LineMark, Dash, Line, level, Outline, end, 
 use Rattle.yq_outline.specs.Places.{Context, here, below, beside, lines_before, compose, FoundLine, next_to, find_row, place_inside}
 use Rattle.yq_outline.{specs.Places.{bare_or, in_head, find}, specs.Lines.{head_of, line_mark, lines_from, row_lines, lines_of_rows}}
 use Rattle.yq_row_table.specs.Rows.{Row, Content, Part}
-use Rattle.yq_documents.{specs.Ready.begins_no_node, specs.LinesInRows.{RowLine, behind_one, row_line, row_line_has_room}}
+use Rattle.yq_documents.{specs.Ready.begins_no_node, specs.LinesInRows.{RowLine, row_line, row_line_has_room}}
 use Rattle.yq_edit_rules.specs.Rooms.{RowShape, row_shape, EqualRoom, ShapesAgree}
 use Rattle.yq_row_table.specs.Rows as rows
 use Rattle.yq_documents.specs.declared.path.Part as places
@@ -175,10 +175,7 @@ numbers_of (Some s) = Some (s.line, length s.row.dashes)
 
 row_line_numbers : (n : ℕ) (rs : List Row) → numbers_of (row_line n rs) ≡ shape_row_line n (map row_shape rs)
 row_line_numbers n [] = refl
-row_line_numbers n (r ∷ rs) = go (nat_lt (length r.dashes) n) (row_line (n - suc (length r.dashes)) rs) (row_line_numbers (n - suc (length r.dashes)) rs)
-  where
-    go : (b : Bool) (o : Option RowLine) {x : Option (ℕ × ℕ)} → numbers_of o ≡ x → numbers_of (cond b (option_map behind_one o) (Some (record { before = 0; row = r; line = n }))) ≡ cond b x (Some (n, length r.dashes))
-    go b o e = search rules
+row_line_numbers n (r ∷ rs) = search (rules, row_line_numbers (n - suc (length r.dashes)) rs)
 
 room_numbers : (part : places.Part) (o : Option RowLine) → row_line_has_room part o ≡ have_room part (numbers_of o)
 room_numbers part o = search rules

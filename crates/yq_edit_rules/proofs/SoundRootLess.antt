@@ -1,5 +1,5 @@
 -- What one less, or another label, leaves of what is asked of a document's root.
-use Rattle.std.proofs.Common.{◌≡◌, ℕ, suc, ◌≤◌, max, List, [], ◌++◌, Option, Some, None, Bool, true, false, cond, refl, sym, ap, ◌∙◌, rules}
+use Rattle.std.proofs.Common.{◌≡◌, ℕ, suc, ◌≤◌, List, [], ◌++◌, Option, Some, None, Bool, true, false, cond, refl, sym, ap, ◌∙◌, rules}
 use Rattle.std.proofs.Common.{subst, arith, append_assoc, not, bytes_eq}
 use Rattle.std.{proofs.lemmas.Bool.{and_parts, and_from, or_parts, or_from, not-true}, proofs.lemmas.Option.{none-some, same_Some}}
 use Rattle.std.specs.List.{list_any}
@@ -29,10 +29,7 @@ distinct_less s (child l n cs) e = go (is_here s l) l.key e (distinct_less (furt
 
 each_less : (s : Step) (cs : Children) → EachHasUniqueKeys cs → EachHasUniqueKeys (remove_child s cs)
 each_less s none h = h
-each_less s (child l n cs) h = go (is_here s l) (each_less (further s) cs h.1)
-  where
-    go : (b : Bool) → EachHasUniqueKeys (remove_child (further s) cs) → EachHasUniqueKeys (cond b cs (child l n (remove_child (further s) cs)))
-    go b ih = search rules
+each_less s (child l n cs) h = search (rules, each_less (further s) cs h.1)
 
 deepest_less : (s : Step) (cs : Children) → deepest (remove_child s cs) ≤ deepest cs
 deepest_less s none = omega arith
@@ -103,16 +100,7 @@ remove_keeps steps root old x s h there is spared =
 labels_stay : (s : Step) (g : Label → Label) (cs : Children) → ((l : Label) → (g l).key ≡ l.key) →
     (keys_of (relabel_child s g cs) ≡ keys_of cs) × (names_in (relabel_child s g cs) ≡ names_in cs) × (deepest (relabel_child s g cs) ≡ deepest cs) × (EachHasUniqueKeys cs → EachHasUniqueKeys (relabel_child s g cs))
 labels_stay s g none key = (refl, refl, refl, λ h. h)
-labels_stay s g (child l n cs) key = go (is_here s l) (labels_stay (further s) g cs key)
-  where
-    go : (b : Bool) →
-        (keys_of (relabel_child (further s) g cs) ≡ keys_of cs) × (names_in (relabel_child (further s) g cs) ≡ names_in cs) × (deepest (relabel_child (further s) g cs) ≡ deepest cs) ×
-        (EachHasUniqueKeys cs → EachHasUniqueKeys (relabel_child (further s) g cs)) →
-        (keys_of (cond b (child (g l) n cs) (child l n (relabel_child (further s) g cs))) ≡ with_first l.key (keys_of cs)) ×
-        (names_in (cond b (child (g l) n cs) (child l n (relabel_child (further s) g cs))) ≡ names_of n ++ names_in cs) ×
-        (deepest (cond b (child (g l) n cs) (child l n (relabel_child (further s) g cs))) ≡ max (depth n) (deepest cs)) ×
-        (HasUniqueKeys n × EachHasUniqueKeys cs → EachHasUniqueKeys (cond b (child (g l) n cs) (child l n (relabel_child (further s) g cs))))
-    go b ih = search rules
+labels_stay s g (child l n cs) key = search (rules, labels_stay (further s) g cs key)
 
 relabel_node : (s : Step) (g : Label → Label) (n : Node) → ((l : Label) → (g l).key ≡ l.key) →
     (names_of (within (relabel_child s g) n) ≡ names_of n) × (depth (within (relabel_child s g) n) ≡ depth n) × (HasUniqueKeys n → HasUniqueKeys (within (relabel_child s g) n))

@@ -3,15 +3,12 @@ use Rattle.std.proofs.Common.{rules, ◌≡◌, ℕ, ◌+◌, ◌-◌, ◌≤◌
 use Rattle.std.{proofs.Common.{cond, refl, sym, subst, arith}, proofs.lemmas.Option.{none-some, same_Some}}
 use Rattle.yq_core.specs.Keys.{keys_of, HasUniqueKeys, EachHasUniqueKeys, depth, deepest}
 use Rattle.yq_core.specs.Paths.{Step, is_here, further, child_at, node_at, change_child, within, changed_at}
-use Rattle.yq_core.{specs.Tree.{Node, alias, scalar, list, map, Children, none, child, children_of}, specs.Text.with_first}
+use Rattle.yq_core.specs.Tree.{Node, alias, scalar, list, map, Children, none, child, children_of}
 use Rattle.yq_edit_rules.specs.Conditions.{UniqueChanged, DepthChanged}
 
 keys_stay : (s : Step) (f : Node → Node) (cs : Children) → keys_of (change_child s f cs) ≡ keys_of cs
 keys_stay s f none = refl
-keys_stay s f (child l n cs) = go (is_here s l) (keys_stay (further s) f cs)
-  where
-    go : (b : Bool) → keys_of (change_child (further s) f cs) ≡ keys_of cs → keys_of (cond b (child l (f n) cs) (child l n (change_child (further s) f cs))) ≡ with_first l.key (keys_of cs)
-    go b ih = search rules
+keys_stay s f (child l n cs) = search (rules, keys_stay (further s) f cs)
 
 -- a property of each item or entry, where one is changed
 each_unique : (s : Step) (f : Node → Node) (cs : Children) (k : Node) → child_at s cs ≡ Some k → (HasUniqueKeys k → HasUniqueKeys (f k)) → EachHasUniqueKeys cs →

@@ -48,16 +48,7 @@ ends_text c k p steps x e h broken =
     let ends : Ends (is_broken e.last.content) (end_break e.last.content) (rows_text e.back (p.end ++ rest)) = content_ends (parent_indent e.last) e.last.content (rows_text e.back (p.end ++ rest)) row.1.content in
     let none : rows_text e.back (p.end ++ rest) ≡ [] = ends_none (end_break e.last.content) (rows_text e.back (p.end ++ rest)) (subst (λ b. Ends b (end_break e.last.content) (rows_text e.back (p.end ++ rest))) bare ends) in
     let parts = none_behind (asked_behind unlimited e.front) e.back p.end rest (rows_behind e.front e.back unlimited p.end rest h.rows) none in
-    let tail : (is_block e.last.content ≡ false) × (is_line (tail_behind e.last.content) ≡ false) = search (rules, false≢true) in
-    record {
-      rows_are = e.rows_are ∙ ((λ i. e.front_is i ++ parts.0 i) ∙ append-nil (e.others ++ (e.last ∷ [])));
-      end_is = parts.1;
-      rest_is = parts.2;
-      inline = tail.0;
-      bare = tail.1;
-      allowed = ap (λ (y : Limit). allows y x.column) (sym (ap (asked_behind unlimited) e.front_is ∙ last_limit unlimited e.others e.last)) ∙ h.allowed;
-      behind_is = e.behind_is ∙ none;
-    }
+    search (rules, false≢true, append-nil, last_limit, e.front_is)
 
 -- ---- the text
 

@@ -1,5 +1,5 @@
 -- The content of a row with the inline node of a value in the place of its own.
-use Rattle.std.proofs.Common.{◌≡◌, inl, inr, ℕ, ℤ, ◌&&◌, ◌||◌, not, List, [], ◌∷◌, ◌++◌, Option, Some, true, false, refl, ap, ◌∙◌, rules}
+use Rattle.std.proofs.Common.{◌≡◌, inl, inr, ℕ, ℤ, ◌&&◌, not, List, [], ◌∷◌, ◌++◌, Option, Some, true, false, refl, ap, rules}
 use Rattle.std.{proofs.lemmas.Bool.{false≢true, and_parts, and_from, eqb-true}, proofs.lemmas.List.Folds.list_any-append}
 use Rattle.std.specs.List.{list_any}
 use Rattle.yq_core.{specs.Piece.deeper, specs.Plain.{ends_plain, holds_break}}
@@ -17,10 +17,6 @@ use Rattle.yq_row_table.specs.Rows as rows
 
 pub more_some : (node : inline.FlowNode) → is_more node ≡ true → is_empty_node node ≡ false
 more_some node h1 = search (rules, false≢true)
-
--- no break in a name, nor in white space
-feed_join : (a b : List ℕ) → list_any is_feed a ≡ false → list_any is_feed b ≡ false → list_any is_feed (a ++ b) ≡ false
-feed_join a b h k = list_any-append is_feed a b ∙ (λ i. h i || k i)
 
 name_byte : (b : ℕ) → not (in_name b) ≡ false → is_feed b ≡ false
 name_byte b h = search (rules, false≢true)
@@ -77,7 +73,7 @@ module _ (v : Node) (node : inline.FlowNode) (is : IsValueNode v node) where
   plain_short = search rules
 
   behind_anchor : (n g : List ℕ) → list_any is_feed n ≡ false → list_any is_feed g ≡ false → (is_plain_content node && holds_break (38 ∷ (n ++ (g ++ node_text node [])))) ≡ false
-  behind_anchor n g a b = search (rules, feed_join)
+  behind_anchor n g a b = search (rules, list_any-append)
 
   core_short : (old : inline.FlowNode) (spaces : Option ℕ) (d : ℕ) (rest : List ℕ) → IsFlowNode false spaces d old rest → (is_plain_content (recore node old) && holds_break (node_text (recore node old) [])) ≡ false
   unfolding IsFlowNode node_text

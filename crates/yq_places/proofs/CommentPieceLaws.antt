@@ -8,7 +8,6 @@ use Rattle.std.{proofs.lemmas.Str.{IsUtf8-take, IsUtf8-between}, specs.List.slic
 use Rattle.yq_core.specs.Text.{cut, front, ends_line, is_break, is_line, is_empty, joined, text_lines, no_white, past_white, upto}
 use Rattle.yq_core.{proofs.BlockPieceLaws.{IsLf, line_lf, append_lf, cut_lf}, proofs.Boundaries.{white_ascii, break_ascii}}
 use Rattle.yq_core.{proofs.LineLaws.joined_lines, proofs.Upto.upto_ends}
-use Rattle.yq_outline.specs.Comments.{are_comments}
 use Rattle.yq_row_table.{specs.Exchange.{before_content, text_after_row, behind_row, HasPieces}, specs.Gap.{IsLineEnd, IsGap, AreGapLines}}
 use Rattle.yq_row_table.specs.Grammar.{IsTail, IsContent}
 use Rattle.yq_row_table.specs.Rows.{Content, Nothing, Inline, Block, Row, print_row, rows_text, Part, part_text, Cut, last, marked}
@@ -92,9 +91,6 @@ line_rest c more ended = go (cut ends_line c).1 refl (upto_ends ends_line c refl
 tail_text : (tail : List ℕ) → tail ≡ (cut no_white tail).0 ++ past_white tail
 tail_text tail = sym (take-append-drop (upto no_white tail) tail)
 
-line_text : (c : List ℕ) → c ≡ (cut ends_line c).0 ++ (cut ends_line c).1
-line_text c = sym (take-append-drop (upto ends_line c) c)
-
 -- a comment in a tail, as a piece of the text
 comment_piece : (before white c more : List ℕ) → IsUtf8 (before ++ ((white ++ c) ++ more)) → BeginsAscii (c ++ more) → Ended c more →
     HoldsPiece (before ++ ((white ++ c) ++ more))
@@ -102,7 +98,7 @@ comment_piece : (before white c more : List ℕ) → IsUtf8 (before ++ ((white +
 comment_piece before white c more u begins ended =
     let text : List ℕ = (cut ends_line c).0 in
     let behind : List ℕ = (cut ends_line c).1 ++ more in
-    let inner : c ++ more ≡ text ++ behind = ap (λ x. x ++ more) (line_text c) ∙ append_assoc text (cut ends_line c).1 more in
+    let inner : c ++ more ≡ text ++ behind = ap (λ x. x ++ more) (sym (take-append-drop (upto ends_line c) c)) ∙ append_assoc text (cut ends_line c).1 more in
     let whole : before ++ ((white ++ c) ++ more) ≡ (before ++ white) ++ (text ++ behind) = search (rules, append_assoc, text, behind, inner) in
     subst (λ q. HasPieces q (before ++ white) text behind) (sym whole)
     (pieces_at (before ++ white) text behind (subst IsUtf8 whole u)
@@ -138,8 +134,7 @@ tail_piece before tail more q u ended is = go (past_white tail) refl is
         cond (front (λ b. eqb b 35) c)
         (Some (record { before = before ++ (cut no_white tail).0; text = (cut ends_line c).0; behind = (cut ends_line c).1 ++ more })) None ≡ Some
         q → HoldsPiece (before ++ (tail ++ more)) q
-    go [] e found = absurd (cc)
-    go (b ∷ bs) e found = test (eqb b 35) b bs e refl found
+    go c e found = search (rules, test)
 
 -- the end of a row's tail
 pub content_end : (n : ℤ) (x : Content) (rest : List ℕ) → IsContent n x rest → Ended (content_cut x).4 ((content_cut x).5 ++ rest)
@@ -165,12 +160,7 @@ comment_begins l rest h1 = search (rules, false≢true, white_ascii, eqb-true)
 
 pub run_begins : (ls : List (List ℕ)) (rest : List ℕ) → 0 < length (joined (last_run ls)) → BeginsAscii (joined (last_run ls) ++ rest)
 run_begins [] rest some = absurd (omega (arith, some))
-run_begins (l ∷ ls) rest some = go (are_comments (l ∷ ls)) refl some (λ k. run_begins ls rest k)
-  where
-    go : (b : Bool) → are_comments (l ∷ ls) ≡ b → 0 < length (joined (cond b (l ∷ ls) (last_run ls))) →
-        (0 < length (joined (last_run ls)) → BeginsAscii (joined (last_run ls) ++ rest)) →
-        BeginsAscii (joined (cond b (l ∷ ls) (last_run ls)) ++ rest)
-    go b h1 h2 h3 = search (rules, append_assoc, comment_begins, and_parts)
+run_begins (l ∷ ls) rest some = search (rules, append_assoc, comment_begins, and_parts, run_begins ls rest)
 
 some_bytes : (t : List ℕ) → is_empty t ≡ false → 0 < length t
 some_bytes t h1 = search (rules, false≢true)

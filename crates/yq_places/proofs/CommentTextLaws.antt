@@ -1,10 +1,9 @@
 -- The texts of comments, by where they are.
-use Rattle.std.proofs.Common.{◌≡◌, ℕ, ◌<◌, eqb, List, [], ◌∷◌, ◌++◌, length, drop, Some, None, option_map, Bool, true, false, cond, refl}
-use Rattle.std.{proofs.Common.{sym, ap, ◌∙◌, arith, rules}, proofs.lemmas.Bool.{eqb-true, cond-true, cond-false}}
+use Rattle.std.proofs.Common.{◌≡◌, ℕ, ◌<◌, List, [], ◌∷◌, ◌++◌, length, drop, Some, None, option_map, Bool, true, false, cond, refl, sym}
+use Rattle.std.{proofs.Common.{ap, ◌∙◌, arith, rules}, proofs.lemmas.Bool.{eqb-true, cond-true, cond-false}}
 use mathlib.Core.List.{tail-eq_of_cons-eq}
-use Rattle.yq_core.specs.Text.{cut, front, ends_line, no_white, past_white, upto, is_empty, joined, text_lines, line_len}
-use Rattle.yq_core.proofs.LineLaws.{joined_lines, line_step}
-use Rattle.yq_outline.specs.Comments.{less_space, comment_text, are_comments, head_comment}
+use Rattle.yq_core.{specs.Text.{cut, ends_line, upto, is_empty, joined, text_lines, line_len}, proofs.LineLaws.{joined_lines, line_step}}
+use Rattle.yq_outline.specs.Comments.{comment_text, are_comments, head_comment}
 use Rattle.yq_documents.{specs.Pieces.{last_run, before_run, tail_comment, gap_comment}, specs.Texts.texts, proofs.RunLaws.run_texts}
 use Rattle.yq_places.specs.CommentLaws.{comment_of, comments_of}
 
@@ -14,25 +13,7 @@ unfolding upto
 cut_mark bs = refl
 
 pub tail_view : (before tail behind : List ℕ) → option_map comment_of (tail_comment before tail behind) ≡ comment_text tail
-tail_view before tail behind = go (past_white tail)
-  where
-    marked : (b : ℕ) (bs : List ℕ) → b ≡ 35 → less_space (drop 1 (cut ends_line (b ∷ bs)).0) ≡ less_space (cut ends_line bs).0
-    marked b bs e = ap less_space (ap (λ (k : ℕ). drop 1 (cut ends_line (k ∷ bs)).0) e ∙ cut_mark bs)
-
-    test : (c : Bool) (b : ℕ) (bs : List ℕ) → eqb b 35 ≡ c →
-        option_map comment_of
-        (cond c (Some (record
-        { before = before ++ (cut no_white tail).0; text = (cut ends_line (b ∷ bs)).0; behind = (cut ends_line (b ∷ bs)).1 ++ behind }))
-        None) ≡ cond c (Some (less_space (cut ends_line bs).0)) None
-    test true b bs e = ap Some (marked b bs (eqb-true b 35 e))
-    test false b bs e = refl
-
-    go : (c : List ℕ) → option_map comment_of
-        (cond (front (λ b. eqb b 35) c)
-        (Some (record { before = before ++ (cut no_white tail).0; text = (cut ends_line c).0; behind = (cut ends_line c).1 ++ behind })) None) ≡ cond
-        (front (λ b. eqb b 35) c) (Some (less_space (cut ends_line (drop 1 c)).0)) None
-    go [] = refl
-    go (b ∷ bs) = test (eqb b 35) b bs refl
+tail_view before tail behind = search (rules, cut_mark, eqb-true)
 
 -- the run in a gap is the lines of a text
 abbrev RunIs : List (List ℕ) → Type 0

@@ -1,6 +1,6 @@
 -- A text cut in three, and what is taken out of it with the first item or entry of a compact collection.
-use Rattle.std.proofs.Common.{◌≡◌, ℕ, ◌+◌, ◌-◌, ◌≤◌, true, false, List, ◌++◌, length, length-append, take, drop, sym, ap, ◌∙◌, subst, arith}
-use Rattle.std.{proofs.Common.append_assoc, proofs.Math.Seq.{drop-append_seam, take-append_seam}, proofs.lemmas.List.take-append-drop}
+use Rattle.std.proofs.Common.{rules, ◌≡◌, ℕ, ◌+◌, ◌-◌, true, false, List, ◌++◌, length, length-append, take, drop, sym, ap, ◌∙◌, subst}
+use Rattle.std.{proofs.Common.{arith, append_assoc}, proofs.Math.Seq.drop-append_seam, proofs.lemmas.List.take-append-drop}
 use Rattle.std.{proofs.lemmas.Bool.{cond-false, cond-true}, proofs.lemmas.Str.{IsCharBoundary-at_seam, IsUtf8-append}}
 use Rattle.std.specs.Str.{IsCharBoundary, IsUtf8}
 use Rattle.yq_core.specs.Text.{cut, cut_line, line_len, no_space, upto}
@@ -21,24 +21,11 @@ module _ (t before behind : List ℕ) (h : LiesBetween t before behind) (u : IsU
   rest : drop (length before) t ≡ h.own ++ behind
   rest = ap (drop (length before)) h.text ∙ drop-append_seam before (h.own ++ behind)
 
-  pub between_fits : length behind ≤ length t
-  between_fits = omega (arith, long)
-
-  pub between_ordered : length before ≤ end
-  between_ordered = omega (arith, long)
-
   pub between_starts : IsCharBoundary t (length before)
   between_starts = IsCharBoundary-at_seam t before (h.own ++ behind) h.text (IsUtf8-append h.own behind h.utf8 u)
 
   pub between_ends : IsCharBoundary (drop (length before) t) (end - length before)
   between_ends = subst (IsCharBoundary (drop (length before) t)) (sym size) (IsCharBoundary-at_seam (drop (length before) t) h.own behind rest u)
-
-  pub between_is : piece_at (length before) end t ≡ piece_between before h.own behind
-  between_is =
-      let first : take (length before) t ≡ before = ap (take (length before)) h.text ∙ take-append_seam before (h.own ++ behind) in
-      let own : take (end - length before) (drop (length before) t) ≡ h.own = (λ i. take (size i) (rest i)) ∙ take-append_seam h.own behind in
-      let last : drop (end - length before) (drop (length before) t) ≡ behind = (λ i. drop (size i) (rest i)) ∙ drop-append_seam h.own behind in
-      λ i. piece_between (first i) (own i) (last i)
 
 -- An item or entry of a text, with the line after it.
 module _ (t : List ℕ) (start end : ℕ) (before own behind : List ℕ) (a : before ≡ take start t) (b : own ≡ take (end - start) (drop start t))
@@ -64,9 +51,7 @@ module _ (t : List ℕ) (start end : ℕ) (before own behind : List ℕ) (a : be
 
     pub gap_out : begins_gap next ≡ true → piece_between less gap_lies.own behind ≡ first_out (piece_at start end t)
     unfolding gap_lies
-    gap_out is =
-        ap (λ x. piece_between x (end_spaces before ++ own) behind) f
-        ∙ (sym (cond-true (begins_gap (cut_line behind).1) _ _ (ap begins_gap (sym next_is) ∙ is)) ∙ ap first_out (sym piece_is))
+    gap_out is = search (rules, cond-true, next_is, piece_is)
 
   -- where the next one is
   module _ (indent rest : List ℕ) (f : (indent, rest) ≡ cut no_space next) (v : IsUtf8 line) (w : IsUtf8 indent) where
@@ -80,7 +65,4 @@ module _ (t : List ℕ) (start end : ℕ) (before own behind : List ℕ) (a : be
 
     pub next_out : begins_gap next ≡ false → piece_between before next_lies.own rest ≡ first_out (piece_at start end t)
     unfolding next_lies
-    next_out is =
-        let after : (indent, rest) ≡ cut no_space (cut_line behind).1 = f ∙ ap (cut no_space) next_is in
-        (λ i. piece_between before (own ++ ((e i).0 ++ (after i).0)) (after i).1)
-        ∙ (sym (cond-false (begins_gap (cut_line behind).1) _ _ (ap begins_gap (sym next_is) ∙ is)) ∙ ap first_out (sym piece_is))
+    next_out is = search (rules, rest, next_is, cond-false, piece_is)

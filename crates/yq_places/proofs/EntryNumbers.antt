@@ -29,7 +29,6 @@ entry_row_agrees s d h q at steps level dashes end level_is dashes_are end_is li
     let l = located s d h q at in
     let i : ℕ = q.row - d.first in
     let x : RowLine = record { before = i; row = l.row; line = q.line } in
-    let row : q.row ≡ d.first + i = omega (arith, at.from) in
     let next : (q.row + 1) - d.first ≡ suc i = omega (arith, at.from) in
     let rest : take (d.end - (q.row + 1)) (drop (q.row + 1) s.rows) ≡ map slices (drop (suc i) h.rows) =
     rows_behind s d h (q.row + 1) (omega (arith, at.from)) (omega (arith, at.upto)) ∙ ap (λ (k : ℕ). map slices (drop k h.rows)) next in
@@ -63,13 +62,11 @@ entry_found t s n steps m cut is e =
     let count : ℕ = under_count q (drop (suc q.before) rs) in
     let same : numbers_of_entry k rs q ≡ as_numbers m = ap (λ (y : Part). numbers_of_entry k y.rows q) d.2 ∙ x.2 in
     let row : slice_get rs q.before ≡ Some q.row = steps_row (line_at_steps steps (lines_of_rows rs)) rs q line_in_row in
-    let line = bind_some (line_at_steps steps (lines_of_rows rs)) line_in_row in
     let within = slice_get_within rs q.before q.row row in
     let next : q.before + 1 ≡ suc q.before = omega arith in
     let back : List Row = drop (suc q.before) rs in
     let fits : count ≤ length back = omega (arith, fewer (line_level q.line (slices q.row)) (map slices back), length-map back slices) in
     let front : length (take q.before rs) ≡ q.before = length-take-le q.before rs (omega (arith, within)) in
-    let under : length (take count back) ≡ count = length-take-le count back fits in
     let rest : drop q.before rs ≡ q.row ∷ back = drop_at rs q.before q.row row ∙ ap (λ (j : ℕ). q.row ∷ drop j rs) next in
     let row_is : k + q.before ≡ m.row = ap (λ (y : StandingCounts). y.0) same in
     let end_is : k + q.before + 1 + count ≡ m.end = ap (λ (y : StandingCounts). y.3) same in

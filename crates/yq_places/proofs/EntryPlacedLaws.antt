@@ -12,25 +12,13 @@ use Rattle.yq_places.specs.EntryReading.{lines_place, line_entry, line_head, lin
 use Rattle.yq_places.specs.EntryReading.{content_from, entry_of, node_place_of, entry_at, content_row_place}
 use Rattle.yq_places.{proofs.EntryPlaceLaws.row_there, proofs.FinishLaws.{row_boundary, lines_order}}
 use Rattle.yq_places.{proofs.FlowSpanLaws.{AreSpans, flow_spans}, proofs.HeadSpanLaws.head_span, proofs.SeamLaws.line_boundary}
-use Rattle.yq_outline.{specs.Lines.{row_lines, lines_of_rows}, specs.Ends.{reached, lines_end}, specs.Positions.has_no_mark}
-use Rattle.yq_outline.{proofs.LineEnds.end_within, proofs.RowLaws.lines_count}
-use Rattle.yq_outline.specs.Comments as comments
+use Rattle.yq_outline.{specs.Lines.lines_of_rows, specs.Ends.{reached, lines_end}, specs.Positions.has_no_mark, proofs.LineEnds.end_within}
+use Rattle.yq_outline.proofs.RowLaws.{lines_count}
 
 -- a line that has a row line is there, and lines have theirs in order
 row_line_within : (rs : List Row) (n : ℕ) (s : RowLine) → row_line n rs ≡ Some s → n < length (lines_of_rows rs)
 row_line_within [] n s e = absurd (none-some _ e)
-row_line_within (r ∷ rs) n s e = go (ltb (length r.dashes) n) refl (row_line (n - suc (length r.dashes)) rs) (λ q at. row_line_within rs (n - suc (length r.dashes)) q at) refl e
-  where
-    count : length (row_lines r) ≡ suc (length r.dashes)
-    count = lines_count (comments.head_comment r.gap) r.column r.dashes r.mark r.content
-
-    go : (b : Bool) → ltb (length r.dashes) n ≡ b → (o : Option RowLine) →
-        ((q : RowLine) → row_line (n - suc (length r.dashes)) rs ≡ Some q → n - suc (length r.dashes) < length (lines_of_rows rs)) →
-        row_line (n - suc (length r.dashes)) rs ≡ o →
-        cond b (option_map behind_one o) (Some (record { before = 0; row = r; line = n })) ≡ Some s → n < length (row_lines r ++ lines_of_rows rs)
-    go true t None again at e = absurd (none-some _ e)
-    go true t (Some q) again at e = omega (arith, again q at, ltb-true (length r.dashes) n t, count, length-append (row_lines r) (lines_of_rows rs))
-    go false t o again at e = omega (arith, ltb-false (length r.dashes) n t, count, length-append (row_lines r) (lines_of_rows rs))
+row_line_within (r ∷ rs) n s e = search (rules, lines_count, none-some, ltb-true, length-append, ltb-false, row_line_within rs (n - suc (length r.dashes)))
 
 row_lines_order : (rs : List Row) (from to : ℕ) (s q : RowLine) → from ≤ to → row_line from rs ≡ Some s → row_line to rs ≡ Some q → s.before ≤ q.before
 row_lines_order [] from to s q h e f = absurd (none-some _ e)
@@ -68,8 +56,7 @@ module _ (c : Cut) (rs more : List Row) (k : ℕ) (u : IsUtf8 (cut_text c)) (cut
       of false more e = lines_span from (to - 1) x (omega (arith, more)) e
 
       go : (b : Bool) → eqb from to ≡ b → cond b None (slice_get (lines_of_rows rs) from >>= λ l. cond (has_no_mark l.mark) (line_head k c rs from) (lines_place k c rs from (to - 1))) ≡ Some x → Spans x
-      go true t e = absurd (none-some _ e)
-      go false t e = let l = bind_some (slice_get (lines_of_rows rs) from) e in of (has_no_mark l.0.mark) (omega (arith, less, eqb-false from to t)) l.2
+      go b t e = search (rules, none-some, bind_some, of, eqb-false)
 
   line_spans : (n : ℕ) (x : ℕ × ℕ) → line_content k c rs n ≡ Some x → Spans x
   line_spans n x e = let l = bind_some (slice_get (lines_of_rows rs) n) e in go (is_some l.0.head) (end_within (lines_of_rows rs) n (slice_get_within (lines_of_rows rs) n l.0 l.1)).0 l.2

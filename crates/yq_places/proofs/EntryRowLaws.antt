@@ -1,10 +1,10 @@
 -- Rows that are in a text, with those in front of them and after: where they begin and end there.
-use Rattle.std.proofs.Common.{◌≡◌, inr, ℕ, suc, ◌+◌, ◌-◌, ◌<◌, ◌≤◌, List, [], ◌∷◌, ◌++◌, length, length-append, take, drop, Some}
+use Rattle.std.proofs.Common.{rules, ◌≡◌, inr, ℕ, suc, ◌+◌, ◌-◌, ◌<◌, ◌≤◌, List, [], ◌∷◌, ◌++◌, length, length-append, take, drop, Some}
 use Rattle.std.{proofs.Common.{option_map, true, refl, sym, ap, ◌∙◌, subst, arith, append_assoc}, proofs.Math.Seq.take-append_seam}
 use Rattle.std.{proofs.lemmas.Option.{slice_get-map, slice_get_within}, specs.List.slice_get, specs.Str.{IsUtf8, IsCharBoundary}}
 use Rattle.yq_text.specs.Limit.{text_limit}
-use Rattle.yq_row_table.{specs.Exchange.{before_content, behind_row, row_front, rows_behind}, specs.Grammar.{AreRows, unlimited}}
-use Rattle.yq_row_table.{specs.Offsets.row_length, specs.Rows.{Row, parent_indent, print_row, rows_text, part_text, Cut}}
+use Rattle.yq_row_table.{specs.Exchange.{before_content, behind_row, row_front, rows_behind}, specs.Offsets.row_length}
+use Rattle.yq_row_table.specs.Rows.{Row, parent_indent, print_row, rows_text, part_text, Cut}
 use Rattle.yq_row_table.{specs.View.{Slices, slices, rows_of, RowsView, rows_view}, proofs.PlaceLaws.{RowIn, row_in}}
 use Rattle.yq_row_table.{proofs.seams.SeamLaws.rows_text-append, proofs.splices.SpliceTexts.first_text}
 use Rattle.yq_documents.{specs.Reading.cut_of, specs.LinesInRows.document_row}
@@ -109,10 +109,7 @@ module _ (t : List ℕ) (s : RowsView) (e : RowsOfEntry) (row end : ℕ) (h : Ar
       let lies = lies_in h.document c h.part h.cut.parts h.placed in
       let rows : List Row = e.front ++ (e.row ∷ e.under) in
       let whole : h.part.part.rows ≡ rows ++ e.back = h.rows_are ∙ sym (append_assoc e.front (e.row ∷ e.under) e.back) in
-      let inner : LineSeam (rows_text rows []) (behind_entry e) =
-      subst (LineSeam (rows_text rows [])) (λ i. rows_text e.back (sym h.end_is i ++ sym h.behind_is i))
-      (rows_seam rows e.back _ h.part.part.end h.part.behind
-      (subst (λ (x : List Row). AreRows unlimited x h.part.part.end h.part.behind) whole lies.rows)) in
+      let inner : LineSeam (rows_text rows []) (behind_entry e) = search (rules, rows_seam) in
       let text_is : part_text h.part.part h.part.behind ≡ rows_text rows [] ++ behind_entry e =
       (λ i. rows_text (whole i) (sym h.end_is i ++ sym h.behind_is i)) ∙ (rows_text-append rows e.back (e.end ++ e.behind) ∙ texts_then rows [] (behind_entry e)) in
       let outer = seam_join h.part.before (rows_text rows []) (behind_entry e) (subst (LineSeam h.part.before) text_is lies.seam) inner in

@@ -145,13 +145,10 @@ other_first_line path c k n e zero_is = search rules
 
 pub no_first_entry : (t : List ℕ) (c : Cut) (path : Path) (k : ℕ) (n : LineCounts) → IsCut t c → all_documents c ≡ true →
     Some n ≡ option_map (numbers k) (row_line_at path c) → None ≡ line_entry_at path c → None ≡ first_removal path.doc (steps_of path) c
-no_first_entry t c path k n cut sound there e = go (path_piece path parts.Entry c) (e ∙ entry_is t c path k n cut sound there) (row_line_at path c)
-  where
-    either : (b : Bool) → None ≡ option_map first_out (cond b None None)
-    either b = search rules
-
-    go : (x : Option TextPiece) → None ≡ option_map piece_span x → (o : Option RowLine) → None ≡ first_out_of o x
-    go x h1 o = search rules
+no_first_entry t c path k n cut sound there e =
+    let either : (b : Bool) → None ≡ option_map first_out (cond b None None) = λ b. search rules in
+    let go : (x : Option TextPiece) → None ≡ option_map piece_span x → (o : Option RowLine) → None ≡ first_out_of o x = λ x h1 o. search rules in
+    go (path_piece path parts.Entry c) (e ∙ entry_is t c path k n cut sound there) (row_line_at path c)
 
 pub first_is : (path : Path) (c : Cut) (k : ℕ) (n : LineCounts) (x : TextPiece) → Some n ≡ option_map (numbers k) (row_line_at path c) →
     (n.1 ≡ 0 → ⊥) → path_piece path parts.Entry c ≡ Some x → Some (first_out x) ≡ first_removal path.doc (steps_of path) c

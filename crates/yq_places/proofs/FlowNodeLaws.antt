@@ -1,13 +1,13 @@
 -- The flow collection at a path is the one that the code finds in the head of a line.
-use Rattle.std.proofs.Common.{◌≡◌, ℕ, ℤ, ◌+◌, Bool, true, false, not, cond, List, [], ◌∷◌, ◌++◌, length, map, take, Option, Some, None}
+use Rattle.std.proofs.Common.{rules, ◌≡◌, ℕ, ℤ, ◌+◌, true, false, not, List, [], ◌∷◌, ◌++◌, length, map, take, Option, Some, None}
 use Rattle.std.{proofs.Common.{option_and_then, option_map, refl, sym, ap, ◌∙◌, subst, append-nil}, specs.List.slice_get}
-use Rattle.yq_core.{specs.Answers.◌>>=◌, specs.Paths.{Step, is_here, further}, specs.Piece.deeper}
-use Rattle.yq_core.{specs.declared.style.Place.TheVariants.Block, specs.Collections.{CollAt, CollPieces, IsCollAt, coll_along, coll_in}}
+use Rattle.yq_core.{specs.Answers.◌>>=◌, specs.Paths.{Step, further}, specs.Piece.deeper, specs.declared.style.Place.TheVariants.Block}
+use Rattle.yq_core.specs.Collections.{CollAt, CollPieces, IsCollAt, coll_along, coll_in}
 use Rattle.yq_core.specs.Entries.{EntryPieces, path_inside, item_at, tree_step}
-use Rattle.yq_core.specs.Nodes.{Items, none, item, Key, FlowNode, empty, alias, scalar, coll, anchored, flow_items_text, sep_text}
-use Rattle.yq_core.{specs.Nodes.{node_text, is_empty_node, IsFlowNode, without_anchor}, specs.Inline.depth_limit}
-use Rattle.yq_core.{specs.Places.{Placed, placed, nothing, name, text, sequence, mapping, anchored_node, locate}, specs.Trees.key_content}
-use Rattle.yq_core.{specs.View.inline_view, specs.Tree.key_label, proofs.NodesWrittenLaws.{items_append, node_then, sep_append}}
+use Rattle.yq_core.specs.Nodes.{Items, none, item, Key, FlowNode, empty, alias, scalar, coll, anchored, node_text, is_empty_node}
+use Rattle.yq_core.{specs.Nodes.{IsFlowNode, without_anchor}, specs.Inline.depth_limit}
+use Rattle.yq_core.{specs.Places.{Placed, placed, nothing, name, text, sequence, mapping, anchored_node, locate}, specs.View.inline_view}
+use Rattle.yq_core.proofs.NodesWrittenLaws.{items_append, node_then, sep_append}
 use Rattle.yq_row_table.{specs.Exchange.behind_row, specs.Grammar.{IsContent, IsCut}}
 use Rattle.yq_row_table.specs.Rows.{Content, Nothing, Inline, Row, Part, Cut, parent_indent}
 use Rattle.yq_row_table.{specs.View.{RowsView, anchor_cut, content_cut, rows_view, slices}, proofs.PlaceLaws.row_in}
@@ -61,9 +61,7 @@ row_along : (total : ℕ) (r : Row) (rest : List ℕ) (ss : List Step) → (row_
 row_along total r rest ss = kept_along ss (locate total (content_core r.content) (tail_of r.content ++ rest)) ∙ go r.content
   where
     go : (x : Content) → collection_along ss (locate total (content_core x) (tail_of x ++ rest)) ≡ option_map (placed_collection total) (content_flow ss x rest)
-    go (Nothing tail) = nothing_along total (tail ++ rest) ss
-    go (Inline space node tail) = core_along total node (tail ++ rest) ss ∙ sym (collection_placed total ss node (tail ++ rest))
-    go (rows.Block space anchor block) = nothing_along total (tail_of (rows.Block space anchor block) ++ rest) ss
+    go x = search (rules, nothing_along, core_along, collection_placed)
 
 -- ---- more text after
 
@@ -76,13 +74,7 @@ entry_more more y = record { key = y.key; node = y.node; rest = y.rest ++ more }
 pub item_more : (k : ℕ) (s : Step) (is : Items) (rest more : List ℕ) → item_at k s is (rest ++ more) ≡ option_map (entry_more more) (item_at k s is rest)
 unfolding as_entry
 item_more k s none rest more = refl
-item_more k s (item key n sep is) rest more = go (is_here s (key_label (key_content key))) (item_more k (further s) is rest more)
-  where
-    go : (b : Bool) → item_at k (further s) is (rest ++ more) ≡ option_map (entry_more more) (item_at k (further s) is rest) →
-        cond b (as_entry key n (sep_text sep (flow_items_text k is (rest ++ more)))) (item_at k (further s) is (rest ++ more)) ≡ option_map
-        (entry_more more) (cond b (as_entry key n (sep_text sep (flow_items_text k is rest))) (item_at k (further s) is rest))
-    go true again = ap (as_entry key n) (ap (sep_text sep) (items_append k is rest more) ∙ sep_append sep (flow_items_text k is rest) more)
-    go false again = again
+item_more k s (item key n sep is) rest more = search (rules, as_entry, items_append, sep_append, item_more k (further s) is rest more)
 
 inside_more : (s : Step) (node : FlowNode) (rest more : List ℕ) → path_inside s node (rest ++ more) ≡ option_map (entry_more more) (path_inside s node rest)
 inside_more s empty rest more = refl
@@ -107,13 +99,10 @@ coll_more (s ∷ ss) node rest more = ap (option_and_then (λ (y : EntryPieces).
   where
     go : (o : Option EntryPieces) → ((y : EntryPieces) → coll_along ss y.node (y.rest ++ more) ≡ option_map (with_more more) (coll_along ss y.node y.rest)) →
         option_and_then (λ (y : EntryPieces). coll_along ss y.node y.rest) (option_map (entry_more more) o) ≡ option_map (with_more more) (option_and_then (λ (y : EntryPieces). coll_along ss y.node y.rest) o)
-    go None again = refl
-    go (Some y) again = again y
+    go o again = search rules
 
 pub content_more : (ss : List Step) (x : Content) (rest : List ℕ) → content_flow ss x rest ≡ option_map (with_more rest) (content_flow ss x [])
-content_more ss (Nothing tail) rest = refl
-content_more ss (Inline space node tail) rest = coll_more ss node tail rest ∙ ap (λ (l : List ℕ). option_map (with_more rest) (coll_along ss node l)) (sym (append-nil tail))
-content_more ss (rows.Block space anchor block) rest = refl
+content_more ss x rest = search (rules, coll_more, append-nil)
 
 -- ---- the collection
 
@@ -145,16 +134,14 @@ part_collection_is : (k : ℕ) (c : Cut) (p : Part) (steps : List Step) → rows
 part_collection_is k c p steps = ap (λ (o : Option (ℕ × List Step)). o >>= λ x. line_collection k c p.rows x.0 x.1) (sym (head_found (lines_of_rows p.rows) steps)) ∙ go (find_head steps (part_outline p))
   where
     go : (o : Option (FoundLine × List Step)) → (option_map numbered o >>= λ x. line_collection k c p.rows x.0 x.1) ≡ (o >>= λ x. line_collection k c p.rows (length (lines_before x.0.place)) x.1)
-    go None = refl
-    go (Some x) = refl
+    go o = search rules
 
 -- the collection in a document of a text
 pub collection_is : (c : Cut) (n : ℕ) (steps : List Step) → (slice_get (document_parts c) n >>= λ p. rows_collection (document_row n c) c p.rows steps) ≡ flow_collection n steps c
 collection_is c n steps = go (slice_get (document_parts c) n)
   where
     go : (o : Option Part) → (o >>= λ p. rows_collection (document_row n c) c p.rows steps) ≡ (o >>= part_collection (document_row n c) c steps)
-    go None = refl
-    go (Some p) = part_collection_is (document_row n c) c p steps
+    go o = search (rules, part_collection_is)
 
 pub no_flow_agrees : (t : List ℕ) (all : Option CollPieces) → None ≡ all → FlowAgrees t all None
 no_flow_agrees t all e = subst (λ (o : Option CollPieces). FlowAgrees t o None) e tt
@@ -175,11 +162,7 @@ core_coll (s ∷ ss) (anchored n g node) rest = refl
 
 pub core_valid : (spaces : Option ℕ) (node : FlowNode) (rest : List ℕ) → IsFlowNode false spaces depth_limit node rest → IsFlowNode false spaces depth_limit (without_anchor node) rest
 unfolding IsFlowNode
-core_valid spaces empty rest h = h
-core_valid spaces (alias n) rest h = h
-core_valid spaces (scalar p) rest h = h
-core_valid spaces (coll k g is) rest h = h
-core_valid spaces (anchored n g node) rest h = h.4
+core_valid spaces node rest h = search rules
 
 some_bare : (ss : List Step) (node : FlowNode) (rest : List ℕ) (w : CollPieces) → coll_along ss node rest ≡ Some w → not (is_empty_node node) ≡ true
 some_bare [] empty rest w e = absurd (cc)
@@ -191,11 +174,7 @@ some_bare ss (anchored n g node) rest w e = refl
 
 pub core_text : (node : FlowNode) → (anchor_cut node).2 ≡ node_text (without_anchor node) []
 unfolding node_text
-core_text empty = refl
-core_text (alias n) = refl
-core_text (scalar p) = refl
-core_text (coll k g is) = refl
-core_text (anchored n g node) = refl
+core_text node = search rules
 
 -- Steps lead to a collection in a text that is an inline node and what follows it.
 record HasColl (t : List ℕ) (ss : List Step) (w : CollPieces) : Type 0 where
@@ -242,8 +221,7 @@ module _ (t : List ℕ) (s : RowsView) (c : Cut) (n : ℕ) (d : Stretch) (cut : 
   other_head total e = no_flow_agrees t (flow_collection n steps c) (go alone (ap (λ (o : Option Placed). o >>= collection_along left) e ∙ row_along total row [] left) ∙ sym all_is)
     where
       go : (o : Option CollPieces) → None ≡ option_map (placed_collection total) o → None ≡ option_map (with_more (behind_row q.row c)) o
-      go None e = refl
-      go (Some w) e = absurd (cc)
+      go o e = search rules
 
   pub head_agrees_at : (x : FlowHead) → left ≡ map tree_step x.left.now → t ≡ take x.before t ++ (x.text.now ++ behind_row q.row c) → x.before ≡ length (take x.before t) → x.text.now ≡ from_head (slices row) [] →
       Some (inline_view x.node.value) ≡ row_flow (length x.text.now) row [] → FlowAgrees t (flow_collection n steps c) (Some x)
@@ -256,19 +234,7 @@ module _ (t : List ℕ) (s : RowsView) (c : Cut) (n : ℕ) (d : Stretch) (cut : 
       go (Some w) there e =
           let valid = row_in c q.row true row cut.parts (row_in_cut s d c k q at) in
           let h = content_coll (parent_indent row) row.content left w (row_alone valid.limit row (behind_row q.row c) valid.row).content there in
-          record {
-            front = take x.before t;
-            behind = behind_row q.row c;
-            rest = w.rest;
-            text = stands;
-            before = begins;
-            rest_is = refl;
-            at = h.at;
-            stands = h.stands;
-            node_is = ends ∙ h.node_is;
-            coll_is = h.coll_is;
-            found = e;
-          }
+          search rules
 
 -- ---- all collections of the head
 

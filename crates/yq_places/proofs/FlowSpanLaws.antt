@@ -17,9 +17,6 @@ use Rattle.yq_outline.specs.Lines.{tail_of}
 abbrev pub EntrySpans : List ℕ → PlacedEntry → Type 0
 EntrySpans t e = HasKeySpan t e.0 × HasSpans t e.1
 
-parts_spans : (t : List ℕ) (p : Placed) → HasSpans t p → PartsHaveSpans t (parts_of p)
-parts_spans t p h1 = search rules
-
 part_spans : (t : List ℕ) (s : Step) (ps : Parts) (e : PlacedEntry) → PartsHaveSpans t ps → flow_part_at s ps ≡ Some e → EntrySpans t e
 part_spans t s end e h is = absurd (cc)
 part_spans t s (part key n ps) e h is = go (is_here s (key_label (unplaced_key key))) (λ again. part_spans t (further s) ps e h.2 again) is
@@ -32,7 +29,7 @@ entry_spans t [] slot e h is = subst (EntrySpans t) (same_Some _ _ is) h
 entry_spans t (s ∷ ss) slot e h is = go (flow_part_at s (parts_of slot.1)) refl (λ x k again. entry_spans t ss x e k again) is
   where
     go : (o : Option PlacedEntry) → flow_part_at s (parts_of slot.1) ≡ o → ((x : PlacedEntry) → EntrySpans t x → placed_entry_at ss x ≡ Some e → EntrySpans t e) → option_and_then (placed_entry_at ss) o ≡ Some e → EntrySpans t e
-    go o h1 h2 h3 = search (rules, part_spans, parts_spans)
+    go o h1 h2 h3 = search (rules, part_spans)
 
 -- an item or entry ends after where it begins
 entry_order : (total : ℕ) (y : EntryPieces) → entry_start (locate_entry total y) ≤ end_of (locate_entry total y).1
@@ -40,9 +37,6 @@ entry_order total y = go y.key
   where
     go : (k : Key) → entry_start (key_placed total (key_text k (node_text y.node y.rest)) k, locate total y.node y.rest) ≤ end_of (locate total y.node y.rest)
     go k = search (rules, start_placed, end_placed, node_longer, length-append)
-
-place_span : (t : List ℕ) (e : PlacedEntry) → EntrySpans t e → entry_start e ≤ end_of e.1 → IsSpan t (entry_start e) (end_of e.1)
-place_span t e h1 h2 = search rules
 
 content_span : (t : List ℕ) (p : Placed) (x : ℕ × ℕ) → HasSpans t p → content_place p ≡ Some x → IsSpan t x.0 x.1
 content_span t p x h1 h2 = search (rules, same_Some)
@@ -71,4 +65,4 @@ flow_spans c i r u cut is s ss e found = go r.content refl found
         let slot : EntryPieces = record { key = bare; node = node; rest = tail ++ behind_row i c } in
         let y = mapped (locate_entry total) (entry_pieces_at (s ∷ ss) slot) e (sym (path_places total (s ∷ ss) slot) ∙ found) in
         let spans = entry_spans (cut_text c) (s ∷ ss) (None, locate total node (tail ++ behind_row i c)) e (tt, node_spans c i r u cut is space node tail content) found in
-        search (rules, entry_order, place_span, content_span, total, y, spans)
+        search (rules, entry_order, content_span, total, y, spans)

@@ -1,9 +1,8 @@
 -- Flow collections at paths, as the code finds them.
-use Rattle.std.proofs.Common.{◌≡◌, ℕ, ◌+◌, cond, List, [], ◌∷◌, ◌++◌, length, Option, Some, None, option_map, option_and_then, refl, sym}
-use Rattle.std.{proofs.Common.{ap, ◌∙◌, length-append, rules}, specs.List.slice_get, specs.Prelude.is_some}
+use Rattle.std.proofs.Common.{◌≡◌, ℕ, ◌+◌, cond, List, [], ◌∷◌, ◌++◌, length, Option, Some, None, option_map, refl, sym, ap, ◌∙◌}
+use Rattle.std.{proofs.Common.{length-append, rules}, specs.List.slice_get, specs.Prelude.is_some}
 use Rattle.yq_core.{specs.Answers.◌>>=◌, specs.Paths.Step, specs.Collections.{coll_along, coll_in}}
-use Rattle.yq_core.specs.Entries.{EntryPieces, PlacedEntry, entry_pieces_at, path_inside, locate_entry}
-use Rattle.yq_core.specs.Nodes.{bare, FlowNode, coll, anchored}
+use Rattle.yq_core.{specs.Entries.{EntryPieces, PlacedEntry, entry_pieces_at, locate_entry}, specs.Nodes.{bare, FlowNode, coll, anchored}}
 use Rattle.yq_core.{specs.Places.{Placed, placed, Parts, holder, locate, locate_items, anchored_node}, proofs.PathLaws.path_places}
 use Rattle.yq_outline.{specs.Ends.part, specs.Group.group, specs.Outline.{Line, level, Outline}}
 use Rattle.yq_outline.specs.Places.{Context, here, below, lines_before, compose, FoundLine, find, in_head}
@@ -31,11 +30,7 @@ node_collection total x rest = refl
 
 pub collection_entry : (ss : List Step) (x : EntryPieces) → coll_along ss x.node x.rest ≡ (entry_pieces_at ss x >>= λ y. coll_in y.node y.rest)
 collection_entry [] x = refl
-collection_entry (s ∷ ss) x = go (path_inside s x.node x.rest) (λ y. collection_entry ss y)
-  where
-    go : (o : Option EntryPieces) → ((y : EntryPieces) → coll_along ss y.node y.rest ≡ (entry_pieces_at ss y >>= λ z. coll_in z.node z.rest)) →
-        option_and_then (λ (y : EntryPieces). coll_along ss y.node y.rest) o ≡ (option_and_then (entry_pieces_at ss) o >>= λ z. coll_in z.node z.rest)
-    go o h1 = search rules
+collection_entry (s ∷ ss) x = search (rules, collection_entry ss)
 
 pub collection_placed : (total : ℕ) (ss : List Step) (node : FlowNode) (rest : List ℕ) → option_map (placed_collection total) (coll_along ss node rest) ≡ collection_along ss (locate total node rest)
 collection_placed total ss node rest =

@@ -3,8 +3,7 @@ use Rattle.std.proofs.Common.{◌≡◌, ◌⊎◌, inl, inr, ℕ, suc, ◌+◌,
 use Rattle.std.proofs.Common.{None, option_map, option_and_then, refl, sym, ap, ◌∙◌, arith, append_assoc, length-append, rules}
 use Rattle.std.{proofs.lemmas.Bool.cases_lt, proofs.lemmas.List.drop_all, proofs.lemmas.Option.slice_get_cases, specs.List.slice_get}
 use Rattle.yq_core.{specs.Paths.{Step, is_here, further}, specs.Tree.Node}
-use Rattle.yq_outline.{specs.Ends.part, specs.Group.group}
-use Rattle.yq_outline.specs.Outline.{LineMark, Bare, Key, Dash, Line, level, Outline, end, row, flatten, label}
+use Rattle.yq_outline.{specs.Ends.part, specs.Group.group, specs.Outline.{LineMark, Bare, Line, level, Outline, end, row, flatten, label}}
 use Rattle.yq_outline.specs.Places.{Context, here, below, beside, compose, lines_before, FoundLine, next_to, find_row, place_inside}
 use Rattle.yq_outline.{specs.Places.{in_head, bare_or, find}, proofs.LineEnds.end_counted, proofs.NameLaws.part-all}
 use Rattle.yq_outline.{proofs.EndsLaws.{part_stop, row_parts}, proofs.PlaceLaws.at, proofs.PositionLaws.under-length, proofs.Values.If}
@@ -80,9 +79,8 @@ path_found s [] (row l u a) ls first floor e = go l.mark (find_row s (row l u a)
   where
     go : (m : LineMark) (r : Option FoundLine) → If r (IsFound ls first) → If (bare_or m (Some (record { place = here; line = l; under = u; after = a }, s ∷ [])) (option_map (λ f. (f, [])) r)) (λ x. IsFound ls first x.0)
     go Bare r h = found_first ls first floor l u a (first_is ls first floor l u a e)
-    go (Key k) (Some f) h = h
-    go Dash (Some f) h = h
     go x None h = tt
+    go _ (Some f) h = h
 path_found s (t ∷ ts) (row l u a) ls first floor e = go (λ v n deep is. path_found t ts v ls n deep is) l.mark (find_row s (row l u a)) (row_found s (row l u a) ls first floor e)
   where
     under : (f : FoundLine) (h : Option Node) → IsFound ls first f → (q : Option (FoundLine × List Step)) → If q (λ x. IsFound ls ((first + length (lines_before f.place)) + 1) x.0) →

@@ -42,12 +42,7 @@ line_ends (x ∷ a) b h = go (is_feed x) h (line_ends a b)
 pub line_goes : (a b : List ℕ) → length a ≤ line_len a → is_line a ≡ false → line_len (a ++ b) ≡ line_len a + line_len b
 unfolding line_len is_line
 line_goes [] b h e = omega arith
-line_goes (x ∷ a) b h e = go a (is_feed x) h e (line_goes a b)
-  where
-    go : (a : List ℕ) (c : Bool) → suc (length a) ≤ cond c 1 (suc (line_len a)) → cond c (is_empty a) (is_line a) ≡ false →
-        (length a ≤ line_len a → is_line a ≡ false → line_len (a ++ b) ≡ line_len a + line_len b) →
-        cond c 1 (suc (line_len (a ++ b))) ≡ cond c 1 (suc (line_len a)) + line_len b
-    go a c h1 h2 h3 = search rules
+line_goes (x ∷ a) b h e = search (rules, line_goes a b)
 
 -- a gap begins where white space is all there is, or by what comes after it
 white_at : (t : List ℕ) (n : ℕ) → n ≡ prefix_len is_white t → past_white t ≡ drop n t

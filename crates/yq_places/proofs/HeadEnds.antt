@@ -1,6 +1,6 @@
 -- Where the head of a row ends, by its pieces.
 use Rattle.yq_documents.{proofs.HeadLaws.{opens, block_marks}, specs.RowReading.is_block_head}
-use Rattle.std.proofs.Common.{◌≡◌, ℕ, ℤ, ◌+◌, true, false, cond, List, ◌∷◌, length, Some, option_map, ◌≤◌, sym, ap, ◌∙◌, arith, append-nil}
+use Rattle.std.proofs.Common.{◌≡◌, ℕ, ℤ, ◌+◌, true, false, cond, List, length, Some, option_map, ◌≤◌, sym, ap, ◌∙◌, arith, append-nil}
 use Rattle.std.{proofs.Common.rules, proofs.lemmas.Option.{slice_get-map, same_Some}, proofs.lemmas.Bool.{false≢true, cond-false}}
 use Rattle.std.specs.List.{slice_get}
 use Rattle.yq_text.specs.Limit.{text_limit}
@@ -22,9 +22,6 @@ get_row rs i x e = search rules
 -- no inline node begins as a block scalar does
 scalar_begins_none : (n : ℤ) (p rest : List ℕ) → IsScalarAt false (Some (deeper n)) p rest → is_block_head p ≡ false
 scalar_begins_none n p rest h1 = search (rules, scalar_begins, front_not)
-
-abbrev Opens : ℕ → Type 0
-Opens b = (t : List ℕ) → is_block_head (b ∷ t) ≡ false
 
 pub node_begins : (n : ℤ) (node : FlowNode) (rest : List ℕ) → IsFlowNode false (Some (deeper n)) depth_limit node rest → is_block_head (anchor_cut node).2 ≡ false
 unfolding node_text IsFlowNode

@@ -2,17 +2,16 @@
 use Rattle.std.proofs.Common.{◌≡◌, ℕ, ◌+◌, ◌-◌, ◌<◌, List, [], ◌∷◌, ◌++◌, length, drop, Option, Some, Bool, true, false, refl, sym, ap, ◌∙◌}
 use Rattle.std.{proofs.Common.{subst, arith, append_assoc, length-append, inl, rules}, proofs.Math.Seq.drop-append_seam}
 use Rattle.std.{proofs.lemmas.Bool.{false≢true, and_parts}, specs.List.slice_get, specs.Str.{IsUtf8, IsCharBoundary}}
-use Rattle.yq_core.{specs.declared.block_header.BlockStyle.BlockStyle, specs.Block.style_indicator, specs.Entries.end_of}
-use Rattle.yq_core.{specs.Inline.IsInlineAt, specs.Nodes.{FlowNode, node_text, IsFlowNode}}
+use Rattle.yq_core.{proofs.LineLaws.is_empty_is, specs.declared.block_header.BlockStyle.BlockStyle, specs.Block.style_indicator}
+use Rattle.yq_core.{specs.Entries.end_of, specs.Inline.IsInlineAt, specs.Nodes.{FlowNode, node_text, IsFlowNode}}
 use Rattle.yq_core.{specs.Places.{Placed, placed, anchored_node, locate}, specs.Spans.{IsSpan, HasSpans}}
 use Rattle.yq_core.{proofs.NodeAgain.{is_anchored, takes_unanchored}, proofs.SpanLaws.inline_spans, proofs.NodesWrittenLaws.node_then}
 use Rattle.yq_core.{proofs.EditPlaces.end_placed, specs.Piece.deeper}
 use Rattle.yq_row_table.specs.Exchange.{before_content, behind_row, with_content, allows_first}
-use Rattle.yq_row_table.specs.Grammar.{IsContent, AreDashes, IsMark, is_entry, IsCut, unlimited, limit_after}
+use Rattle.yq_row_table.specs.Grammar.{IsContent, AreDashes, is_entry, IsCut, unlimited, limit_after}
 use Rattle.yq_row_table.specs.Rows.{RowMark, Content, Inline, Block, mark_text, dashes_text, Row, parent_indent, Cut, cut_text}
 use Rattle.yq_row_table.specs.View.{Slices, anchor_cut, content_cut, slices, rows_of}
 use Rattle.yq_row_table.{proofs.NodePieces.{BeginsAscii, tail_ascii, before_ascii, node_pieces}, proofs.PlaceLaws.{place, row_in}}
-use Rattle.yq_row_table.proofs.EmptyTexts.{empty_is}
 use Rattle.yq_documents.specs.RowReading.{from_head}
 use Rattle.yq_places.{specs.CommentReading.before_tail, specs.EntryReading.{before_line, head_extent}}
 use Rattle.yq_places.proofs.CommentPieceLaws.{Ended, content_end, tail_place}
@@ -45,9 +44,6 @@ bare_front [] rows.Bare e h = refl
 bare_front (n ∷ ns) m e h = absurd (false≢true (sym e ∙ h.1))
 bare_front [] x e h = absurd (false≢true (sym e))
 
-bare_space : (m : RowMark) (space : List ℕ) (node : FlowNode) (tail rest : List ℕ) → is_entry m ≡ false → IsMark m (Inline space node tail) rest → space ≡ []
-bare_space m space node tail rest h1 h2 = search (rules, empty_is, and_parts, false≢true)
-
 pub mark_ascii : (style : BlockStyle) → style_indicator style < 128
 mark_ascii style = search rules
 
@@ -70,7 +66,7 @@ module _ (c : Cut) (i : ℕ) (r : Row) (u : IsUtf8 (cut_text c)) (cut : IsCut (c
   node_boundary space node tail content true entry = (node_pieces (cut_text c) c i r space node tail cut u is content (inl entry)).start
   node_boundary space node tail content false alone =
       let row = (row_in c i true r cut.parts is).row in
-      let none : space ≡ [] = bare_space r.mark space node tail (behind_row i c) alone (subst (λ (x : Content). IsMark r.mark x (behind_row i c)) content row.mark) in
+      let none : space ≡ [] = search (rules, is_empty_is, and_parts, false≢true) in
       let same : length (before_line i 0 r c) ≡ length (before_content i c ++ space) =
       omega (arith, front_in i c r is, length-append {A = ℕ}, ap length none, ap length (bare_front r.dashes r.mark alone row.dashes)) in
       subst (IsCharBoundary (cut_text c)) same (line_boundary c i 0 r u cut.parts is)

@@ -2,7 +2,7 @@
 use Rattle.std.proofs.Common.{◌≡◌, ℕ, List, [], ◌∷◌, ◌++◌, Option, Some, None, option_map, refl, sym, ap, ◌∙◌, subst, rules}
 use Rattle.std.{proofs.lemmas.Option.{none-some, same_Some}, specs.Prelude.option_and_then}
 use Rattle.yq_core.{specs.Answers.◌>>=◌, specs.Paths.Step, specs.Tree.Node}
-use Rattle.yq_outline.{specs.Group.group, specs.Outline.{LineMark, Bare, Key, Dash, Line, Outline, end, row}}
+use Rattle.yq_outline.{specs.Group.group, specs.Outline.{LineMark, Line, Outline, end, row}}
 use Rattle.yq_outline.specs.Places.{Context, here, below, beside, compose, FoundLine, bare_or, find_row, in_head, place_inside}
 use Rattle.yq_places.{specs.FlowNodes.{bare_line, find_head, head_line}, specs.NodeReading.head_line_of}
 use Rattle.yq_places.proofs.FlowViewLaws.{head_found, numbered}
@@ -76,10 +76,7 @@ stem_found (s ∷ ss) (row l u a) y e = go l.mark refl (find_row s (row l u a)) 
         subst (HasStem (s ∷ ss) (row l u a)) (same_Some _ _ e) (record {
           stem = s ∷ deeper.stem;
           steps_are = ap (λ (ts : List Step). s ∷ ts) deeper.steps_are;
-          leads = λ left.
-              all (deeper.stem ++ left)
-              ∙ (ap (λ (h : Option Node). in_head h (Some (f, deeper.stem ++ left)) (option_map (within f) (find_head (deeper.stem ++ left) f.under))) is
-              ∙ ap (option_map (within f)) (deeper.leads left));
+          leads = λ left. search (rules, deeper.leads);
         })
 
     entry : (f : FoundLine) → ((rest : List Step) → find_head (s ∷ rest) (row l u a) ≡ on_from rest f) → (h : Option Node) → f.line.head ≡ h →
@@ -92,13 +89,7 @@ stem_found (s ∷ ss) (row l u a) y e = go l.mark refl (find_row s (row l u a)) 
     entry f all None is again e = under f all is (find_head ss f.under) refl again e
 
     go : (m : LineMark) → l.mark ≡ m → (r : Option FoundLine) → find_row s (row l u a) ≡ r → Stems ss → bare_or m (Some (first l u a, s ∷ ss)) (option_and_then (on_from ss) r) ≡ Some y → HasStem (s ∷ ss) (row l u a) y
-    go Bare is r found again e = search (rules, same_Some, first_leads)
-    go (Key k) is None found again e = absurd (none-some _ e)
-    go (Key k) is (Some f) found again e =
-        entry f (λ rest. head_in_row s rest l u a ∙ λ i. bare_or (is i) (Some (first l u a, s ∷ rest)) (option_and_then (on_from rest) (found i))) f.line.head refl again e
-    go Dash is None found again e = absurd (none-some _ e)
-    go Dash is (Some f) found again e =
-        entry f (λ rest. head_in_row s rest l u a ∙ λ i. bare_or (is i) (Some (first l u a, s ∷ rest)) (option_and_then (on_from rest) (found i))) f.line.head refl again e
+    go m is r found again e = search (rules, same_Some, first_leads, none-some, entry, head_in_row)
 
 -- the same by the number of the line
 pub record HasStemAt (steps : List Step) (ls : List Line) (x : ℕ × List Step) : Type 0 where

@@ -11,7 +11,7 @@ use Rattle.yq_row_table.specs.View.{Slices, slices, content_cut, last_dash, rows
 use Rattle.yq_places.{specs.CommentPlaces.{LineEnd, end_in_line, text_to_line_end}, specs.PrintedLines.last_break}
 use Rattle.yq_places.specs.RowPieces.{anchor_before, space_before}
 use Rattle.yq_places.specs.Standings.{Held, LinesIn, RowsOfEntry, before_entry, behind_entry, held, lines_between}
-use Rattle.yq_places.{specs.StandingReading.{AreRowsOf, EndsRows, rows_lines}, proofs.PrintedTexts.less_is}
+use Rattle.yq_places.{specs.StandingReading.{AreRowsOf, EndsRows}, proofs.PrintedTexts.less_is}
 use Rattle.yq_places.proofs.EntryRowLaws.{head_ends, line_boundary_at, line_cut, pieces_at, through_is}
 use Rattle.yq_outline.{specs.Extents.head_place, specs.RowWalk.line_column, proofs.WalkLevels.{last_is, to_dash}}
 
@@ -67,10 +67,10 @@ module _ (t : List ℕ) (s : RowsView) (e : RowsOfEntry) (row end : ℕ) (h : Ar
       let parts : (before_entry e ++ ((row_front e.row ++ anchor_before x) ++ (space_before x ++ x.head))) ++ x.tail ≡ front ++ ((space_before x ++ x.head) ++ x.tail) = simp append_assoc refl in
       ap (λ (z : List ℕ). (before_entry e ++ z) ++ x.tail) (line_is e.row) ∙ parts
 
-  from_is : place.1 + length y.tail ≡ length ((before_entry e ++ text_to_line_end e.row) ++ (slices e.row).tail)
+  pub from_is : place.1 + length y.tail ≡ length ((before_entry e ++ text_to_line_end e.row) ++ (slices e.row).tail)
   from_is = omega (arith, head_ends t s e row end h place agrees, ap (λ (z : Slices). length z.tail) same, length-append (before_entry e ++ text_to_line_end e.row) (slices e.row).tail)
 
-  pub lower_ends : (tail : List ℕ) → tail ≡ y.tail → EndsRows t s (place.1 + length tail) end
+  abbrev pub lower_ends : (tail : List ℕ) → tail ≡ y.tail → EndsRows t s (place.1 + length tail) end
   lower_ends tail tail_is =
       let l : List ℕ = (before_entry e ++ text_to_line_end e.row) ++ (slices e.row).tail in
       let from : place.1 + length tail ≡ length l = omega (arith, from_is, ap length tail_is) in
@@ -91,13 +91,8 @@ module _ (t : List ℕ) (s : RowsView) (e : RowsOfEntry) (row end : ℕ) (h : Ar
       let lower : List ℕ = (slices e.row).raw ++ rows_text e.under [] in
       omega (arith, from_is, ap length tail_is, ap length (line_cut t s e row end h), length-append l (lower ++ behind_entry e), h.cut.size)
 
-  pub lower_is : (tail : List ℕ) (tail_is : tail ≡ y.tail) (lower : LinesIn) → ((k : EndsRows t s (place.1 + length tail) end) → lower ≡ rows_lines k) →
-      lower ≡ lines_between ((before_entry e ++ text_to_line_end e.row) ++ (slices e.row).tail) ((slices e.row).raw ++ rows_text e.under []) (behind_entry e)
-  unfolding lower_ends
-  lower_is tail tail_is lower says = says (lower_ends tail tail_is)
-
-  size : (space head : List ℕ) → space ≡ space_before y → head ≡ y.head → place.1 - (length space + length head) ≡ length front
-  size space head a b =
+  sized : (space head : List ℕ) → space ≡ space_before y → head ≡ y.head → length front + (length space + length head) ≡ place.1
+  sized space head a b =
       let x : Slices = slices e.row in
       omega (
         arith,
@@ -115,21 +110,11 @@ module _ (t : List ℕ) (s : RowsView) (e : RowsOfEntry) (row end : ℕ) (h : Ar
         length-append (before_entry e) (row_front e.row),
       )
 
+  size : (space head : List ℕ) → space ≡ space_before y → head ≡ y.head → place.1 - (length space + length head) ≡ length front
+  size space head a b = omega (arith, sized space head a b)
+
   pub space_fits : (space head : List ℕ) → space ≡ space_before y → head ≡ y.head → length space + length head ≤ place.1
-  space_fits space head a b =
-      let x : Slices = slices e.row in
-      omega (
-        arith,
-        head_ends t s e row end h place agrees,
-        ap length a,
-        ap length b,
-        ap (λ (z : Slices). length (space_before z)) same,
-        ap (λ (z : Slices). length z.head) same,
-        ap length (line_is e.row),
-        length-append (before_entry e) (text_to_line_end e.row),
-        length-append (row_front e.row ++ anchor_before x) (space_before x ++ x.head),
-        length-append (space_before x) x.head,
-      )
+  space_fits space head a b = omega (arith, sized space head a b)
 
   pub before_boundary : (before space head tail : List ℕ) → before ≡ (before_entry e ++ text_to_line_end e.row) ++ (slices e.row).tail → space ≡ space_before y → head ≡ y.head → tail ≡ y.tail → IsUtf8 space → IsUtf8 head → IsUtf8 tail →
       IsCharBoundary before (place.1 - (length space + length head))

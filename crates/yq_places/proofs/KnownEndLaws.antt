@@ -12,9 +12,7 @@ module _ (s : RowsView) (d : Stretch) (h : HasRows s d) (row : ℕ) (under : Pos
   first_deeper : (x : Slices) → slice_get s.rows under.row ≡ Some x → under.line ≡ 0 → floor < line_level 0 x
   first_deeper x is first =
       let later = row_later s d h under floor k among in
-      let there : slice_get s.rows k.under.row ≡ Some among.known.piece = sym (get_taken s.rows k.row k.under.row (omega (arith, later, ap (λ (q : Position). q.row) among.under_is))) ∙ among.known.there in
-      let same : among.known.piece ≡ x = same_Some _ _ (sym there ∙ (ap (λ (q : Position). slice_get s.rows q.row) among.under_is ∙ is)) in
-      search (rules, arith)
+      search (rules, get_taken, same_Some)
 
   end_behind : under.row ≡ row + 1 → under.line ≡ 0 → rows_end s d floor k.row ≡ rows_end s d floor (row + 1)
   end_behind next first =

@@ -5,7 +5,7 @@ use Rattle.std.{proofs.lemmas.Bool.{and_parts, eqb-true, false≢true, ne_eqb}, 
 use Rattle.yq_core.specs.Text.{is_empty}
 use Rattle.yq_outline.specs.Extents.{row_start}
 use Rattle.yq_row_table.{specs.Offsets.row_length, specs.Rows.{print_row, rows_text}, specs.View.{RowsView, Slices}}
-use Rattle.yq_places.{specs.StandingReading.{EndsRows, rows_lines}, specs.Standings.{before_entry, behind_entry, LinesIn}}
+use Rattle.yq_places.{specs.StandingReading.EndsRows, specs.Standings.{before_entry, behind_entry, LinesIn}}
 use Rattle.yq_places.{proofs.EntryRowLaws.{cut_in_two, stop_boundary, stop_is}, specs.LineReading.{CutsLines, IsLastBreak, line_list}}
 use Rattle.yq_places.specs.PrintedLines.{is_last_break, last_break, less_break}
 
@@ -39,10 +39,10 @@ module _ (t : List ℕ) (from stop : ℕ) (h : CutsLines t from stop) where
 -- the end of the rows of an item or entry
 module _ (t : List ℕ) (s : RowsView) (from end : ℕ) (h : EndsRows t s from end) (u : IsUtf8 t) (stop : ℕ)
     (agrees : (x : Slices) → slice_get s.rows (end - 1) ≡ Some x → stop ≡ row_start (end - 1) s + row_length x) where
-  stops : stop ≡ length (before_entry h.entry ++ print_row h.entry.row (rows_text h.entry.under []))
+  pub stops : stop ≡ length (before_entry h.entry ++ print_row h.entry.row (rows_text h.entry.under []))
   stops = stop_is t s h.entry h.row end h.rows stop agrees
 
-  pub rows_cut : CutsLines t from stop
+  abbrev pub rows_cut : CutsLines t from stop
   rows_cut = record {
     before = h.front;
     own = h.own;
@@ -53,7 +53,3 @@ module _ (t : List ℕ) (s : RowsView) (from end : ℕ) (h : EndsRows t s from e
     starts = h.starts;
     stops = subst (IsCharBoundary t) (sym stops) (stop_boundary t s h.entry h.row end h.rows u);
   }
-
-  pub lines_there : (lower : LinesIn) → ((k : CutsLines t from stop) → lower ≡ line_list k) → lower ≡ rows_lines h
-  unfolding rows_cut
-  lines_there lower says = says rows_cut

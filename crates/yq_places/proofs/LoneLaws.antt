@@ -12,8 +12,8 @@ use Rattle.yq_row_table.specs.View.{Slices, slices, content_cut, rows_of, RowsVi
 use Rattle.yq_row_table.proofs.NodePieces.{before_ascii, behind_ascii, tail_ascii}
 use Rattle.yq_documents.{specs.Pieces.TextPiece, specs.Reading.cut_of}
 use Rattle.yq_places.{specs.CommentPlaces.text_to_line_end, specs.RowPieces.upto_dash, specs.EntryReading.line_begin}
-use Rattle.yq_places.specs.Standings.{LinesIn, RowsOfEntry, before_entry, behind_entry, compact_lines, dash_text, is_alone, lone}
-use Rattle.yq_places.{specs.StandingReading.{AreRowsOf, EndsRows, rows_lines}, proofs.CommentEndLaws.row_text_parts}
+use Rattle.yq_places.specs.Standings.{RowsOfEntry, before_entry, behind_entry, dash_text, is_alone, lone}
+use Rattle.yq_places.{specs.StandingReading.{AreRowsOf, EndsRows}, proofs.CommentEndLaws.row_text_parts}
 use Rattle.yq_places.proofs.DashLaws.{front_is, row_cut}
 use Rattle.yq_places.{proofs.EntryRowLaws.{cut_in_two, first_at, head_ends, pieces_at, row_valid, text}, proofs.LineEndLaws.line_tail}
 use Rattle.yq_places.proofs.RowStarts.{line_begins}
@@ -90,19 +90,19 @@ module _ (t : List ℕ) (s : RowsView) (e : RowsOfEntry) (row end : ℕ) (h : Ar
   abbrev front : List ℕ
   front = before_entry e ++ row_front (upto_dash e.line e.row)
 
-  through : before_entry e ++ print_row e.row (rows_text e.under []) ≡ front ++ dash_text e
+  pub through : before_entry e ++ print_row e.row (rows_text e.under []) ≡ front ++ dash_text e
   through = ap (λ (z : List ℕ). before_entry e ++ z) (row_cut e.line e.row (rows_text e.under []) less) ∙ sym (append_assoc (before_entry e) (row_front (upto_dash e.line e.row)) (dash_text e))
 
-  cut : t ≡ front ++ (dash_text e ++ behind_entry e)
+  pub cut : t ≡ front ++ (dash_text e ++ behind_entry e)
   cut = cut_in_two t s e row end h ∙ (ap (λ (z : List ℕ). z ++ behind_entry e) through ∙ append_assoc front (dash_text e) (behind_entry e))
 
   abbrev upto : List ℕ
   upto = before_entry e ++ (e.row.gap ++ (replicate e.row.column 32 ++ dashes_text (take e.line e.row.dashes) []))
 
-  dash_is : front ≡ upto ++ 45 ∷ []
+  pub dash_is : front ≡ upto ++ 45 ∷ []
   dash_is = ap (λ (z : List ℕ). before_entry e ++ z) (front_is e.line e.row) ∙ sym (append_assoc (before_entry e) (e.row.gap ++ (replicate e.row.column 32 ++ dashes_text (take e.line e.row.dashes) [])) (45 ∷ []))
 
-  size : start + 1 ≡ length front
+  pub size : start + 1 ≡ length front
   size =
       let c : Cut = cut_of t in
       let at = first_at t s e row end h in
@@ -116,7 +116,7 @@ module _ (t : List ℕ) (s : RowsView) (e : RowsOfEntry) (row end : ℕ) (h : Ar
   pub dash_fits : start + 1 ≤ text_limit
   dash_fits = omega (arith, size, ap length cut, length-append front (dash_text e ++ behind_entry e), h.cut.size)
 
-  pub dash_ends : EndsRows t s (start + 1) end
+  abbrev pub dash_ends : EndsRows t s (start + 1) end
   dash_ends = record {
     entry = e;
     row = row;
@@ -129,7 +129,3 @@ module _ (t : List ℕ) (s : RowsView) (e : RowsOfEntry) (row end : ℕ) (h : Ar
         (subst (IsCharBoundary (front ++ (dash_text e ++ behind_entry e))) (sym size)
         (behind_ascii front (dash_text e ++ behind_entry e) (subst IsUtf8 cut u) (record { front = upto; last = 45; is = dash_is; ascii = omega arith })));
   }
-
-  pub dash_lines : (lower : LinesIn) → ((k : EndsRows t s (start + 1) end) → lower ≡ rows_lines k) → lower ≡ compact_lines e
-  unfolding dash_ends
-  dash_lines lower says = says dash_ends

@@ -1,13 +1,12 @@
 -- What is known of the nodes at paths, as the code finds it.
-use Rattle.std.proofs.Common.{rules, ◌≡◌, ◌⊎◌, inl, inr, ℕ, zero, suc, ◌+◌, ◌-◌, ◌<◌, ◌≤◌, ltb, eqb, Bool, true, false, not, cond, List, []}
-use Rattle.std.proofs.Common.{◌∷◌, length, take, map, Option, Some, None, option_map, option_and_then, refl, sym, ap, ◌∙◌, subst, arith}
-use Rattle.std.{proofs.lemmas.Bool.{cases_lt, lt-ltb, le-ltb, eq-eqb, ne_eqb, false≢true}, proofs.lemmas.List.length-map}
-use Rattle.std.{proofs.lemmas.Option.{slice_get-map, same_Some}, specs.List.slice_get, specs.Prelude.{is_some, Vec, vec_len}}
-use Rattle.std.specs.declared.alloc.Global.{Global}
+use Rattle.std.proofs.lemmas.List.{take-map, length-map}
+use Rattle.std.proofs.Common.{rules, ◌≡◌, ◌⊎◌, inl, inr, ℕ, suc, ◌+◌, ◌-◌, ◌<◌, ◌≤◌, ltb, eqb, Bool, true, false, not, cond, List, [], ◌∷◌}
+use Rattle.std.proofs.Common.{length, take, map, Option, Some, None, option_map, option_and_then, refl, sym, ap, ◌∙◌, subst, arith}
+use Rattle.std.{proofs.lemmas.Bool.{cases_lt, lt-ltb, le-ltb, eq-eqb, ne_eqb, false≢true}, proofs.lemmas.Option.{slice_get-map, same_Some}}
+use Rattle.std.{specs.List.slice_get, specs.Prelude.{is_some, Vec, vec_len}, specs.declared.alloc.Global.Global}
 use Rattle.yq_core.{specs.declared.kind.Kind.Kind, specs.Answers.◌>>=◌, specs.Paths.{Step, node_at, is_item}, specs.Tree.Node}
 use Rattle.yq_core.{specs.declared.inline.Inline.Inline, specs.declared.inline.Form.TheFolds.the_lemmas}
-use Rattle.yq_core.specs.Places.{Placed, placed, CoreNode, sequence, mapping as entries_form}
-use Rattle.yq_core.specs.Trees.{with_anchor_name, placed_tree, content_tree, parts_tree}
+use Rattle.yq_core.{specs.Places.{placed, sequence, mapping as entries_form}, specs.Trees.{with_anchor_name, placed_tree}}
 use Rattle.yq_core.specs.View.{anchor_name, inline_view, form_view, items_end, entries_end}
 use Rattle.yq_documents.{proofs.CountedLaws.{items_count, entries_count}, proofs.FlowLaws.Field, specs.Documents.document_parts}
 use Rattle.yq_documents.{specs.Reading.{all_documents, part_document}, proofs.PartRows.each}
@@ -46,18 +45,10 @@ view_of_map : (v : Vec Field Global) → form_view (forms.TheVariants.Map v) ≡
 view_of_map v = simp (the_lemmas) refl
 
 pub items_agrees : (node : Inline) (v : Vec Inline Global) (n : ℕ) → node.form ≡ forms.TheVariants.List v → n ≡ vec_len v → list (ltb 1 n) ≡ node_summary (placed_tree (inline_view node))
-items_agrees node v n is size =
-    ap (λ (k : ℕ). list (ltb 1 k)) (size ∙ (v.ok.0 ∙ sym (items_count v.items)))
-    ∙ (sym (named_summary (anchor_name node.anchor) (tree.list None (parts_tree (items_end v.items))))
-    ∙ sym (ap (λ (p : Placed). node_summary (placed_tree p)) (view_of_node node)
-    ∙ ap (λ (x : CoreNode). node_summary (with_anchor_name (anchor_name node.anchor) (content_tree x))) (ap form_view is ∙ view_of_list v)))
+items_agrees node v n is size = search (rules, items_count, named_summary, view_of_node, view_of_list)
 
 pub entries_agrees : (node : Inline) (v : Vec Field Global) (n : ℕ) → node.form ≡ forms.TheVariants.Map v → n ≡ vec_len v → mapping (ltb 1 n) ≡ node_summary (placed_tree (inline_view node))
-entries_agrees node v n is size =
-    ap (λ (k : ℕ). mapping (ltb 1 k)) (size ∙ (v.ok.0 ∙ sym (entries_count v.items)))
-    ∙ (sym (named_summary (anchor_name node.anchor) (tree.map None (parts_tree (entries_end v.items))))
-    ∙ sym (ap (λ (p : Placed). node_summary (placed_tree p)) (view_of_node node)
-    ∙ ap (λ (x : CoreNode). node_summary (with_anchor_name (anchor_name node.anchor) (content_tree x))) (ap form_view is ∙ view_of_map v)))
+entries_agrees node v n is size = search (rules, entries_count, named_summary, view_of_node, view_of_map)
 
 -- no steps lead on from a scalar
 pub scalar_steps : (ss : List Step) (kind : Kind) (text : List ℕ) → false ≡ eqb (length ss) 0 → None ≡ summary_in_head ss (Some (tree.scalar None kind text))
@@ -168,9 +159,7 @@ head_agrees s d c k q w steps left p h e found head =
     let ls : List Line = lines_of_rows k.document.stand.rows in
     let l = located s d k.document.stand q w in
     let same : h ≡ l.line.head = head ∙ sym (row_takes s d k.document.stand q l (head_takes ls steps left p (line_number d k.document.stand.rows q) l.line e found l.is)) in
-    ap (summary_in_head left) same
-    ∙ (sym (ap (λ (o : Option Line). o >>= λ x. summary_in_head left x.head) l.is)
-    ∙ (ap (λ (o : Option ℕ). line_or o (summary_in_line ls left) (summary_of_lines ls p)) found ∙ ap (λ (o : Option (NodePlace × List Step)). o >>= λ x. place_node ls x.0 x.1) e))
+    search rules
 
 -- in a document of a text
 pub node_is : (c : Cut) (n : ℕ) (steps : List Step) (k : ℕ) → all_documents c ≡ true → (slice_get (document_parts c) n >>= λ p. node_among steps k c p.rows) ≡ option_map node_summary (node_in n steps c)
@@ -206,10 +195,5 @@ pub none_agrees : (o : Option Node) → None ≡ option_map node_summary o → f
 none_agrees None e = refl
 none_agrees (Some n) e = absurd (cc)
 
-map_take : {A B : Type 0} (f : A → B) (n : ℕ) (xs : List A) → map f (take n xs) ≡ take n (map f xs)
-map_take f zero xs = refl
-map_take f (suc n) [] = refl
-map_take f (suc n) (x ∷ xs) = ap (λ ys. f x ∷ ys) (map_take f n xs)
-
 pub steps_above : {A : Type 0} (f : A → Step) (xs : List A) (n : ℕ) → n ≡ length xs - 1 → map f (take n xs) ≡ take (length (map f xs) - 1) (map f xs)
-steps_above f xs n e = map_take f n xs ∙ ap (λ (k : ℕ). take k (map f xs)) (omega (arith, e, length-map xs f))
+steps_above f xs n e = sym (take-map f n xs) ∙ ap (λ (k : ℕ). take k (map f xs)) (omega (arith, e, length-map xs f))

@@ -1,13 +1,13 @@
 -- What is known of the node at a path, where it is written among lines.
-use Rattle.std.proofs.Common.{◌≡◌, ℕ, suc, ◌+◌, eqb, Bool, true, false, cond, List, [], ◌∷◌, length, Option, Some, None, option_map}
-use Rattle.std.{proofs.Common.{option_and_then, refl, sym, ap, ◌∙◌, arith}, proofs.lemmas.Bool.{eq-eqb, false≢true}, specs.List.slice_get}
+use Rattle.std.proofs.Common.{rules, ◌≡◌, ℕ, suc, ◌+◌, eqb, Bool, true, false, cond, List, [], ◌∷◌, length, Option, Some, None, option_map}
+use Rattle.std.{proofs.Common.{refl, sym, ap, ◌∙◌, arith}, proofs.lemmas.Bool.{eq-eqb, false≢true}, specs.List.slice_get}
 use Rattle.std.specs.Prelude.{is_some}
 use Rattle.yq_core.{specs.Answers.◌>>=◌, specs.Paths.{Step, node_at}, specs.Tree.{Node, child}}
-use Rattle.yq_outline.{specs.Ends.{found_line, line_at_steps, lines_end, part}, specs.Group.{group, level_or, is_fine}}
+use Rattle.yq_outline.{specs.Ends.{line_at_steps, lines_end, part}, specs.Group.{group, level_or, is_fine}}
 use Rattle.yq_outline.specs.Outline.{LineMark, Bare, Key, Dash, Line, level, Outline, end, row, IsEven, IsWhole, anchored, head_or, label}
 use Rattle.yq_outline.{specs.Outline.{outline_node, shaped, children, value}, specs.Places.{lines_before, FoundLine, content_under, find}}
 use Rattle.yq_outline.{specs.Positions.{has_no_mark, begins_with_node}, proofs.Decides.even_from}
-use Rattle.yq_outline.{proofs.Finding.{FoundNode, node-anchored, path_node}, proofs.NameLaws.part-all, specs.RowWalk.lines_stop}
+use Rattle.yq_outline.{proofs.Finding.{FoundNode, node-anchored, path_node}, proofs.NameLaws.part-all}
 use Rattle.yq_places.specs.NodesAt.{node_summary}
 use Rattle.yq_places.specs.NodeReading.{NodePlace, at_head, at_lines, line_place, line_with_steps, node_place, summary_in_head}
 use Rattle.yq_places.{specs.NodeReading.{summary_in_line, line_or, place_node, said_at}, proofs.FlowPieces.head_there}
@@ -81,24 +81,13 @@ module _ {A : Type 0} (head : ℕ → Option A) (lines : ℕ → ℕ → Option 
       next = omega arith
 
       go : (b : Bool) → cond b (head n) (lines (suc n) (lines_end n ls)) ≡ said_at head lines ls (cond b (at_head n) (at_lines (n + 1) (level l)), [])
-      go true = refl
-      go false = ap (lines (suc n)) (sym (line_stop ls n l is)) ∙ (λ i. lines (next i) (lines_stop (next i) (level l) ls))
+      go b = search (rules, line_stop, next)
 
   pub node_said : (along : List Step → Option A) → along [] ≡ lines 0 (length ls) →
       ((s : Step) (ss : List Step) → along (s ∷ ss) ≡ (line_at_steps (s ∷ ss) ls >>= Under)) → (steps : List Step) →
       along steps ≡ (node_place steps ls >>= said_at head lines ls)
   node_said along none some [] = none ∙ ap (lines 0) (sym (all_stop ls))
-  node_said along none some (s ∷ ss) = some s ss ∙ go (find s ss (group ls)) refl
-    where
-      go : (r : Option (FoundLine × List Step)) → find s ss (group ls) ≡ r → (option_and_then (λ (x : FoundLine × List Step). found_line x.0 x.1) r >>= Under) ≡
-          ((option_map numbered r >>= λ x. line_with_steps x.0 x.1 (slice_get ls x.0)) >>= said_at head lines ls)
-      go None is = refl
-      go (Some (f, [])) is =
-          let n : ℕ = length (lines_before f.place) in
-          let there = (found_in_lines s ss [] ls f is).0 in
-          ap (λ (o : Option Line). o >>= λ l. cond (is_some l.head) (head n) (lines (suc n) (lines_end n ls))) there
-          ∙ (under_said n f.line there ∙ sym (ap (λ (o : Option Line). line_with_steps n [] o >>= said_at head lines ls) there))
-      go (Some (f, t ∷ ts)) is = sym (ap (λ (o : Option Line). line_with_steps (length (lines_before f.place)) (t ∷ ts) o >>= said_at head lines ls) (found_in_lines s ss (t ∷ ts) ls f is).0)
+  node_said along none some (s ∷ ss) = search (rules, numbered, found_in_lines, under_said)
 
   module _ (along : List Step → Option A) (none : along [] ≡ lines 0 (length ls)) (some : (s : Step) (ss : List Step) → along (s ∷ ss) ≡ (line_at_steps (s ∷ ss) ls >>= Under)) (steps : List Step) where
     pub said_nowhere : None ≡ node_place steps ls → None ≡ along steps

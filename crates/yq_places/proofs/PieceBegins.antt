@@ -54,9 +54,7 @@ item_begins (Some y) e x h k =
     search (rules, further y.before (key_text y.key []) x (node_begins (y.before ++ key_text y.key []) y.node y.behind x k), same_Some)
 
 part_begins : (ss : List Step) (o : Option BlockEntry) (e x : TextPiece) → (o >>= piece_in_entry parts.Entry ss) ≡ Some e → (o >>= piece_in_entry parts.Content ss) ≡ Some x → From e.before x
-part_begins ss None e x h k = absurd (none-some _ h)
-part_begins [] (Some y) e x h k = let f = content_begins y x k in (f.0, f.1 ∙ ap (λ (p : TextPiece). p.before ++ f.0) (same_Some _ _ h))
-part_begins (t ∷ ts) (Some y) e x h k = search (rules, none-some, item_begins)
+part_begins ss o e x h k = search (rules, none-some, content_begins, same_Some, item_begins)
 
 found_begins : (s : PrintedDocument) (o : Option (FoundLine × List Step)) (e x : TextPiece) → (o >>= λ f. found_entry s f.0 >>= piece_in_entry parts.Entry f.1) ≡ Some e →
     (o >>= λ f. found_entry s f.0 >>= piece_in_entry parts.Content f.1) ≡ Some x → From e.before x

@@ -18,8 +18,8 @@ use Rattle.yq_outline.{specs.Places.{FoundLine, find}, specs.Positions.has_no_ma
 use Rattle.yq_outline.proofs.Finding.{entry_of, labelled_path}
 use Rattle.yq_places.proofs.RowPathLaws.{found_place, document_fine}
 use Rattle.yq_places.specs.PrintedLines.{line_front, PrintedLine, print_line, print_lines, line_in, run_piece, lines_piece}
-use Rattle.yq_places.specs.PathPieces.{BlockEntry, content_piece, FlowEntry, flow_at, line_inline, flow_content, PrintedDocument}
-use Rattle.yq_places.specs.PathPieces.{printed_document, found_entry, piece_in_entry, piece_in}
+use Rattle.yq_places.specs.PathPieces.{BlockEntry, content_piece, flow_at, line_inline, PrintedDocument, printed_document, found_entry}
+use Rattle.yq_places.specs.PathPieces.{piece_in_entry, piece_in}
 use Rattle.yq_places.specs.PieceLaws.{IsInlinePiece, IsLineRun, SpellsTree, SpellsNode, IsEntryRun, IsFlowPiece, ContentsSpell}
 use Rattle.yq_places.{specs.PieceLaws.{EntriesSpell, LinesStand}, proofs.PrintedTexts.{map_some, lines_then, lines_append}}
 use Rattle.yq_places.proofs.PieceTexts.{document_whole}
@@ -80,10 +80,7 @@ block_spells s before (l ∷ ls) behind x (row k u a) m path_inside e as_printed
     first = cc
 
     go : (b : Bool) → has_no_mark l.line.mark ≡ b → cond b (head_piece (before ++ (line_front l ++ l.mark)) l.content (print_lines ls behind)) (Some (run_piece before l ls behind)) ≡ Some x → SpellsNode s x (value (row k u a))
-    go true t e =
-        let bare = sym (ap (λ (j : Line). j.mark) first) ∙ bare_is l.line.mark t in
-        subst (SpellsNode s x) (ap (λ (j : Line). outlines.anchored j.anchor (head_or j.head (value u))) first ∙ sym (ap (λ (m : LineMark). outlines.outline_node m (outlines.children (row k u a))) bare))
-        (line_spells s (before ++ (line_front l ++ l.mark)) l (print_lines ls behind) x as_printed.0 e (value u))
+    go true t e = search (rules, first, bare_is, line_spells)
     go false t e = record {
       anchor = None;
       tree = value (row k u a);
@@ -110,15 +107,10 @@ content_spells s e f x m h even is = go e.line.line.head refl is
         cond (is_some o) (head_piece (e.before ++ (line_front e.line ++ e.line.mark)) e.line.content (print_lines e.under e.behind))
         (lines_piece (e.before ++ print_line e.line []) e.under e.behind) ≡ Some x →
         SpellsNode s x (places.content_under f.line f.under)
-    go (Some k) head is =
-        subst (λ (j : Line). SpellsNode s x (outlines.anchored j.anchor (head_or j.head (value f.under)))) h.line
-        (line_spells s (e.before ++ (line_front e.line ++ e.line.mark)) e.line (print_lines e.under e.behind) x h.as_printed.0 is (value f.under))
+    go (Some k) head is = search (rules, line_spells)
     go None head is =
         subst (SpellsNode s x) (ap (λ j. outlines.anchored f.line.anchor (head_or j (value f.under))) (sym head ∙ ap (λ (j : Line). j.head) h.line))
         (behind_anchor s f.line.anchor x (value f.under) (block_spells s (e.before ++ print_line e.line []) e.under e.behind x f.under m (under_in s e h.inside) is h.as_printed.1 h.lines even))
-
-pub value_spells : (s : PrintedDocument) (x : FlowEntry) (p : TextPiece) → flow_content x ≡ Some p → IsValid x.node x.behind → SpellsNode s p (tree_of x.node)
-value_spells s x p e v = search (rules, node_spells, head_tree)
 
 -- what a part says of a node with its label
 abbrev pub Says : PrintedDocument → WhichPart → TextPiece → Labelled → Type 0
@@ -144,7 +136,7 @@ part_spells s parts.Content (t ∷ ts) e f x h head even is =
     let k = bind_some (line_inline e) is in
     let y = bind_some (flow_at (t ∷ ts) k.0) k.2 in
     let at = head_item_at s t ts e f head.0 k.0 y.0 h head.1 k.1 y.1 in
-    (_, at.labelled, value_spells s y.0 x y.2 (true, Some 0, at.valid.0, at.valid.1))
+    (_, at.labelled, search (rules, node_spells, head_tree))
 part_spells s parts.Entry [] e f x h head even is = search (rules, run_of, same_Some)
 part_spells s parts.Entry (t ∷ ts) e f x h head even is =
     let k = bind_some (line_inline e) is in

@@ -94,9 +94,7 @@ items_whole k s before (item key n sep is) behind x e = go (is_here s (key_label
 under_whole : (s : Step) (before : List ℕ) (node : FlowNode) (behind : List ℕ) (x : FlowEntry) → flow_under s before node behind ≡ Some x → item_text x ≡ before ++ node_text node behind
 unfolding node_text
 under_whole s before (coll k gap is) behind x e = items_whole k s (before ++ opening_bracket k ∷ gap) is behind x e ∙ append_assoc before (opening_bracket k ∷ gap) (flow_items_text k is behind)
-under_whole s before (anchored n gap node) behind x e =
-    under_whole s (before ++ 38 ∷ (n ++ gap)) node behind x e
-    ∙ (append_assoc before (38 ∷ (n ++ gap)) (node_text node behind) ∙ ap (λ l. before ++ (38 ∷ l)) (append_assoc n gap (node_text node behind)))
+under_whole s before (anchored n gap node) behind x e = search (rules, append_assoc, under_whole s (before ++ 38 ∷ (n ++ gap)) node behind x e)
 under_whole s before _ behind x e = absurd (none-some _ e)
 
 pub at_whole : (ss : List Step) (x y : FlowEntry) → flow_at ss x ≡ Some y → item_text y ≡ item_text x
@@ -125,8 +123,7 @@ tail_whole before tail behind x e = go (front (λ b. eqb b 35) (past_white tail)
 
     go : (b : Bool) → cond b (Some (record { before = before ++ (cut no_white tail).0; text = (cut ends_line (past_white tail)).0; behind = (cut ends_line (past_white tail)).1 ++ behind })) None ≡ Some x →
         piece_text x ≡ before ++ (tail ++ behind)
-    go true e = ap piece_text (sym (same_Some _ _ e)) ∙ whole
-    go false e = absurd (none-some _ e)
+    go b e = search (rules, same_Some, whole, none-some)
 
 pub tail_text : (before : List ℕ) (c : Content) (behind : List ℕ) →
     (before ++ ((content_cut c).0 ++ ((content_cut c).1 ++ ((content_cut c).2 ++ (content_cut c).3)))) ++ ((content_cut c).4 ++ ((content_cut c).5 ++ behind)) ≡ before ++ content_text c behind
@@ -158,8 +155,7 @@ entry_piece_whole parts.Entry (s ∷ ss) e x is =
     let y = map_some (flow_at (s ∷ ss) h.0) h.2 in
     ap piece_text (sym y.2) ∙ (item_is y.0 ∙ (at_whole (s ∷ ss) h.0 y.0 y.1 ∙ in_line_whole e h.0 h.1))
 entry_piece_whole parts.HeadComment [] e x is = search (rules, gap_whole, append_assoc)
-entry_piece_whole parts.LineComment [] e x is =
-    comment_whole (e.before ++ (line_front e.line ++ e.line.mark)) e.line.content (print_lines e.under e.behind) x is ∙ simp append_assoc refl
+entry_piece_whole parts.LineComment [] e x is = search (rules, comment_whole, append_assoc)
 entry_piece_whole y (s ∷ ss) e x is = absurd (none-some _ is)
 
 -- the lines of a document with the text before and after them

@@ -57,7 +57,6 @@ gap_behind n c d some back e rows more there = go back refl (subst (λ (y : Plac
 -- the last of several rows
 pub last_row : (k : ℕ) (rs : List Row) → 0 < k → k ≤ length rs → (r : Row) × (slice_get rs (k - 1) ≡ Some r) × (last_block (take k rs) ≡ block_of r.content)
 last_row zero rs h less = absurd (omega (arith, h))
-last_row (suc k) [] h less = absurd (omega (arith, less))
 last_row (suc zero) (r ∷ rs) h less = (r, refl, refl)
-last_row (suc (suc k)) (r ∷ []) h less = absurd (omega (arith, less))
 last_row (suc (suc k)) (r ∷ (q ∷ rs)) h less = search (rules, last_row (suc k) (q ∷ rs) (omega arith) (omega (arith, less)))
+last_row _ _ h less = absurd (omega (arith, less))

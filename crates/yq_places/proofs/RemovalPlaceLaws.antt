@@ -5,7 +5,7 @@ use Rattle.std.proofs.Math.Seq.{drop-append_seam, take-append_seam}
 use Rattle.std.proofs.lemmas.Bool.{cond-true, cond-false, eq-eqb, ne_eqb, eqb-true, ltb-true}
 use Rattle.std.{proofs.lemmas.List.{length-drop, take-append-drop}, proofs.lemmas.Option.{cond_some, same_Some}}
 use Rattle.std.{proofs.lemmas.Str.IsCharBoundary-at_seam, specs.List.slice_get, specs.Str.{IsUtf8, IsCharBoundary}}
-use Rattle.yq_core.{specs.Answers.◌>>=◌, specs.Paths.Step, specs.Lines.is_blank, specs.Text.{joined, text_lines}, proofs.Bools.bind_some}
+use Rattle.yq_core.{specs.Answers.◌>>=◌, specs.Paths.Step, specs.Text.{joined, text_lines}, proofs.Bools.bind_some}
 use Rattle.yq_outline.{specs.Comments.head_comment, specs.Ends.{line_at_steps, lines_end}, specs.Outline.Line}
 use Rattle.yq_outline.{specs.Lines.{lines_from, row_lines, lines_of_rows}, specs.RowWalk.line_number}
 use Rattle.yq_outline.{specs.declared.line_position.Position.Position, specs.declared.line_position.Stretch.Stretch}
@@ -33,9 +33,6 @@ pub rest_is : (gap run : List ℕ) → text_lines run ≡ last_run (text_lines g
 rest_is gap run e = (λ i. drop (kept_length gap run e i) (gap_is gap run e i)) ∙ (drop-append_seam (joined (before_run (text_lines gap))) run ∙ sym (run_is gap run e))
 
 -- ---- lists cut in two
-
-three_whole : (i n : ℕ) (rs : List Row) → rs ≡ take i rs ++ (take n (drop i rs) ++ drop n (drop i rs))
-three_whole i n rs = sym (ap (λ (x : List Row). take i rs ++ x) (take-append-drop n (drop i rs)) ∙ take-append-drop i rs)
 
 -- ---- the row of a line
 
@@ -109,9 +106,6 @@ pub record OwnStand (rs : List Row) (x : OwnRows) : Type 0 where
   pub rows_are : rs ≡ x.front ++ (x.own ++ x.back)
   pub some : no_rows x.own ≡ false
 
-some_own : (k : ℕ) (rs : List Row) → 0 < k → 0 < length rs → no_rows (take (row_count k rs) rs) ≡ false
-some_own k rs h e = search (rules, arith)
-
 own_line : (steps : List Step) (rs : List Row) (x : OwnRows) → own_rows steps rs ≡ Some x → (n : ℕ) × (q : RowLine) × OwnLine steps rs n q
 own_line steps rs x e = search (rules, bind_some, cond_some, eqb-true)
 
@@ -123,7 +117,7 @@ own_stands steps rs x e =
     let at = row_line_in n rs q l.2.row in
     let left : length (drop q.before rs) ≡ length rs - q.before = length-drop q.before rs in
     let lines : 0 < length (lines_of_rows (drop q.before rs)) = some_lines (drop q.before rs) (omega (arith, left, at.0)) in
-    search (rules, end_past, same_Some, own_is, three_whole, some_own, arith)
+    search (rules, end_past, same_Some, own_is, take-append-drop, arith)
 
 -- what the code counts
 pub own_agrees : (d : Stretch) (rs : List Row) (steps : List Step) (q e : Position) (r : Row) →
@@ -139,9 +133,7 @@ own_agrees d rs steps q e r line there from none last less within end =
     let left : length (drop i rs) ≡ length rs - i = length-drop i rs in
     let size : k ≡ length (lines_of_rows (take (j - i) (drop i rs))) = omega (arith, end, none, last, lines_between i j rs (omega (arith, less))) in
     let count : row_count k (drop i rs) ≡ j - i = ap (λ (m : ℕ). row_count m (drop i rs)) size ∙ count_rows (j - i) (drop i rs) (omega (arith, left, within)) in
-    let front : length (take i rs) ≡ i = length-take-le i rs (omega (arith, within, less, from)) in
     let own : length (take (row_count k (drop i rs)) (drop i rs)) ≡ j - i = ap (λ (m : ℕ). length (take m (drop i rs))) count ∙ length-take-le (j - i) (drop i rs) (omega (arith, left, within)) in
-    let begin : q.row ≡ d.first + length (take i rs) = omega (arith, front, from) in
     search (rules, own_is, arith)
 
 -- no line, or none that begins a row
@@ -152,12 +144,6 @@ pub not_own : (first n : ℕ) (rs : List Row) (steps : List Step) (q : RowLine) 
 not_own first n rs steps q line is some = search (rules, cond-false, ne_eqb)
 
 -- ---- the loops
-
-pub held_here : (l : List ℕ) (ls : List (List ℕ)) → is_blank l ≡ false → hold_comment (l ∷ ls) ≡ true
-held_here l ls e = rw e refl
-
-pub held_on : (l : List ℕ) (ls : List (List ℕ)) → is_blank l ≡ true → hold_comment (l ∷ ls) ≡ hold_comment ls
-held_on l ls e = rw e refl
 
 pub none_held : (t : List ℕ) → t ≡ [] → hold_comment (text_lines t) ≡ false
 unfolding Rattle.yq_core.specs.Text.text_lines

@@ -136,14 +136,7 @@ agrees_first t s d front r rs back m h =
       gap_stops = gap_end out.gap out.behind lines.gap;
       kept = λ y e. ap (λ (z : Slices). joined (before_run (text_lines z.gap))) (same_Some _ _ (sym e ∙ at_row));
       start = omega (arith, starts, length-append d.before (rows_text front []), length-append d.before (rows_text front kept), ap length front_text, length-append (rows_text front []) kept);
-      stop = omega (
-        arith,
-        before_last,
-        length-append d.before (rows_text (take (length front + length own - 1) d.part.rows) []),
-        through,
-        whole,
-        parts,
-      );
+      stop = omega (arith, before_last, length-append d.before (rows_text (take (length front + length own - 1) d.part.rows) []), through, whole, parts);
       gap = (λ i. gap_counts ((end_is ∙ sizes front own k) i) (h.rows_view_is i))
           ∙ gap_behind n c d (front ++ own) back h.placed (h.rows_are ∙ sym (append_assoc front own back)) (omega (arith, length-append front own))
           (λ q qs is. ap (slice_get (rows_of c)) (sym (sizes front own k) ∙ three k front own)

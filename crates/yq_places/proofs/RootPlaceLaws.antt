@@ -1,6 +1,6 @@
 -- Where a document ends in which no rows are, as the code counts it.
-use Rattle.std.proofs.Common.{◌≡◌, ℕ, zero, suc, ◌+◌, List, [], ◌∷◌, ◌++◌, length, map, take, drop, Option, Some, None, option_map, true}
-use Rattle.std.proofs.Common.{false, refl, sym, ap, ◌∙◌, subst, arith, append_assoc, append-nil, length-append}
+use Rattle.std.proofs.Common.{rules, ◌≡◌, ℕ, zero, suc, ◌+◌, List, [], ◌++◌, length, map, take, drop, Option, Some, None, option_map, true}
+use Rattle.std.proofs.Common.{refl, sym, ap, ◌∙◌, subst, arith, append_assoc, append-nil, length-append}
 use Rattle.std.proofs.Math.Seq.{drop-append_seam, take-append_seam, take-append-add}
 use Rattle.std.{proofs.lemmas.Bool.{false≢true, cond-true, cond-false}, proofs.lemmas.List.{length-map, map-append, nil_from_length}}
 use Rattle.std.{proofs.lemmas.List.Sums.{sum_by-cons, sum_by-append}, proofs.lemmas.Option.same_Some, specs.List.{slice_get, sum_by}}
@@ -58,8 +58,7 @@ ends_at (suc i) n (marked p marker c) b e =
 -- ---- documents that were found
 
 pub no_end : (c : Cut) (i : ℕ) → None ≡ document_part i c → None ≡ rowless_at i c
-no_end c i e =
-    sym (ap (λ (o : Option Part). option_map (λ (x : TextPiece). length x.before) (option_map (λ (p : Part). placed_at (part_number i c) c) o >>= if_rowless)) (document_missing c i e))
+no_end c i e = search (rules, document_missing)
 
 -- where a document ends, by the bound of its part
 module _ (s : RowsView) (c : Cut) (i k first : ℕ) (b : Bound) (is : s ≡ rows_view c) (number : Some k ≡ document_part i c) (from : first ≡ rows_to k c) (bound : slice_get s.bounds k ≡ Some b) where
@@ -75,20 +74,10 @@ module _ (s : RowsView) (c : Cut) (i k first : ℕ) (b : Bound) (is : s ≡ rows
       ap (λ (o : Option Part). option_map (λ (p : Part). placed_at (part_number i c) c) o >>= if_rowless) d.1 ∙ ap (λ j. if_rowless (placed_at j c)) (sym d.2)
 
   pub written_none : (first ≡ b.rows → ⊥) → None ≡ rowless_at i c
-  written_none some = sym (ap (option_map (λ (x : TextPiece). length x.before)) (placed ∙ cond-false _ _ _ (go (nth_part k c).rows refl)))
-    where
-      go : (rs : List Row) → (nth_part k c).rows ≡ rs → no_rows rs ≡ false
-      go [] none = absurd (some (omega (arith, from, size, ap length none)))
-      go (r ∷ rs) none = refl
+  written_none some = search (rules, placed, cond-false, size)
 
   pub end_there : first ≡ b.rows → Some (part_end k b s) ≡ rowless_at i c
-  end_there none =
-      let rows : (nth_part k c).rows ≡ [] = nil_from_length (nth_part k c).rows (omega (arith, none, from, size)) in
-      let lengths : part_end k b s ≡ length (before_part k c ++ part_text (nth_part k c) []) =
-      (λ j. sum_by row_length (take (size j) (is j).rows) + sum_by bound_length (take k (is j).bounds) + length b.end) ∙ ends_at k 0 c b at in
-      let text : part_text (nth_part k c) [] ≡ (nth_part k c).end = ap (λ (rs : List Row). rows_text rs ((nth_part k c).end ++ [])) rows ∙ append-nil (nth_part k c).end in
-      ap Some (lengths ∙ ap (λ x. length (before_part k c ++ x)) text)
-      ∙ sym (ap (option_map (λ (x : TextPiece). length x.before)) (placed ∙ cond-true _ _ _ (ap no_rows rows)))
+  end_there h0 = search (rules, nil_from_length, size, ends_at, append-nil, placed, cond-true)
 
 -- ---- the place in the text
 
@@ -115,8 +104,7 @@ unwritten_is t i w cut e =
     })
   where
     none_left : (rs : List Row) → no_rows rs ≡ true → rs ≡ []
-    none_left [] e = refl
-    none_left (r ∷ rs) e = absurd (false≢true e)
+    none_left rs e = search (rules, false≢true)
 
 pub unwritten_boundary : (t : List ℕ) (i end : ℕ) → IsCut t (cut_of t) → IsUtf8 t → Some end ≡ rowless_at i (cut_of t) → IsCharBoundary t end
 unwritten_boundary t i end cut u e =
@@ -129,6 +117,4 @@ pub rowless_agrees : (t : List ℕ) (i end : ℕ) (before behind : List ℕ) →
 rowless_agrees t i end before behind cut e first second =
     let w = map_some (λ (x : TextPiece). length x.before) (rowless_place i (cut_of t)) end (sym e) in
     let x = unwritten_is t i w.0 cut w.1 in
-    let a : before ≡ w.0.before = first ∙ ((λ j. take (sym w.2 j) (x.text j)) ∙ take-append_seam w.0.before w.0.behind) in
-    let b : behind ≡ w.0.behind = second ∙ ((λ j. drop (sym w.2 j) (x.text j)) ∙ drop-append_seam w.0.before w.0.behind) in
-    (λ j. Some (record { before = a j; text = sym x.none j; behind = b j })) ∙ sym w.1
+    search (rules, take-append_seam, drop-append_seam, x.text)

@@ -9,8 +9,8 @@ use Rattle.yq_row_table.specs.View.{Slices, slices, RowsView, rows_view}
 use Rattle.yq_documents.{specs.LinesInRows.document_row, specs.Pieces.TextPiece, specs.Reading.cut_of}
 use Rattle.yq_places.{specs.EntryReading.{before_line, line_begin}, specs.PlacedRows.{PlacedPart, placed_document}}
 use Rattle.yq_places.{specs.RootReading.{if_rowless, rowless_at, rowless_place}, specs.RowWalk.document_row_range}
-use Rattle.yq_places.specs.Standings.{LinesIn, RowsOfEntry, alone, before_entry, behind_entry, is_alone, lone, no_rows, root, root_lines}
-use Rattle.yq_places.{specs.Standings.{root_standing, standing_at}, specs.StandingReading.{EndsRows, IsRootOf, root_entry, rows_lines}}
+use Rattle.yq_places.specs.Standings.{RowsOfEntry, alone, before_entry, behind_entry, is_alone, lone, no_rows, root, root_lines}
+use Rattle.yq_places.{specs.Standings.{root_standing, standing_at}, specs.StandingReading.{EndsRows, IsRootOf, root_entry}}
 use Rattle.yq_places.{proofs.EntryRowLaws.{first_at, pieces_at}, proofs.PlacedPartLaws.placed_is}
 use Rattle.yq_places.{proofs.PlacedRowLaws.{document_placed, part_of}, proofs.RowStarts.line_begins, proofs.SeamLaws.line_boundary}
 use Rattle.yq_places.proofs.WalkDocuments.{Found}
@@ -110,17 +110,17 @@ module _ (t : List ℕ) (s : RowsView) (d : Stretch) (h : IsRootOf t s d) where
     abbrev own : List ℕ
     own = behind_indent h.row (rows_text h.under [])
 
-    through : before_entry e ++ print_row h.row (rows_text h.under []) ≡ before ++ own
+    pub through : before_entry e ++ print_row h.row (rows_text h.under []) ≡ before ++ own
     through =
         let parts : h.part.before ++ (h.row.gap ++ (replicate h.row.column 32 ++ own)) ≡ before ++ own = simp append_assoc refl in
         ap (λ (x : List ℕ). x ++ print_row h.row (rows_text h.under [])) (append-nil h.part.before) ∙ parts
 
-    begins : start ≡ length (before_line d.first 0 h.row (cut_of t))
+    pub begins : start ≡ length (before_line d.first 0 h.row (cut_of t))
     begins = start_agrees (slices h.row) (pieces_at t s e d.first d.end h.is)
         ∙ (ap (λ (x : RowsView). line_begin (row_start d.first x) (slices h.row) 0) h.is.rows_view_is
         ∙ line_begins (cut_of t) d.first 0 h.row (first_at t s e d.first d.end h.is).there (omega arith))
 
-    pub root_ends : EndsRows t s start d.end
+    abbrev pub root_ends : EndsRows t s start d.end
     root_ends =
         let c : Cut = cut_of t in
         let at = first_at t s e d.first d.end h.is in
@@ -136,7 +136,3 @@ module _ (t : List ℕ) (s : RowsView) (d : Stretch) (h : IsRootOf t s d) where
           from_is = begins ∙ ap length front;
           starts = subst (λ (z : List ℕ). IsCharBoundary z start) (sym h.is.cut.text) (subst (IsCharBoundary (cut_text c)) (sym begins) (line_boundary c d.first 0 h.row (subst IsUtf8 h.is.cut.text u) h.is.cut.parts at.there));
         }
-
-    pub lines_there : (lower : LinesIn) → ((k : EndsRows t s start d.end) → lower ≡ rows_lines k) → lower ≡ root_lines h.part h.row h.under
-    unfolding root_ends
-    lines_there lower says = says root_ends

@@ -88,10 +88,7 @@ row_seam (marked p marker c) i started r h is = go (cases_lt i (length p.rows)) 
   where
     go : (i < length p.rows) ⊎ (length p.rows ≤ i) → (slice_get (rows_of c) (i - length p.rows) ≡ Some r → IsSeam (before_row (i - length p.rows) c) (print_row r (behind_row (i - length p.rows) c))) →
         IsSeam (before_row i (marked p marker c)) (print_row r (behind_row i (marked p marker c)))
-    go (inl here) again =
-        let there : slice_get p.rows i ≡ Some r = slice_front p.rows (rows_of c) i r here is in
-        rw (lt-ltb i (length p.rows) here)
-        (subst (IsSeam (rows_text (take i p.rows) [])) (row_first p.rows i r (p.end ++ (marker ++ cut_text c)) there) (rows_seam p.rows i unlimited p.end (marker ++ cut_text c) h.0.rows))
+    go (inl here) again = search (rules, slice_front, lt-ltb, row_first, rows_seam)
     go (inr past) again =
         let test : ltb i (length p.rows) ≡ false = le-ltb i (length p.rows) past in
         let there : slice_get (rows_of c) (i - length p.rows) ≡ Some r = slice_back p.rows (rows_of c) i r past is in
@@ -99,9 +96,7 @@ row_seam (marked p marker c) i started r h is = go (cases_lt i (length p.rows)) 
         let text : List ℕ = print_row r (behind_row (i - length p.rows) c) in
         let whole : cut_text c ≡ before ++ text = row_place c (i - length p.rows) r there in
         let inner : IsSeam (marker ++ before) text = seam_then marker before text (subst (IsSeam marker) whole (marker_seam marker (cut_text c) h.1)) (again there) in
-        let first : IsSeam (part_text p []) ((marker ++ before) ++ text) =
-        subst (IsSeam (part_text p [])) (ap (λ (x : List ℕ). marker ++ x) whole ∙ sym (append_assoc marker before text))
-        (part_seam p.rows unlimited p.end (marker ++ cut_text c) h.0.rows) in
+        let first : IsSeam (part_text p []) ((marker ++ before) ++ text) = search (rules, append_assoc, part_seam) in
         rw test (subst (λ (q : List ℕ). IsSeam q text) (sym (part_then p [] (marker ++ before))) (seam_then (part_text p []) (marker ++ before) text first inner))
 
 -- the beginning of a line

@@ -1,7 +1,7 @@
 -- The steps of a document, row by row.
-use Rattle.std.proofs.Common.{rules, ◌≡◌, ℕ, suc, ◌+◌, ◌-◌, ◌*◌, ◌/◌, ◌%◌, ◌<◌, ◌≤◌, eqb, ltb, ◌&&◌, Bool, true, false, cond, List, [], ◌∷◌}
-use Rattle.std.proofs.Common.{◌++◌, length, drop, Some, refl, sym, ap, ◌∙◌, arith}
-use Rattle.std.{proofs.lemmas.Bool.{cases_Bool, eq-eqb, ne_eqb, ltb-true}, proofs.lemmas.Option.same_Some, specs.List.slice_get}
+use Rattle.std.proofs.Common.{rules, ◌≡◌, ℕ, suc, ◌+◌, ◌-◌, ◌*◌, ◌/◌, ◌%◌, ◌<◌, ◌≤◌, eqb, Bool, true, false, cond, List, [], ◌∷◌, ◌++◌}
+use Rattle.std.{proofs.Common.{length, drop, Some, refl, sym, ap, ◌∙◌, arith}, proofs.lemmas.Bool.{cases_Bool, eq-eqb, ne_eqb, ltb-true}}
+use Rattle.std.{proofs.lemmas.Option.same_Some, specs.List.slice_get}
 use Rattle.yq_outline.{specs.Outline.{LineMark, Line, level, rank}, specs.Lines.{dash_line, lines_from, row_lines, lines_of_rows}}
 use Rattle.yq_outline.{specs.Extents.lines_before_mark, specs.RowWalk.{HasRows, line_level}, specs.declared.line_position.Stretch.Stretch}
 use Rattle.yq_outline.{proofs.EndsLaws.drop_at, proofs.WalkLevels.{RowAgrees, line_in, level_is}, proofs.WalkPositions.{Located, located}}
@@ -10,7 +10,6 @@ use Rattle.yq_places.specs.StepReading.{begins_under_level}
 use Rattle.yq_places.{specs.Steps.{steps_in, steps_of_part, document_steps, is_key, is_kind, first_step}, proofs.WalkDocuments.Found}
 use Rattle.yq_outline.specs.Comments as comments
 use Rattle.yq_row_table.specs.Rows as rows
-use Rattle.yq_places.specs.Steps as spec
 
 -- the step of the first collection that begins under a key, in lines after one of a level
 abbrev pub step_behind : (dashes : Bool) → ℕ → List Line → ℕ
@@ -24,36 +23,24 @@ key_agrees m column = search (rules, arith, ne_eqb, eq-eqb)
 kind_agrees : (dashes : Bool) (m : LineMark) (column : ℕ) → is_kind dashes m ≡ eqb ((3 * column + rank m) % 3) (cond dashes 0 2)
 kind_agrees dashes m column = search (rules, arith, ne_eqb, eq-eqb)
 
-begins_agrees : (dashes : Bool) (l m : Line) → spec.begins_under (is_kind dashes) l m ≡ begins_under_level dashes (level l) (level m)
-unfolding level
-begins_agrees dashes l m = λ i. key_agrees l.mark l.column i && (kind_agrees dashes m.mark m.column i && ltb (level l) (level m))
-
--- by how many columns a collection is deeper than its key
-columns_agrees : (dashes : Bool) (l m : Line) → spec.begins_under (is_kind dashes) l m ≡ true → (level m - level l) / 3 ≡ m.column - l.column
-unfolding level
-columns_agrees dashes l m h = search (rules, arith, ltb-true)
-
 step_agrees : (dashes : Bool) (l : Line) (ls : List Line) → first_step (is_kind dashes) (l ∷ ls) ≡ step_behind dashes (level l) ls
+unfolding level
 step_agrees dashes l [] = refl
-step_agrees dashes l (m ∷ ms) = search (rules, cases_Bool, begins_agrees, columns_agrees, step_agrees dashes m ms)
+step_agrees dashes l (m ∷ ms) = search (rules, cases_Bool, key_agrees, kind_agrees, arith, ltb-true, step_agrees dashes m ms)
 
 pub steps_agrees : (dashes : Bool) (ls : List Line) → step_behind dashes 0 ls ≡ first_step (is_kind dashes) ls
 steps_agrees dashes [] = refl
 steps_agrees dashes (l ∷ ls) = sym (step_agrees dashes l ls)
 
--- no collection is under a dash and not on its line
-under_dash : (dashes : Bool) (above : List (List ℕ)) (column n : ℕ) → begins_under_level dashes (level (dash_line above column)) n ≡ false
-unfolding level
-under_dash dashes above column n = ap (λ b. b && (eqb (n % 3) (cond dashes 0 2) && ltb (3 * column + 3) n)) (ne_eqb ((3 * column + 3) % 3) 2 (λ e. omega (arith, e)))
-
 lines_step : (dashes : Bool) (a : ℕ) (above : List (List ℕ)) (column : ℕ) (ns : List ℕ) (m : rows.RowMark) (c : Content) (f l : Line) (ys : List Line) →
     slice_get (lines_from above column ns m c) 0 ≡ Some f → slice_get (lines_from above column ns m c) (length ns) ≡ Some l →
     step_behind dashes a (lines_from above column ns m c ++ ys) ≡ cond (begins_under_level dashes a (level f)) ((level f - a) / 3) (step_behind dashes (level l) ys)
+unfolding level
 lines_step dashes a above column [] m c f l ys first last = search (rules, same_Some)
 lines_step dashes a above column (n ∷ ns) m c f l ys first last =
     let d : Line = dash_line above column in
     let x = line_in [] (suc (column + n)) ns m c 0 (omega arith) in
-    search (rules, under_dash, same_Some, lines_step dashes (level d) [] (suc (column + n)) ns m c x.0 l ys x.1 last)
+    search (rules, eqb, ne_eqb, same_Some, lines_step dashes (level d) [] (suc (column + n)) ns m c x.0 l ys x.1 last)
 
 -- the lines of a row: only its first one can begin a collection under a key
 pub row_step : (dashes : Bool) (a n k : ℕ) (r : Row) (ys : List Line) → RowAgrees r → n ≡ line_level 0 (slices r) → k ≡ line_level (length r.dashes) (slices r) →

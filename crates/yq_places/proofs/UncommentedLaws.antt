@@ -77,7 +77,6 @@ uncommented_from (s ∷ ss) x h = go (labelled_at s (children_of x.1)) (uncommen
 
 pub uncommented_reach : (a : Option (List ℕ)) (s : Step) (ss : List Step) (n : Node) → Uncommented n → If (reach s ss (anchored a n)) (λ y. HasNone y.0)
 uncommented_reach a s ss n h =
+    let go : (r : Option Labelled) → If r IsUncommented → If (option_and_then (labelled_from ss) r) (λ y. HasNone y.0) =
+    λ r h1. search (rules, uncommented_from) in
     go (labelled_at s (children_of (anchored a n))) (uncommented_at s (children_of (anchored a n)) (uncommented_children (anchored a n) (search rules)))
-  where
-    go : (r : Option Labelled) → If r IsUncommented → If (option_and_then (labelled_from ss) r) (λ y. HasNone y.0)
-    go r h1 = search (rules, uncommented_from)

@@ -1,14 +1,13 @@
 -- What is under a line or a document, and in which row of a cut a line is.
 use Rattle.std.proofs.Common.{rules, ◌≡◌, ◌⊎◌, inl, inr, ℕ, suc, ◌+◌, ◌-◌, ◌<◌, ◌≤◌, eqb, true, false, cond, not, List, [], ◌∷◌, length}
-use Rattle.std.proofs.Common.{drop, get_or, Option, Some, None, refl, sym, ap, ◌∙◌, arith}
+use Rattle.std.proofs.Common.{get_or, Option, Some, None, refl, sym, ap, ◌∙◌, arith}
 use Rattle.std.proofs.lemmas.Bool.{cases_lt, false≢true, eq-eqb, ne_eqb, eqb-true, lt-ltb, le-ltb, cond-true, cond-false}
 use Rattle.std.{proofs.lemmas.List.drop_all, proofs.lemmas.Option.slice_get_cases, specs.List.slice_get}
 use Rattle.yq_core.{specs.Answers.◌>>=◌, specs.Paths.Step}
-use Rattle.yq_outline.{specs.Ends.{has_no_lines, part, deeper_count, lines_end}, specs.Group.{deeper_lines, group}}
-use Rattle.yq_outline.{specs.Outline.{Line, level}, proofs.EndsLaws.{drop_at, not_end, part_row, part_stop}, proofs.LineEnds.end_line}
-use Rattle.yq_outline.{proofs.NameLaws.above, specs.RowWalk.{IsLine, line_number, lines_stop}}
-use Rattle.yq_outline.{specs.declared.line_position.Position.Position, specs.declared.line_position.Stretch.Stretch}
-use Rattle.yq_outline.proofs.WalkPositions.{located}
+use Rattle.yq_outline.{specs.Ends.{has_no_lines, part, deeper_count, lines_end}, specs.Outline.{Line, level}}
+use Rattle.yq_outline.{proofs.EndsLaws.{drop_at, not_end, part_row, part_stop}, proofs.LineEnds.end_line, proofs.NameLaws.above}
+use Rattle.yq_outline.{specs.RowWalk.{IsLine, line_number, lines_stop}, specs.declared.line_position.Position.Position}
+use Rattle.yq_outline.{specs.declared.line_position.Stretch.Stretch, proofs.WalkPositions.located}
 use Rattle.yq_row_table.{specs.Rows.{Row, Cut}, specs.View.{rows_of, RowsView}}
 use Rattle.yq_documents.specs.LinesInRows.{row_line}
 use Rattle.yq_places.{specs.RowWalk.InCut, proofs.EntryPlaceLaws.row_there, proofs.WalkDocuments.row_line_number}
@@ -18,13 +17,10 @@ pub stops_here : (ls : List Line) (n floor : ℕ) → eqb n (lines_stop n floor 
 stops_here ls n floor = go ((slice_get_cases ls n).1)
   where
     go2 : (m : Line) → slice_get ls n ≡ Some m → (floor < level m) ⊎ (level m ≤ floor) → eqb n (lines_stop n floor ls) ≡ has_no_lines (part ls n floor)
-    go2 m at (inl deep) = search (rules, arith, drop_at, cond-true, lt-ltb, ne_eqb, part_row)
-    go2 m at (inr low) = search (rules, arith, drop_at, cond-false, le-ltb, eq-eqb, part_stop)
+    go2 m at deep = search (rules, drop_at, cond-true, lt-ltb, ne_eqb, part_row, cond-false, le-ltb, eq-eqb, part_stop)
 
     go : ((x : Line) × (n < length ls) × (slice_get ls n ≡ Some x) × (get_or ls n x ≡ x)) ⊎ ((length ls ≤ n) × (slice_get ls n ≡ None)) → eqb n (lines_stop n floor ls) ≡ has_no_lines (part ls n floor)
-    go (inr past) =
-        let none : drop n ls ≡ [] = drop_all n ls past.0 in
-        eq-eqb n (lines_stop n floor ls) (omega (arith, ap (deeper_count floor) none)) ∙ sym (ap has_no_lines (ap (λ (ms : List Line). deeper_lines floor (group ms)) none))
+    go (inr past) = search (rules, drop_all, eq-eqb)
     go (inl there) = go2 there.0 there.2 (cases_lt floor (level there.0))
 
 -- what is said of the first of them

@@ -2,9 +2,9 @@ use Rattle.std.{proofs.Common.{List, ℕ, [], ◌≡◌, ◌∙◌, ◌+◌, ◌
 use Rattle.yq_text.specs.Halves.{whole}
 use Rattle.yq_core.specs.Text.{is_empty}
 use Rattle.yq_row_table.specs.View.{Slices, row_view}
-use Rattle.yq_places.{specs.CommentPlaces.end_in_line, specs.Standings.compact, specs.StandingViews.lines_view}
+use Rattle.yq_places.{specs.CommentPlaces.end_in_line, specs.Standings.compact}
 use Rattle.yq_places.{proofs.EntryRowLaws.{column_fits, pieces_at, row_within, is_view}, proofs.HeldTexts.column_is}
-use Rattle.yq_places.proofs.LoneLaws.{dash_ends, dash_fits, dash_lines}
+use Rattle.yq_places.proofs.LoneLaws.{dash_ends, dash_fits}
 use Rattle.yq_outline.specs.RowWalk.{line_column}
 use Rattle.yq_places.proofs.places.entry_standing.compact_in.Goals as goal
 
@@ -27,8 +27,8 @@ returns c = λ e h.
     let s = c.args.rows.now in
     let less : e.line < length e.row.dashes = omega (arith, c.requires.dash, h.line, h.dashes) in
     let row = same_Some _ _ (sym (pieces_at t s e c.args.at.row c.args.at.end h.rows) ∙ c.row-row.ensures) in
-    let lower = dash_lines t s e c.args.at.row c.args.at.end h.rows c.is_text.ensures c.args.at.line h.line less (row_view c.row-row.result)
-    c.row-row.ensures c.line_start.result c.line_start.ensures (lines_view c.lines_from-lower.result) c.lines_from-lower.ensures in
+    let lower = c.lines_from-lower.ensures (dash_ends t s e c.args.at.row c.args.at.end h.rows c.is_text.ensures c.args.at.line h.line less (row_view c.row-row.result)
+    c.row-row.ensures c.line_start.result c.line_start.ensures) in
     let first = c.mark_of-mark.ensures.column ∙ ((λ i. line_column (h.line i) (sym row i)) ∙ column_is e.row e.line (omega (arith, less))) in
     let next : c.args.at.line + 1 ≡ suc e.line = omega (arith, h.line) in
     let second = c.line_column.ensures.value ∙ ((λ i. line_column (next i) (sym row i)) ∙ column_is e.row (suc e.line) (omega (arith, less))) in

@@ -3,7 +3,7 @@ use Rattle.yq_text.specs.Halves.{whole}
 use Rattle.yq_row_table.specs.View.{row_view}
 use Rattle.yq_places.{specs.CommentPlaces.{LineEnd, end_in_line}, specs.Standings.LinesIn, specs.StandingViews.lines_view}
 use Rattle.yq_places.proofs.EntryRowLaws.{column_fits, row_within, is_view}
-use Rattle.yq_places.proofs.HeldTexts.{before_boundary, held_is, lower_ends, lower_is, space_fits, tail_fits}
+use Rattle.yq_places.proofs.HeldTexts.{before_boundary, held_is, lower_ends, space_fits, tail_fits}
 use Rattle.yq_places.proofs.places.held.held_in.Goals as goal
 
 pub row-row-requires : goal.row-row-requires
@@ -40,9 +40,8 @@ split_at-requires c =
     let s = c.args.rows.now in
     let u : IsUtf8 t = c.is_text.ensures in
     let place : ℕ × ℕ = (c.head_place-end.result.0, c.head_place-end.result.1) in
-    let lower = lower_is t s h.entry c.args.at.row c.args.at.end h.is.rows u place c.head_place-end.ensures (row_view c.row-row.result)
-    c.row-row.ensures c.tail.result.now c.tail.ensures
-    (lines_view c.lines_from-lower.result) c.lines_from-lower.ensures in
+    let lower = c.lines_from-lower.ensures (lower_ends t s h.entry c.args.at.row c.args.at.end h.is.rows u place c.head_place-end.ensures
+    (row_view c.row-row.result) c.row-row.ensures c.tail.result.now c.tail.ensures) in
     before_boundary t s h.entry c.args.at.row c.args.at.end h.is.rows u place c.head_place-end.ensures (row_view c.row-row.result) c.row-row.ensures
     (whole c.lines_from-lower.result.before) c.space_before-space.result.now c.head-head.result.now
     c.tail.result.now
@@ -57,9 +56,8 @@ returns c = λ e h.
     let s = c.args.rows.now in
     let u : IsUtf8 t = c.is_text.ensures in
     let place : ℕ × ℕ = (c.head_place-end.result.0, c.head_place-end.result.1) in
-    let lower = lower_is t s e c.args.at.row c.args.at.end h.rows u place c.head_place-end.ensures (row_view c.row-row.result) c.row-row.ensures
-    c.tail.result.now c.tail.ensures (lines_view c.lines_from-lower.result)
-    c.lines_from-lower.ensures in
+    let lower = c.lines_from-lower.ensures (lower_ends t s e c.args.at.row c.args.at.end h.rows u place c.head_place-end.ensures
+    (row_view c.row-row.result) c.row-row.ensures c.tail.result.now c.tail.ensures) in
     let end : (f : LineEnd → List ℕ) → f (end_in_line [] c.tail-2.result.now) ≡ f (end_in_line [] (row_view c.row-row.result).tail) = λ f i. f (end_in_line [] (c.tail-2.ensures i)) in
     held_is t s e c.args.at.row c.args.at.end h.rows u place c.head_place-end.ensures (row_view c.row-row.result) c.row-row.ensures
     c.mark_of.result.column c.args.at.dashes c.mark_of.result.keyed c.mark_of.result.noted _ (whole c.split_at.result.0)

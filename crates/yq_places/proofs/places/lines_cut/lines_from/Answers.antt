@@ -1,6 +1,5 @@
 use Rattle.yq_text.specs.Halves.{whole}
-use Rattle.yq_places.{specs.StandingViews.lines_view, proofs.EntryRowLaws.{is_view, last_within}}
-use Rattle.yq_places.proofs.LinesCutLaws.{lines_there, rows_cut}
+use Rattle.yq_places.{proofs.EntryRowLaws.{is_view, last_within}, proofs.LinesCutLaws.rows_cut}
 use Rattle.yq_places.proofs.places.lines_cut.lines_from.Goals as goal
 
 pub row_stop-requires-clause-within : goal.row_stop-requires-clause-within
@@ -13,4 +12,4 @@ pub cut_lines-requires : goal.cut_lines-requires
 cut_lines-requires c = rows_cut (whole c.args.text) c.args.rows.now c.args.from c.args.end c.requires c.is_text.ensures c.row_stop.result c.row_stop.ensures
 
 pub returns : goal.returns
-returns c = λ h. lines_there (whole c.args.text) c.args.rows.now c.args.from c.args.end h c.is_text.ensures c.row_stop.result c.row_stop.ensures (lines_view c.cut_lines.result) c.cut_lines.ensures
+returns c = λ h. c.cut_lines.ensures (rows_cut (whole c.args.text) c.args.rows.now c.args.from c.args.end h c.is_text.ensures c.row_stop.result c.row_stop.ensures)

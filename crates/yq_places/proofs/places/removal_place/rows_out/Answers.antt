@@ -1,9 +1,9 @@
-use Rattle.std.proofs.Common.{◌+◌, ◌-◌, ℕ, ◌++◌, length, length-append, take, drop, option_map, ap, ◌∙◌, arith}
+use Rattle.std.proofs.Common.{◌+◌, ◌-◌, ℕ, length, length-append, take, drop, option_map, ap, ◌∙◌, rules}
 use Rattle.yq_text.specs.Halves.{whole}
 use Rattle.yq_core.specs.Text.{joined, text_lines}
 use Rattle.yq_row_table.{specs.Removal.{block_numbers, last_block}, specs.View.row_view}
 use Rattle.yq_documents.{specs.Pieces.before_run, specs.Reading.cut_of}
-use Rattle.yq_places.{specs.RemovalPlaces.{seam_behind, rows_out}, proofs.RemovalViewLaws.{code_agrees, out_agrees, own_view}}
+use Rattle.yq_places.{specs.RemovalPlaces.seam_behind, proofs.RemovalViewLaws.{code_agrees, out_agrees, own_view}}
 use Rattle.yq_places.proofs.places.removal_place.rows_out.Goals as goal
 
 pub row-requires : goal.row-requires
@@ -15,20 +15,7 @@ row_start-requires-clause-within c = (out_agrees (whole c.args.text) c.args.rows
 pub overflow_add-start : goal.overflow_add-start
 overflow_add-start c =
     let o = out_agrees (whole c.args.text) c.args.rows.now c.requires.part c.requires.rows _ c.requires.is in
-    let kept = c.split_run.ensures.kept ∙ ap (λ g. joined (before_run (text_lines g))) c.gap.ensures in
-    let own = kept ∙ o.kept (row_view c.row.result) c.row.ensures in
-    omega (
-      arith,
-      c.row_start.ensures,
-      ap length own,
-      o.start,
-      ap length o.text,
-      length-append (rows_out c.requires.part c.requires.rows).before
-          ((rows_out c.requires.part c.requires.rows).gone
-          ++ ((rows_out c.requires.part c.requires.rows).gap ++ (rows_out c.requires.part c.requires.rows).behind)),
-      ap length c.requires.is.cut.text,
-      c.requires.is.cut.size,
-    )
+    search (rules, length-append, o.kept)
 
 pub row_stop-stop-requires-clause-within : goal.row_stop-stop-requires-clause-within
 row_stop-stop-requires-clause-within c = (out_agrees (whole c.args.text) c.args.rows.now c.requires.part c.requires.rows _ c.requires.is).last_within

@@ -1,8 +1,8 @@
 use Rattle.std.{proofs.Common.{◌∙◌, sym, ap}, proofs.lemmas.Option.same_Some}
 use Rattle.yq_text.specs.Halves.{whole}
 use Rattle.yq_row_table.specs.View.{Slices}
-use Rattle.yq_places.{specs.Standings.root, specs.StandingReading.root_entry, specs.StandingViews.lines_view}
-use Rattle.yq_places.{proofs.EntryRowLaws.{pieces_at, row_within, is_view}, proofs.RootStandingLaws.{lines_there, root_ends}}
+use Rattle.yq_places.{specs.Standings.root, specs.StandingReading.root_entry, proofs.EntryRowLaws.{pieces_at, row_within, is_view}}
+use Rattle.yq_places.proofs.RootStandingLaws.{root_ends}
 use Rattle.yq_places.proofs.places.root_standing.block_root_in.Goals as goal
 
 pub row-requires : goal.row-requires
@@ -20,7 +20,7 @@ returns c = λ h.
     let s = c.args.rows.now in
     let e = root_entry h.part h.row h.under in
     let row = same_Some _ _ (sym (pieces_at t s e c.args.document.first c.args.document.end h.is) ∙ c.row.ensures) in
-    let lower = lines_there t s c.args.document h c.is_text.ensures c.line_start-start.result c.line_start-start.ensures (lines_view c.lines_from.result) c.lines_from.ensures in
+    let lower = c.lines_from.ensures (root_ends t s c.args.document h c.is_text.ensures c.line_start-start.result c.line_start-start.ensures) in
     let column = c.column-column.ensures ∙ ap (λ (y : Slices). y.column) (sym row) in
     λ i. root (column i) (lower i)
 

@@ -1,4 +1,4 @@
-use Rattle.std.{proofs.Common.{ℕ, ◌-◌, drop, sym, subst}, specs.Str.IsCharBoundary}
+use Rattle.std.{proofs.Common.{rules, sym, subst}, specs.Str.IsCharBoundary}
 use Rattle.yq_text.specs.Halves.{whole}
 use Rattle.yq_places.proofs.CutLaws.{between_ends, between_starts}
 use Rattle.yq_places.proofs.places.written.cut_between.Goals as goal
@@ -8,6 +8,4 @@ cut_at-requires-clause-start c =
     subst (IsCharBoundary (whole c.args.text)) (sym c.len.ensures) (between_starts (whole c.args.text) (whole c.args.before) (whole c.args.behind) c.requires c.is_text.ensures)
 
 pub cut_at-requires-clause-end : goal.cut_at-requires-clause-end
-cut_at-requires-clause-end c =
-    subst (λ (x : ℕ × ℕ × ℕ). IsCharBoundary (drop x.0 (whole c.args.text)) (x.1 - x.2 - x.0)) (λ i. (sym c.len.ensures i, sym c.len-2.ensures i, sym c.len-3.ensures i))
-    (between_ends (whole c.args.text) (whole c.args.before) (whole c.args.behind) c.requires c.is_text.ensures)
+cut_at-requires-clause-end c = search (rules, between_ends)
