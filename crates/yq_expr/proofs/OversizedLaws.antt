@@ -6,7 +6,8 @@ use Rattle.yq_flow_edits.specs.Valued.{IsValueTree, AreValueTrees}
 use Rattle.yq_planner.{specs.ListSizes.HasSize, specs.declared.updating.list_size.ListSize.ListSize, specs.StandIns.{IsStandIn, texts}}
 use Rattle.yq_semantics.{specs.Judgement.{Judgement, and_then, gives}, specs.Places.FoundPlace}
 use Rattle.yq_semantics.{specs.Program.{Term, PathStep, key, index, each}, specs.RightValues.{is_null, as_items, sum, sum_from, term_value}}
-use Rattle.yq_expr.specs.Oversized.{size_limit, AddsItems, AreItemsOf, GivesList, StandsForOversized, HaveUtf8Keys, is_list, is_text, IsTextOf, GivesText}
+use Rattle.yq_expr.specs.Oversized.{size_limit, AddsItems, AreItemsOf, GivesList, StandsForOversized, HaveUtf8Keys, is_list, is_text}
+use Rattle.yq_expr.specs.Oversized.{IsTextOf, GivesText}
 use Rattle.yq_core.specs.Tree as tree
 use Rattle.yq_core.specs.declared.kind.Kind.TheVariants as kinds
 

@@ -1,6 +1,7 @@
 -- The operations of an update that gives a place what no text can hold.
-use Rattle.std.proofs.Common.{◌≡◌, ℕ, suc, ◌-◌, ◌<◌, ◌≤◌, length, true, false, List, [], ◌∷◌, ◌++◌, drop, Option, None, if◌then◌else◌, Bool, refl, sym}
-use Rattle.std.{proofs.Common.{ap, ◌∙◌, subst, arith, append_assoc, append-nil, length-append}, proofs.lemmas.Str.IsUtf8-append, specs.List.list_any, specs.Str.IsUtf8}
+use Rattle.std.proofs.Common.{◌≡◌, ℕ, suc, ◌-◌, ◌<◌, ◌≤◌, length, true, false, List, [], ◌∷◌, ◌++◌, drop, Option, None, if◌then◌else◌, Bool}
+use Rattle.std.{proofs.Common.{refl, sym, ap, ◌∙◌, subst, arith, append_assoc, append-nil, length-append}, proofs.lemmas.Str.IsUtf8-append}
+use Rattle.std.{specs.List.list_any, specs.Str.IsUtf8}
 use Rattle.yq_core.{specs.Tree.{Node, alias, scalar, list, Children}, specs.Paths.Step}
 use Rattle.yq_flow_edits.specs.Valued.{IsValueTree, AreValueTrees}
 use Rattle.yq_semantics.specs.Changes.{Room, Changed, Change, replaces, add_at, add_below, added, all_allowed, at_each, changes_at, created}
@@ -11,9 +12,9 @@ use Rattle.yq_semantics.specs.Program.{Update, assign, delete, comment, is_index
 use Rattle.yq_semantics.{specs.RightValues.{right_value, is_null}, specs.Sizes.{node_size, children_size}}
 use Rattle.yq_semantics.{proofs.JudgementLaws.{gives_same, then_gives}, proofs.updates.Each.joined_gives, proofs.updates.Planned.all_same}
 use Rattle.yq_semantics.specs.declared.refusal.Refusal.TheVariants.{IndexOutOfRange, KindMismatch}
-use Rattle.yq_expr.specs.Oversized.{BeginsOversized, puts, adds as adding, appends, GivesAt, HaveUtf8Keys, IsListOrText, is_list, is_text, IsOversized, GivesOversized}
-use Rattle.yq_expr.{specs.Oversized.{size_limit, item_ops, GivesOversizedOps}, specs.Parts.{document_ops, rest_ops}}
-use Rattle.yq_expr.proofs.PartLaws.{changes_both, ops_join, ops_there, rest_there}
+use Rattle.yq_expr.specs.Oversized.{BeginsOversized, puts, adds as adding, appends, GivesAt, HaveUtf8Keys, IsListOrText, is_list, is_text}
+use Rattle.yq_expr.specs.Oversized.{IsOversized, GivesOversized, size_limit, item_ops, GivesOversizedOps}
+use Rattle.yq_expr.{specs.Parts.{document_ops, rest_ops}, proofs.PartLaws.{changes_both, ops_join, ops_there, rest_there}}
 use Rattle.yq_documents.specs.Documents.{Document}
 use Rattle.yq_nodes.specs.Nodes.{text_of}
 use Rattle.yq_core.specs.Tree as tree

@@ -1,7 +1,8 @@
 -- Values that no text can hold, by their sizes (own).
 use Rattle.std.specs.Prelude.{◌≡◌, ◌<◌, ℕ, false, length, List, [], ◌∷◌, ◌++◌, map, Option, Some, None, ⊤, Result, ◌≤◌, true, IfOk, IfSome}
 use Rattle.std.{specs.Str.IsUtf8, specs.declared.alloc.AllocError.AllocError}
-use Rattle.yq_core.{specs.Tree.{Node, scalar, list, Children, none}, specs.Paths.Step, specs.Values.value_node, specs.declared.value.Value.Value}
+use Rattle.yq_core.{specs.Tree.{Node, scalar, list, Children, none}, specs.Paths.Step, specs.Values.value_node}
+use Rattle.yq_core.specs.declared.value.Value.{Value}
 use Rattle.yq_flow_edits.specs.Valued.{IsValueTree, AreValueTrees}
 use Rattle.yq_planner.{specs.ListSizes.HasSize, specs.StandIns.IsStandIn, specs.declared.updating.list_size.ListSize.ListSize}
 use Rattle.yq_semantics.specs.Judgement.{Judgement, gives, ExprError}

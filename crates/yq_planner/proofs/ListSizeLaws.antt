@@ -1,8 +1,8 @@
 -- How large the list of several lists' items is, and what is refused where it is.
 use Rattle.std.proofs.Common.{◌≡◌, ℕ, ◌+◌, ◌-◌, ◌<◌, ◌≤◌, min, max, Bool, false, ◌||◌, List, [], ◌∷◌, length, None, refl, sym, ap, ◌∙◌}
 use Rattle.std.proofs.Common.{subst, arith, rules}
-use Rattle.yq_core.{specs.Keys.{depth, deepest}, specs.Paths.append_children}
-use Rattle.yq_core.{specs.Tree.{Node, list, Children, none, child, plain_label}, specs.Values.items}
+use Rattle.yq_core.{specs.Keys.{depth, deepest}, specs.Paths.append_children, specs.Tree.{Node, list, Children, none, child, plain_label}}
+use Rattle.yq_core.specs.Values.{items}
 use Rattle.yq_planner.{specs.ListSizes.HasSize, specs.StandIns.{IsStandIn, lists}, specs.declared.updating.list_size.ListSize.ListSize}
 use Rattle.yq_semantics.{specs.Changes.{is_overlong_key, has_long_key, have_long_key}, specs.Sizes.{node_size, children_size}}
 

@@ -1,21 +1,20 @@
 -- The content of a scalar has two bytes at most for each byte that spells it.
 use Rattle.std.proofs.Common.{◌≡◌, ℕ, zero, suc, ◌+◌, ◌-◌, ◌*◌, ◌≤◌, min, Bool, true, false, ◌&&◌, ◌==◌, not, List, [], ◌∷◌, ◌++◌, length}
-use Rattle.std.proofs.Common.{take, drop, replicate, slice_index, Option, Some, None, if◌then◌else◌, refl, arith, rules}
-use Rattle.std.{proofs.Common.{length-append, length-drop}, proofs.lemmas.List.{length-replicate, length-take}}
+use Rattle.std.proofs.Common.{take, drop, replicate, slice_index, Option, Some, None, if◌then◌else◌, refl, arith, rules, length-append}
+use Rattle.std.{proofs.Common.length-drop, proofs.lemmas.List.{length-replicate, length-take}}
 use Rattle.std.proofs.lemmas.Str.{length-encode, len_utf8_bounds}
-use Rattle.yq_core.specs.Lines.{spaces}
-use Rattle.yq_core.specs.Text.{is_white, is_feed, is_break, is_line, joined, front, feed, ends_line, upto}
+use Rattle.yq_core.{specs.Lines.spaces, specs.Text.{is_white, is_feed, is_break, is_line, joined, front, feed, ends_line, upto}}
 use Rattle.yq_core.specs.Quoted.{folded, joined as gone, gap_text}
 use Rattle.yq_core.specs.ContentReading.{BlankBefore, within, after, one_break_more, item_with_blanks, content_on, escaped, escaped_len}
 use Rattle.yq_core.specs.ContentReading.{break_len, is_pair, quoted_item, item_len, item_before, plain_content, quoted_content, quoted_text}
-use Rattle.yq_core.specs.QuotedReading.{coded, leading_escape, lettered}
-use Rattle.yq_core.{proofs.EscapeLaws.{escape_cases, escape_within, none_escaped}, specs.Block.{RawLines, AreRaw, BlockText, no_lines}}
-use Rattle.yq_core.specs.BlockContent.{part_of, unindented, literal, joint, chomped_end, is_spaced_line, block_content}
-use Rattle.yq_core.specs.BlockContent.{block_lines_content, strips, optional_break, folded as folded_lines}
-use Rattle.yq_core.{specs.declared.block_lines.TextIndent.TextIndent, specs.declared.block_types.LineBefore.LineBefore}
-use Rattle.yq_core.{specs.declared.block_header.Chomping.Chomping, specs.declared.block_header.BlockStyle.BlockStyle}
-use Rattle.yq_core.{specs.Scalar.{plain_of, string_of, of_kind}, specs.Scalars.{is_quoted, scalar_content, scalar_of}}
-use Rattle.yq_core.{specs.SchemaReading.resolve, specs.Trees.scalar_node, specs.declared.kind.Kind.Kind}
+use Rattle.yq_core.{specs.QuotedReading.{coded, leading_escape, lettered}, proofs.EscapeLaws.{escape_cases, escape_within, none_escaped}}
+use Rattle.yq_core.specs.Block.{RawLines, AreRaw, BlockText, no_lines}
+use Rattle.yq_core.specs.BlockContent.{part_of, unindented, literal, joint, chomped_end, is_spaced_line, block_content, block_lines_content}
+use Rattle.yq_core.{specs.BlockContent.{strips, optional_break, folded as folded_lines}, specs.declared.block_lines.TextIndent.TextIndent}
+use Rattle.yq_core.{specs.declared.block_types.LineBefore.LineBefore, specs.declared.block_header.Chomping.Chomping}
+use Rattle.yq_core.{specs.declared.block_header.BlockStyle.BlockStyle, specs.Scalar.{plain_of, string_of, of_kind}}
+use Rattle.yq_core.{specs.Scalars.{is_quoted, scalar_content, scalar_of}, specs.SchemaReading.resolve, specs.Trees.scalar_node}
+use Rattle.yq_core.specs.declared.kind.Kind.{Kind}
 use Rattle.yq_semantics.specs.Sizes.{content_size, node_size}
 use Rattle.yq_core.specs.declared.block_header.BlockStyle.TheVariants as styles
 use Rattle.yq_core.specs.declared.block_header.Chomping.TheVariants as chompings

@@ -1,13 +1,12 @@
 -- An inline node is as long as its size says, at least.
-use Rattle.std.proofs.Common.{◌≡◌, ℕ, zero, suc, ◌+◌, ◌*◌, ◌≤◌, Bool, true, false, ◌||◌, not, List, ◌∷◌, ◌++◌, length, Option, Some, None, refl}
-use Rattle.std.{proofs.Common.{sym, ◌∙◌, arith, length-append, rules}, proofs.lemmas.Bool.false≢true}
+use Rattle.std.proofs.Common.{◌≡◌, ℕ, zero, suc, ◌+◌, ◌*◌, ◌≤◌, Bool, true, false, ◌||◌, not, List, ◌∷◌, ◌++◌, length, Option, Some, None}
+use Rattle.std.{proofs.Common.{refl, sym, ◌∙◌, arith, length-append, rules}, proofs.lemmas.Bool.false≢true}
 use Rattle.yq_core.specs.Nodes.{Key, bare, keyed, Sep, last, comma, FlowNode, empty, alias, scalar, coll, anchored, Items, none, item}
 use Rattle.yq_core.specs.Nodes.{IsSep, key_text, sep_text, node_text, flow_items_text, begins_with, is_close, is_empty_node, is_keyed}
 use Rattle.yq_core.specs.Nodes.{IsFlowNode, AreFlowItems, IsInlineKey}
 use Rattle.yq_core.{specs.Trees.{tree_of, items_tree, key_content, tree_collection, with_name}, specs.Tree.{Node, Children}}
 use Rattle.yq_core.{proofs.NodesPieceLaws.scalar_some, proofs.NodeAgain.{item_front, items_longer}}
-use Rattle.yq_semantics.specs.Sizes.{label_size, node_size, children_size}
-use Rattle.yq_semantics.proofs.sizes.ContentSizes.{scalar_is_small, spelled_size}
+use Rattle.yq_semantics.{specs.Sizes.{label_size, node_size, children_size}, proofs.sizes.ContentSizes.{scalar_is_small, spelled_size}}
 use Rattle.yq_core.specs.Tree as tree
 
 -- the byte that something takes at least

@@ -1,6 +1,6 @@
 -- A text is as long as the size of the documents says as which it reads, but for the last break.
-use Rattle.std.proofs.Common.{◌≡◌, ℕ, suc, ◌+◌, ◌*◌, ◌≤◌, min, ℤ, Bool, true, false, ◌||◌, not, List, [], ◌∷◌, ◌++◌, length, Option, Some, None}
-use Rattle.std.{proofs.Common.{refl, sym, arith, ⊎_elim, length-append, rules, replicate}, proofs.lemmas.List.length-replicate}
+use Rattle.std.proofs.Common.{◌≡◌, ℕ, suc, ◌+◌, ◌*◌, ◌≤◌, min, ℤ, Bool, true, false, ◌||◌, not, List, [], ◌∷◌, ◌++◌, length, Option, Some}
+use Rattle.std.{proofs.Common.{None, refl, sym, arith, ⊎_elim, length-append, rules, replicate}, proofs.lemmas.List.length-replicate}
 use Rattle.yq_core.{specs.Nodes.{FlowNode, node_text, IsFlowNode}, specs.Trees.{node_head, tree_of}, specs.Tree.{Node, Children}}
 use Rattle.yq_core.{specs.Block.{BlockText, block_text}, specs.BlockContent.block_content, specs.Text.joined}
 use Rattle.yq_core.proofs.NodesPieceLaws.{scalar_some}
