@@ -2,6 +2,7 @@
 use Rattle.std.proofs.Common.{◌≡◌, inl, inr, ℕ, false, List, [], ◌∷◌, ◌++◌, Result, Ok, Err, is_ok, sym, subst, refl}
 use Rattle.yq_semantics.specs.Program.{Program}
 use Rattle.yq_args.specs.declared.command.Command.{Command}
+use Rattle.yq_history.specs.Causes.{Cause}
 use Rattle.yq_history.{specs.Report.Report, specs.Calls.CallsOnPair, specs.Effects.Effect}
 use Rattle.yq_fault.specs.declared.fault.Fault.{Fault}
 use Rattle.yq_store.specs.Calls.{Call}
@@ -11,12 +12,12 @@ use Rattle.yq_journal.specs.State.{State}
 module _ {S : Type 0} (leads : S → Call → S → Type 0) where
   module _ {T : Type 0} (r : Result T Fault) (next : Program → S → S → Type 0) (s : S) where
     -- no call was made before the fault
-    pub none_yet : (q : Result Program Fault) → is_ok r ≡ false → IfProgram leads r q next s s
+    pub none_yet : (q : Result Program Cause) → is_ok r ≡ false → IfProgram leads r q next s s
     none_yet (Ok p) bad = inl (bad, refl)
-    none_yet (Err f) bad = refl
+    none_yet (Err x) bad = refl
 
     -- the calls after the expression was read
-    pub parsed_calls : (q : Result Program Fault) (p : Program) (t : S) → q ≡ Ok p → next p s t → IfProgram leads r q next s t
+    pub parsed_calls : (q : Result Program Cause) (p : Program) (t : S) → q ≡ Ok p → next p s t → IfProgram leads r q next s t
     parsed_calls q p t is k = subst (λ x. IfProgram leads r x next s t) (sym is) (inr k)
 
   -- ---- by the names of a command

@@ -11,7 +11,7 @@ use Rattle.yq_history.{proofs.EffectLaws.not_opened, proofs.PairLaws.same_pair}
 use Rattle.yq_fault.{specs.declared.fault.Fault.Fault, specs.Faults.is_outer_fault}
 use Rattle.yq_commands.{specs.CommandDone.{EditsFrom, EditsInPlace, EditsOpened, Evaluates}, specs.CommandEffects.edit_effect}
 use Rattle.yq_commands.{specs.CommandSteps.{update_cause, update_next}, specs.Editing.{Refuses, program_edits, program_in}}
-use Rattle.yq_commands.{specs.Evaluation.{cause_in, evaluated, of_file, shows}, proofs.EditEffects.parsed_works}
+use Rattle.yq_commands.{specs.CommandFaults.cause_in, specs.Evaluation.{evaluated, of_file, shows}, proofs.EditEffects.parsed_works}
 use Rattle.yq_commands.proofs.OutcomeLaws.{arrives_as, each_error, unopened}
 use Rattle.yq_fault.specs.declared.fault.Fault.TheVariants as fault
 
@@ -28,7 +28,7 @@ stays_at c f j cause h k r e is why good = search rules
 
 module _ (expr : List ℕ) (options : EvalOptions) (f j : List ℕ) (c : FileMap) {T : Type 0} (r : Result T Fault) (e : Fault) (is : r ≡ Err e) (s : Report) where
   -- its expression is no program
-  pub unparsed_edits : (e ≢ fault.OutOfMemory → program_in expr ≡ Err e) → EditsInPlace expr options f j c c r s
+  pub unparsed_edits : (e ≢ fault.OutOfMemory → IsFor (cause_in (program_in expr)) e) → EditsInPlace expr options f j c c r s
   unparsed_edits why = search rules
 
   -- its file or its journal couldn't be read, or settled
@@ -70,7 +70,7 @@ unread_arrives c m f j of_text r x of_read is same absent h good = search rules
 
 module _ (options : EvalOptions) (expr f : List ℕ) (c : FileMap) {T : Type 0} (r : Result T Fault) (s : Report) where
   -- its expression is no program
-  pub unparsed_shows : (e : Fault) → r ≡ Err e → (e ≢ fault.OutOfMemory → program_in expr ≡ Err e) → Evaluates (evaluated options (program_in expr)) f c c r s
+  pub unparsed_shows : (e : Fault) → r ≡ Err e → (e ≢ fault.OutOfMemory → IsFor (cause_in (program_in expr)) e) → Evaluates (evaluated options (program_in expr)) f c c r s
   unparsed_shows e is why = search rules
 
   -- it is one

@@ -5,10 +5,11 @@ use Rattle.yq_core.{specs.declared.ReadFault.ReadFault, specs.declared.fault.Fau
 use Rattle.yq_documents.specs.Reading.{read_at, checked_at}
 use Rattle.yq_semantics.specs.Program.{Program}
 use Rattle.yq_edit_laws.{specs.Carried.{edit_of, program_done}, specs.Edit.by_reading}
-use Rattle.yq_fault.{specs.declared.fault.Fault.Fault, specs.declared.fault.Fault.TheVariants.{OutOfMemory, Unreadable}}
-use Rattle.yq_history.specs.Causes.{IsUnreadable}
-use Rattle.yq_commands.{specs.Editing.{Refuses, program_edits, program_in, unreadable, edit_outcome}, specs.CommandFaults.of_parse}
-use Rattle.yq_expr_parser.{specs.Outcome.{AnswersError, ParseError}, specs.Parse.outcome}
+use Rattle.yq_fault.{specs.declared.fault.Fault.Fault, specs.declared.fault.Fault.TheVariants.{Expression, Unreadable}}
+use Rattle.yq_history.specs.Causes.{IsFor, IsUnreadable, no_program}
+use Rattle.yq_commands.{specs.CommandFaults.cause_in, specs.Editing.{Refuses, program_edits, program_in, unreadable, edit_outcome}}
+use Rattle.yq_expr_parser.specs.Parse.{outcome}
+use Rattle.yq_semantics.{specs.Parsing.refusal, specs.declared.parse_fault.ParseFault.ParseFault}
 
 -- bytes that are no UTF-8
 pub not_read : (t : List ℕ) → is_utf8 t ≡ false → read_at t ≡ None
@@ -24,9 +25,9 @@ pub unread_refuses : (p : Program) (t : List ℕ) (e : Fault) → read_at t ≡ 
 unread_refuses p t e none reports = subst (λ o. Refuses o e) (sym (unread p t none)) reports
 
 -- why an expression has no program
-pub parse_refused : (t : List ℕ) (e : ParseError) → AnswersError e (outcome t) → of_parse e ≢ OutOfMemory → program_in t ≡ Err (of_parse e)
+pub parse_refused : (t : List ℕ) (f : ParseFault) → outcome t ≡ refusal f → IsFor (cause_in (program_in t)) (Expression f)
 unfolding program_in
-parse_refused t e h other = search rules
+parse_refused t f h = search rules
 
 -- ---- whether a fault tells that they are no UTF-8
 

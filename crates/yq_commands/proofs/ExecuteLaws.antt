@@ -8,7 +8,7 @@ use Rattle.yq_fault.specs.declared.fault.Fault.{Fault}
 use Rattle.yq_args.specs.declared.eval_options.EvalOptions.{EvalOptions}
 use Rattle.yq_store.specs.FileMap.{FileMap}
 use Rattle.yq_commands.{specs.CommandEffects.{update_effect, output_by}, specs.CommandNames.Differs, specs.Editing.program_in}
-use Rattle.yq_commands.{specs.Evaluation.{cause_in, evaluated, report_in}, specs.FileEdits.{IsFileEdited, PrintsChange}}
+use Rattle.yq_commands.{specs.CommandFaults.cause_in, specs.Evaluation.{evaluated, report_in}, specs.FileEdits.{IsFileEdited, PrintsChange}}
 use Rattle.yq_commands.specs.Expecting.{report_edit, works_as_expected}
 
 -- nothing is shown

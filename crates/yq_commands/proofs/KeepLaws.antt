@@ -4,14 +4,14 @@ use Rattle.std.{proofs.Common.{IfErr, sym, ap, ◌∙◌, subst, refl}, proofs.l
 use Rattle.std.specs.String.{string_bytes}
 use Rattle.yq_journal.{specs.Good.Good, specs.History.History}
 use Rattle.yq_commands.specs.declared.answer.Answer.{Answer}
-use Rattle.yq_commands.{specs.CommandEffects.{OfEffect, IsListing, IsUnparsed, expression_fault, output_by}, specs.FileEdits.HasEdited}
+use Rattle.yq_commands.{specs.CommandFaults.IsUnparsed, specs.CommandEffects.{OfEffect, IsListing, expression_cause, output_by}, specs.FileEdits.HasEdited}
 use Rattle.yq_commands.{specs.CommandDone.{CarriesOut, IsSilent}, specs.CommandNames.{IsOn, file_of}}
 use Rattle.yq_commands.specs.Lists.{IsUnrelated, AllOnOrApart, Reply, IsAnswer, Goes, RunsAll, ReportsEffect, HasEffect, RunsTo, Keeps}
 use Rattle.yq_commands.{specs.Lists.{ReportsUnparsed, is_accepted, leaves_names}, specs.Help.{AnswersHelp, Helps}}
 use Rattle.yq_commands.{specs.Expecting.{expects_change, works_as_expected}, specs.Prints.{prints, prints_change}}
 use Rattle.yq_commands.{proofs.ReplyLaws.{reply, reply-answer}, proofs.ListLaws.arrived}
 use Rattle.yq_args.{specs.declared.command.Command.Command, specs.declared.command.Command.TheVariants.Eval}
-use Rattle.yq_history.{specs.Effects.{Effect, Works}, specs.Output.IsOutput, specs.Pair.GoodIn, specs.Report.Report}
+use Rattle.yq_history.{specs.Causes.Cause, specs.Effects.{Effect, Works}, specs.Output.IsOutput, specs.Pair.GoodIn, specs.Report.Report}
 use Rattle.yq_history.proofs.PairLaws.{same_pair}
 use Rattle.yq_fault.{specs.declared.fault.Fault.Fault, specs.Faults.{is_outer_fault, is_output}}
 use Rattle.yq_store.specs.FileMap.{FileMap}
@@ -57,7 +57,7 @@ pub record IsDone {T : Type 0} (c e : FileMap) (cmd : Command) (r : Result T Fau
   pub done : CarriesOut cmd c e r s
   pub silent : IsSilent cmd s
   pub no_output : IfErr r (λ x. is_output x ≡ false)
-  pub unparsed : (f : Fault) → expression_fault cmd ≡ Some f → IsUnparsed f r
+  pub unparsed : (x : Cause) → expression_cause cmd ≡ Some x → IsUnparsed x r
   pub helped : Helps cmd r s
 
 -- a command on a file names it
@@ -75,9 +75,9 @@ edited_by : {T : Type 0} (c e : FileMap) (cmd : Command) (r : Result T Fault) (a
 edited_by c e cmd r a s is has done = search rules
 
 -- the answer to an expression that is no program
-unparsed_by : {T : Type 0} (f : Fault) (r : Result T Fault) (a : Answer) (s : Report) → IsAnswer r a s → IsUnparsed f r → ReportsUnparsed f (reply a s.printed).answer
-unparsed_by f (Ok v) a s is reports = absurd reports
-unparsed_by f (Err x) a s is reports = subst (ReportsUnparsed f) (sym (reply-answer a s.printed ∙ is)) reports
+unparsed_by : {T : Type 0} (x : Cause) (r : Result T Fault) (a : Answer) (s : Report) → IsAnswer r a s → IsUnparsed x r → ReportsUnparsed x (reply a s.printed).answer
+unparsed_by x (Ok v) a s is reports = absurd reports
+unparsed_by x (Err e) a s is reports = subst (ReportsUnparsed x) (sym (reply-answer a s.printed ∙ is)) reports
 
 -- the answer to one that asks for help
 helped_by : {T : Type 0} (cmd : Command) (r : Result T Fault) (a : Answer) (s : Report) → IsAnswer r a s → Helps cmd r s →
@@ -108,7 +108,7 @@ module _ {T : Type 0} (c e : FileMap) (cmd : Command) (r : Result T Fault) (a : 
     effect = has_effect;
     steps = λ f j apart fits h good. goes_on f j apart fits h good;
     edited = edited_by c e cmd r a s k.answered k.done.edited;
-    unparsed = λ f is. unparsed_by f r a s k.answered (k.unparsed f is);
+    unparsed = λ x is. unparsed_by x r a s k.answered (k.unparsed x is);
     helped = helped_by cmd r a s k.answered k.helped;
   }
 

@@ -24,7 +24,7 @@ pub memory_counted : {T : Type 0} (r : Result T Fault) (n : ℕ) → IfErr r (λ
 memory_counted r n h = search rules
 
 -- the same, by what an expression is
-pub arrives_as : (c : FileMap) (f j : List ℕ) {T : Type 0} (r : Result T Fault) (cause : Result Program Fault → Option Cause) (next : Result Program Fault → Option History) (h : Option History) (p q : Result Program Fault) → p ≡ q →
+pub arrives_as : (c : FileMap) (f j : List ℕ) {T : Type 0} (r : Result T Fault) (cause : Result Program Cause → Option Cause) (next : Result Program Cause → Option History) (h : Option History) (p q : Result Program Cause) → p ≡ q →
     Arrives c f j (cause p) h (next p) r → Arrives c f j (cause q) h (next q) r
 arrives_as c f j r cause next h p q is arrives = subst (λ x. Arrives c f j (cause x) h (next x) r) is arrives
 

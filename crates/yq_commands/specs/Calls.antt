@@ -3,6 +3,7 @@ use Rattle.std.{specs.Prelude.{◌≡◌, ◌⊎◌, ℕ, List, [], ◌∷◌, t
 use Rattle.yq_semantics.specs.Program.{Program}
 use Rattle.yq_args.{specs.declared.command.Command.Command, specs.declared.eval_words.EvalWords.EvalWords}
 use Rattle.yq_args.specs.declared.command.Command.TheVariants.{Eval, Undo, Redo, History as Lists, Squash, Help}
+use Rattle.yq_history.specs.Causes.{Cause}
 use Rattle.yq_history.{specs.Calls.{CallsOnPair, ReadsFile}, specs.Report.Report}
 use Rattle.yq_history.specs.Effects.{move_effect, squash_effect, listing_effect}
 use Rattle.yq_fault.specs.declared.fault.Fault.{Fault}
@@ -13,8 +14,8 @@ use Rattle.yq_journal.specs.declared.moves.Move.TheVariants as move
 
 module _ {S T : Type 0} (leads : S → Call → S → Type 0) (r : Result T Fault) where
   -- the calls of an expression: none where it is no program, or where memory was refused as it was read
-  abbrev pub IfProgram : Result Program Fault → (Program → S → S → Type 0) → S → S → Type 0
-  IfProgram (Err f) next s t = t ≡ s
+  abbrev pub IfProgram : Result Program Cause → (Program → S → S → Type 0) → S → S → Type 0
+  IfProgram (Err x) next s t = t ≡ s
   IfProgram (Ok p) next s t = ((is_ok r ≡ false) × (t ≡ s)) ⊎ next p s t
 
   -- one that isn't carried out in place: the file is read, and nothing else

@@ -12,7 +12,7 @@ use Rattle.yq_history.{specs.Pair.{NamesDiffer, Arrives, GoodIn, OthersStay}, sp
 use Rattle.yq_fault.specs.declared.fault.Fault.{Fault}
 use Rattle.yq_commands.specs.CommandEffects.{IsListing, OfEffect, edit_effect, output_by, update_effect}
 use Rattle.yq_commands.{specs.CommandNames.{IsNotNamed, IsOn, file_of}, specs.CommandSteps.{cause_of, next_of, update_cause, update_next}}
-use Rattle.yq_commands.{specs.Editing.{EachProgram, program_edits, program_in}, specs.Evaluation.{cause_in, report_in}}
+use Rattle.yq_commands.{specs.Editing.{EachProgram, program_edits, program_in}, specs.Evaluation.report_in, specs.CommandFaults.cause_in}
 use Rattle.yq_commands.specs.Expecting.{ReportsExpected, expects_change, report_edit, showing_change, works_as_expected}
 use Rattle.yq_commands.specs.FileEdits.{HasEdited, HoldsEdited, IsFileEdited, PrintsChange}
 use Rattle.yq_commands.specs.Prints.{prints, prints_change, reads_journal, report_of}

@@ -8,7 +8,8 @@ use Rattle.yq_args.specs.declared.command.Command.{Command}
 use Rattle.yq_args.specs.declared.command.Command.TheVariants.{Eval, Undo, Redo, History as Lists, Squash}
 use Rattle.yq_fault.{specs.declared.fault.Fault.Fault, specs.declared.fault.Fault.TheVariants.OutOfMemory}
 use Rattle.yq_history.specs.Effects.{Effect, refuses, writes_nothing, writes_both, from_pair, move_effect, squash_effect, listing_effect}
-use Rattle.yq_history.{specs.Effects.printed_by, specs.Causes.{named, no_reading}, specs.Output.{IsOutput, Output, bytes, diff}}
+use Rattle.yq_history.{specs.Effects.printed_by, specs.Causes.{Cause, named, no_reading}, specs.Output.{IsOutput, Output, bytes, diff}}
+use Rattle.yq_commands.specs.CommandFaults.{cause_in}
 use Rattle.yq_commands.{specs.Editing.{EditOutcome, unreadable, refused, edited, program_in, program_edits}, specs.Edits.record_between}
 use Rattle.yq_journal.specs.declared.moves.Move.TheVariants as move
 use Rattle.yq_fault.specs.declared.fault.Fault.TheVariants as fault
@@ -27,8 +28,8 @@ edit_effect expr (edited u changes) t s =
     else edit_writes (record_between expr changes t u) t u s
 
 -- the same, by its expression
-abbrev pub update_effect : List ℕ → Result Program Fault → Option (List ℕ) → Option (List ℕ) → Effect
-update_effect expr (Err f) file journal = refuses (named f)
+abbrev pub update_effect : List ℕ → Result Program Cause → Option (List ℕ) → Option (List ℕ) → Effect
+update_effect expr (Err x) file journal = refuses x
 update_effect expr (Ok p) file journal = from_pair file journal (λ t s. edit_effect expr (program_edits p t) t s)
 
 -- something holds of what a command does, by the bytes of its file and its journal; of what prints a file alone, and of help, nothing is said
@@ -40,19 +41,10 @@ OfEffect (Lists f j diffs) file journal holds = holds (from_pair file journal (l
 OfEffect (Squash n f j) file journal holds = holds (from_pair file journal (squash_effect n))
 OfEffect _ file journal holds = Unit {0}
 
--- the fault of an expression that is no program
-abbrev pub fault_of : Result Program Fault → Option Fault
-fault_of (Ok p) = None
-fault_of (Err f) = Some f
-
--- the fault of a command's expression, if it is no program
-abbrev pub expression_fault : Command → Option Fault
-expression_fault (Eval w in_place) = fault_of (program_in (string_bytes w.expr))
-expression_fault _ = None
-
--- a command is refused for such a fault, or for want of memory, and for nothing else
-abbrev pub IsUnparsed : Fault → {T : Type 0} → Result T Fault → Type 0
-IsUnparsed f r = MatchResult r (λ v. ⊥) (λ e. e ≢ OutOfMemory → e ≡ f)
+-- why a command's expression is no program, if it has one
+abbrev pub expression_cause : Command → Option Cause
+expression_cause (Eval w in_place) = cause_in (program_in (string_bytes w.expr))
+expression_cause _ = None
 
 -- the output of a command by its effect; of one that prints what it writes, a diff of what its file held and what it holds
 abbrev pub output_by : Bool → Option (List ℕ) → Effect → Output

@@ -1,12 +1,17 @@
--- Faults of expressions as faults of a command (own).
-use Rattle.yq_expr_parser.specs.Outcome.{ParseError}
-use Rattle.yq_fault.{specs.declared.fault.Fault.Fault, specs.declared.fault.Fault.TheVariants.{Syntax, NotInProfile, Pattern, OutOfMemory}}
-use Rattle.yq_expr_parser.specs.declared.error.ParseFault.TheVariants as parse
-use Rattle.yq_failure.specs.declared.failure.Failure.TheVariants as failure
+-- Why a call of a command gives nothing (own).
+use Rattle.std.specs.Prelude.{◌≢◌, Option, Some, None, Result, Ok, Err, IfErr, MatchResult}
+use Rattle.yq_history.specs.Causes.{Cause, IsFor}
+use Rattle.yq_fault.{specs.declared.fault.Fault.Fault, specs.declared.fault.Fault.TheVariants.OutOfMemory}
 
--- why an expression has no program
-abbrev pub of_parse : ParseError → Fault
-of_parse (failure.Fault (parse.Syntax left expected)) = Syntax
-of_parse (failure.Fault (parse.NotInProfile left)) = NotInProfile
-of_parse (failure.Fault (parse.Pattern left)) = Pattern
-of_parse failure.Memory = OutOfMemory
+-- why nothing is due
+abbrev pub cause_in : {X : Type 0} → Result X Cause → Option Cause
+cause_in (Ok x) = None
+cause_in (Err x) = Some x
+
+-- nothing is given for that cause, or for want of memory
+abbrev pub FailsFor : {X : Type 0} → Result X Cause → {T : Type 0} → Result T Fault → Type 0
+FailsFor due r = IfErr r (λ e. e ≢ OutOfMemory → IsFor (cause_in due) e)
+
+-- a command is refused for this cause, or for want of memory, and for nothing else
+abbrev pub IsUnparsed : Cause → {T : Type 0} → Result T Fault → Type 0
+IsUnparsed x r = MatchResult r (λ v. ⊥) (λ e. e ≢ OutOfMemory → IsFor (Some x) e)

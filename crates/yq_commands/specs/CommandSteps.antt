@@ -10,7 +10,7 @@ use Rattle.yq_fault.specs.declared.fault.Fault.{Fault}
 use Rattle.yq_history.specs.Causes.{Cause, named, no_reading}
 use Rattle.yq_history.specs.Steps.{move_cause, move_next, squash_cause, squash_next, listing_cause}
 use Rattle.yq_commands.specs.Editing.{EditOutcome, unreadable, refused, edited, program_in, program_edits}
-use Rattle.yq_commands.specs.Evaluation.{evaluated, cause_in}
+use Rattle.yq_commands.{specs.Evaluation.evaluated, specs.CommandFaults.cause_in}
 use Rattle.yq_journal.specs.declared.moves.Move.TheVariants as move
 use Rattle.yq_fault.specs.declared.fault.Fault.TheVariants as fault
 
@@ -35,14 +35,14 @@ edit_next h expr (edited text changes) =
     else if nat_le most_records h.at then h else after_edit h expr text
 
 -- why the edit of a file is refused, by what its expression is
-abbrev pub update_cause : Result Program Fault → Option History → Option Cause
-update_cause (Err f) h = Some (named f)
+abbrev pub update_cause : Result Program Cause → Option History → Option Cause
+update_cause (Err x) h = Some x
 update_cause (Ok p) None = Some (named fault.NotThere)
 update_cause (Ok p) (Some h) = edit_cause h (program_edits p (text_at h))
 
 -- the history after it
-abbrev pub update_next : List ℕ → Result Program Fault → Option History → Option History
-update_next expr (Err f) h = h
+abbrev pub update_next : List ℕ → Result Program Cause → Option History → Option History
+update_next expr (Err x) h = h
 update_next expr (Ok p) None = None
 update_next expr (Ok p) (Some h) = Some (edit_next h expr (program_edits p (text_at h)))
 

@@ -1,12 +1,12 @@
 -- What an expression makes of a text.
 use Rattle.std.specs.Prelude.{◌≡◌, ◌≢◌, ℕ, List, Some, Result, Ok, Err, IfErr, length, string_bytes}
 use Rattle.yq_semantics.specs.Program.{Program}
+use Rattle.yq_semantics.specs.Parsing.{Outcome, parsed}
 use Rattle.yq_expr_parser.specs.Parse.{outcome}
 use Rattle.yq_text.{specs.Splice.{Splice, all_done, lengths_done}, specs.declared.edited.Edited.Edited}
 use Rattle.yq_edit_laws.{specs.Carried.edit_of, specs.Edit.Edit}
-use Rattle.yq_history.specs.Causes.{IsUnreadable}
+use Rattle.yq_history.specs.Causes.{Cause, IsUnreadable, no_program}
 use Rattle.yq_fault.{specs.declared.fault.Fault.Fault, specs.declared.fault.Fault.TheVariants.OutOfMemory}
-use Rattle.yq_expr_parser.specs.Outcome as expr
 use Rattle.yq_edit_laws.specs.Edit as edit
 use Rattle.yq_fault.specs.declared.fault.Fault.TheVariants as fault
 
@@ -38,15 +38,13 @@ Refuses (edited text changes) e = ⊥
 abbrev pub RefusedBy : EditOutcome → {T : Type 0} → Result T Fault → Type 0
 RefusedBy outcome r = IfErr r (λ e. e ≢ OutOfMemory → Refuses outcome e)
 
--- what comes of an expression, as a program or a fault (own)
-abbrev pub result_of : expr.Outcome → Result Program Fault
-result_of (expr.parsed p) = Ok p
-result_of expr.ill_formed = Err fault.Syntax
-result_of expr.not_in_profile = Err fault.NotInProfile
-result_of expr.with_pattern = Err fault.Pattern
+-- what comes of an expression, as a program or as the cause why it is none (own)
+abbrev pub result_of : Outcome → Result Program Cause
+result_of (parsed p) = Ok p
+result_of o = Err (no_program o)
 
--- the program of an expression, or the fault of one that has none (own)
-unfoldable pub program_in : List ℕ → Result Program Fault
+-- the program of an expression, or the cause why it is none (own)
+unfoldable pub program_in : List ℕ → Result Program Cause
 program_in expr = result_of (outcome expr)
 
 -- what an edit of a text gives (own)

@@ -44,14 +44,9 @@ of_file of_text None = Err (named fault.NotThere)
 of_file of_text (Some h) = of_text (text_at h)
 
 -- the same, by what an expression is
-abbrev pub evaluated : EvalOptions → Result Program Fault → Option History → Result Showing Cause
-evaluated options (Err f) h = Err (named f)
+abbrev pub evaluated : EvalOptions → Result Program Cause → Option History → Result Showing Cause
+evaluated options (Err x) h = Err x
 evaluated options (Ok p) h = of_file (shows options p) h
-
--- why nothing is shown
-abbrev pub cause_in : Result Showing Cause → Option Cause
-cause_in (Ok s) = None
-cause_in (Err x) = Some x
 
 -- what is shown, where there is no cause for a refusal
 abbrev pub report_in : Result Showing Cause → Showing
@@ -66,7 +61,3 @@ IsShowing file (Err x) s = ⊥
 -- what is given is to be shown of a file
 abbrev pub GivesShowing : List ℕ → Result Showing Cause → Result declared.Report Fault → Type 0
 GivesShowing file due r = IfOk r (λ s. IsShowing file due (report_by s))
-
--- nothing is given for that cause, or for want of memory
-abbrev pub FailsFor : Result Showing Cause → {T : Type 0} → Result T Fault → Type 0
-FailsFor due r = IfErr r (λ e. e ≢ OutOfMemory → IsFor (cause_in due) e)

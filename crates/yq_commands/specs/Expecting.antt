@@ -5,6 +5,7 @@ use Rattle.yq_semantics.specs.Program.{Program}
 use Rattle.yq_journal.specs.History.{History, text_at}
 use Rattle.yq_args.{specs.declared.command.Command.Command, specs.declared.command.Command.TheVariants.Eval}
 use Rattle.yq_args.specs.declared.eval_options.EvalOptions.{EvalOptions}
+use Rattle.yq_history.specs.Causes.{Cause}
 use Rattle.yq_history.{specs.Effects.{Effect, writes_nothing}, specs.Output.{IsOutput, Output, Showing, bytes, diff, showing_nothing}}
 use Rattle.yq_fault.specs.declared.fault.Fault.{Fault}
 use Rattle.yq_store.specs.FileMap.{FileMap}
@@ -33,8 +34,8 @@ abbrev pub showing_change : EvalOptions → List ℕ → EditOutcome → Showing
 showing_change options old outcome = record { output = change_output options.diff old outcome; is_match = edits_as_expected options old outcome }
 
 -- the same of a file, by what an expression is
-abbrev pub report_edit : EvalOptions → Result Program Fault → Option History → Showing
-report_edit options (Err f) h = showing_nothing
+abbrev pub report_edit : EvalOptions → Result Program Cause → Option History → Showing
+report_edit options (Err x) h = showing_nothing
 report_edit options (Ok p) None = showing_nothing
 report_edit options (Ok p) (Some h) = showing_change options (text_at h) (program_edits p (text_at h))
 

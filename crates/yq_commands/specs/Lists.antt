@@ -3,7 +3,7 @@ use Rattle.std.specs.Prelude.{◌≡◌, ◌≢◌, ◌⊎◌, ◌||◌, ◌&&�
 use Rattle.std.{specs.Prelude.{if◌then◌else◌, IsTrue, MatchBool, MatchResult, Option, Some, None, Result, Ok, Err}, specs.FinMap.get}
 use Rattle.yq_journal.specs.History.{History}
 use Rattle.yq_commands.{specs.declared.answer.Answer.Answer, specs.declared.answer.Answer.TheVariants.{Done, NoMatch, Refused}}
-use Rattle.yq_commands.{specs.CommandNames.{IsOn, IsNotNamed, file_of}, specs.CommandEffects.{OfEffect, expression_fault, output_by}}
+use Rattle.yq_commands.{specs.CommandNames.{IsOn, IsNotNamed, file_of}, specs.CommandEffects.{OfEffect, expression_cause, output_by}}
 use Rattle.yq_commands.{specs.FileEdits.HasEdited, specs.Expecting.{expects_change, works_as_expected}, specs.Help.AnswersHelp}
 use Rattle.yq_commands.{specs.Prints.{prints, prints_change, report_of}, specs.CommandSteps.{cause_of, next_of}}
 use Rattle.yq_args.specs.declared.command.Command.{Command}
@@ -131,10 +131,10 @@ StepsHistory c r old new =
     (file journal : List ℕ) → file ≢ journal → IsOn file journal c ⊎ IsUnrelated file journal c → (h : Option History) → GoodIn old file journal h →
     (k : Option History) × Goes file journal c h r k × GoodIn new file journal k
 
--- a command is refused for that fault, or for want of memory
-abbrev pub ReportsUnparsed : Fault → Answer → Type 0
-ReportsUnparsed f (Refused e) = e ≢ OutOfMemory → e ≡ f
-ReportsUnparsed f _ = ⊥
+-- a command is refused for this cause, or for want of memory
+abbrev pub ReportsUnparsed : Cause → Answer → Type 0
+ReportsUnparsed x (Refused e) = e ≢ OutOfMemory → IsFor (Some x) e
+ReportsUnparsed x _ = ⊥
 
 -- the command was carried out
 abbrev pub is_accepted : Answer → Bool
@@ -159,7 +159,7 @@ pub record RunsTo (c : Command) (r : Reply) (old new : FileMap) : Type 0 where
   -- an edit that was accepted gave the defined text
   pub edited : is_accepted r.answer ≡ true → HasEdited c old new r.printed
   -- an expression that is no program is refused before all else
-  pub unparsed : (f : Fault) → expression_fault c ≡ Some f → ReportsUnparsed f r.answer
+  pub unparsed : (x : Cause) → expression_cause c ≡ Some x → ReportsUnparsed x r.answer
   -- help was printed, or memory ran out, or the output failed
   pub helped : AnswersHelp c r.answer r.printed
 

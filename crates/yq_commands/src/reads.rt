@@ -5,7 +5,7 @@ ghost use Rattle.yq_eval.specs.MatchView.{matches_of};
 ghost use Rattle.yq_semantics.{specs.Program.is_read, specs.View.program_of};
 ghost use Rattle.yq_history.specs.Output.{showing_by};
 ghost use Rattle.yq_fault.specs.Faults.{is_failure, is_output};
-ghost use Rattle.yq_commands.{specs.Evaluation.{FailsFor, shows}, specs.ProgramAnswers.{PrintsMatch, ShowsProgram}};
+ghost use Rattle.yq_commands.{specs.CommandFaults.FailsFor, specs.Evaluation.shows, specs.ProgramAnswers.{PrintsMatch, ShowsProgram}};
 ghost use Rattle.yq_commands.specs.Reads as spec;
 
 use crate::reading::utf8_text;

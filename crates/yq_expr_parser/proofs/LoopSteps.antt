@@ -3,7 +3,8 @@ use Rattle.std.proofs.Common.{rules, ◌≡◌, ℕ, List, [], ◌∷◌, ◌++�
 use Rattle.std.{proofs.Common.{◌∙◌, append_assoc, append-nil, Result, Err}, proofs.lemmas.List.map_push, specs.Borrow.Bor}
 use Rattle.std.specs.Prelude.{codes}
 use Rattle.yq_core.specs.Answers.{◌>>=◌}
-use Rattle.yq_expr_parser.{specs.Outcome.ParseError, specs.ReadAnswers.{ParseFails, GivesForm, with_tokens, IsShorter}}
+use Rattle.yq_expr_parser.specs.ReadAnswers.{ParseFails, GivesForm, with_tokens, IsShorter}
+use Rattle.yq_semantics.specs.Parsing.{ParseError}
 use Rattle.yq_expr_parser.specs.Lexing.{tokens, after}
 use Rattle.yq_expr_parser.specs.Parse.{Parse, either, with_front, many, step_at, after_mark, parted_at, literal_at, field_at, stage_at}
 use Rattle.yq_expr_parser.specs.Parse.{term_at, parse_update}

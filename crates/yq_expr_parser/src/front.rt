@@ -1,12 +1,13 @@
 //! What is in front of a text, token by token.
 ghost use Rattle.std.specs.Prelude.{◌≡◌, ◌<◌, length, is_some, option_map, string_bytes, IfSome, IfOk};
 ghost use Rattle.yq_expr_parser.specs.ReadAnswers.{GivesForm, ReadsForm, Shortens, IsShorter, with_tokens};
-ghost use Rattle.yq_expr_parser.{specs.FormAnswers.{tokens_after, taken_from, closed_form, TakesKey}, specs.Outcome.{refusal, ill_formed}};
+ghost use Rattle.yq_expr_parser.specs.FormAnswers.{tokens_after, taken_from, closed_form, TakesKey};
+ghost use Rattle.yq_semantics.specs.Parsing.{refusal, ill_formed};
 ghost use Rattle.yq_expr_parser.specs.Lexing as spec;
 
-use crate::error::{ParseError, ParseFault};
 use crate::token::{left_of, split_token};
 use std::alloc::Global;
+use yq_semantics::{ParseError, ParseFault};
 
 /// Whether no token is left.
 #[tactic(auto, using(crate::proofs::Lexing::tokens_next))]

@@ -4,9 +4,9 @@ ghost use Rattle.yq_expr_parser.{specs.ReadAnswers.GivesForm, specs.Lexing.token
 ghost use Rattle.yq_expr_parser.specs.Outcome as grammar;
 ghost use Rattle.yq_expr_parser.specs.Parse as spec;
 
-use crate::error::ParseError;
 use crate::front::misread;
 use crate::token::{Token, left_of, split_token};
+use yq_semantics::ParseError;
 
 /// How many brackets may be open at one place.
 const MAX_OPEN: usize = 64;

@@ -5,8 +5,9 @@ ghost use Rattle.yq_history.{specs.Calls.ReadsFile, specs.Report.report_by};
 ghost use Rattle.yq_fault.specs.Faults.{is_failure, is_output};
 ghost use Rattle.yq_store.specs.Count.{failures_after};
 ghost use Rattle.yq_commands.{specs.Calls.CallsOfEvaluation, specs.CommandDone.Evaluates, specs.Editing.program_in};
-ghost use Rattle.yq_commands.{specs.CommandEffects.{IsUnparsed, fault_of}, specs.FileEdits.GivesEdit};
-ghost use Rattle.yq_commands.specs.Evaluation.{FailsFor, GivesShowing, of_file, shows};
+ghost use Rattle.yq_commands.{specs.CommandFaults.{FailsFor, IsUnparsed, cause_in}, specs.FileEdits.GivesEdit};
+ghost use Rattle.yq_history.specs.Causes.{Cause};
+ghost use Rattle.yq_commands.specs.Evaluation.{GivesShowing, of_file, shows};
 ghost use Rattle.yq_commands.specs.ProgramAnswers.{GivesUpdate, PrintsParsed, PrintsWords, ShowsWords, parsed_showing};
 
 use crate::editing::{edit_text, is_as_expected};
@@ -98,8 +99,8 @@ pub fn evaluate<D: Store>(
 ) -> Result<(), Fault>
     ensures done { ShowsWords D.keeps D.content store.old store.new words.now result report.new }
     ensures edited { PrintsWords D.keeps D.content store.old store.new words.now result report.new }
-    ensures unparsed { (f : Fault) →
-        fault_of (program_in (string_bytes words.now.expr)) ≡ Some f → IsUnparsed f result }
+    ensures unparsed { (x : Cause) →
+        cause_in (program_in (string_bytes words.now.expr)) ≡ Some x → IsUnparsed x result }
     ensures no_output { IfErr result (λ e. is_output e ≡ false) }
     ensures count { D.failures store.new ≡ failures_after result (D.failures store.old) }
     ensures calls { CallsOfEvaluation D.leads result words.now store.old store.new }

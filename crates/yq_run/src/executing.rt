@@ -1,7 +1,8 @@
 //! One command, carried out over a store.
 ghost use Rattle.std.{specs.Prelude.{◌≡◌, [], Some, IfErr, false}, specs.String.string_bytes};
 ghost use Rattle.yq_commands.specs.CommandDone.{IsSilent, MatchesStill, MatchesUnasked};
-ghost use Rattle.yq_commands.{specs.CommandEffects.{IsUnparsed, expression_fault, fault_of}, specs.Editing.program_in};
+ghost use Rattle.yq_commands.{specs.CommandFaults.{IsUnparsed, cause_in}, specs.CommandEffects.expression_cause, specs.Editing.program_in};
+ghost use Rattle.yq_history.specs.Causes.{Cause};
 ghost use Rattle.yq_commands.{specs.Calls.{CallsOf, CallsOfUpdate}, specs.Help.Helps, specs.ProgramAnswers.{Executes, Updates}};
 ghost use Rattle.yq_history.specs.Report.{nothing, report_by};
 ghost use Rattle.yq_fault.specs.Faults.{is_output};
@@ -26,8 +27,8 @@ fn update<D: Store>(
 ) -> Result<(), Fault>
     requires empty { string_bytes report.old.text ≡ [] }
     ensures done { Updates D.keeps D.content store.old store.new words.now result report.new }
-    ensures unparsed { (f : Fault) →
-        fault_of (program_in (string_bytes words.now.expr)) ≡ Some f → IsUnparsed f result }
+    ensures unparsed { (x : Cause) →
+        cause_in (program_in (string_bytes words.now.expr)) ≡ Some x → IsUnparsed x result }
     ensures silent { words.now.options.diff ≡ false → string_bytes report.new.text ≡ [] }
     ensures unasked { MatchesStill words.now.options (report_by report.old) (report_by report.new) }
     ensures no_output { IfErr result (λ e. is_output e ≡ false) }
@@ -58,7 +59,7 @@ pub fn execute<D: Store>(
 ) -> Result<(), Fault>
     requires empty { report_by report.old ≡ nothing }
     ensures done { Executes D.keeps D.content store.old store.new command.now result report.new }
-    ensures unparsed { (f : Fault) → expression_fault command.now ≡ Some f → IsUnparsed f result }
+    ensures unparsed { (x : Cause) → expression_cause command.now ≡ Some x → IsUnparsed x result }
     ensures silent { IsSilent command.now (report_by report.new) }
     ensures matched { MatchesUnasked command.now (report_by report.new) }
     ensures helped { Helps command.now result (report_by report.new) }

@@ -5,11 +5,11 @@ ghost use Rattle.yq_expr_parser.specs.FormAnswers.{ReadsOf, ReadsAll, literal_it
 ghost use Rattle.yq_core.{specs.Values.{value_node, field_of}, specs.Keys.are_distinct};
 ghost use Rattle.yq_expr_parser.specs.Parse as spec;
 
-use crate::error::ParseError;
 use crate::front::{after, closed, expect, misread, number, string};
 use std::alloc::{AllocError, Global};
 use yq_core::{Scalar, Value};
 use yq_scalar_reader::are_distinct;
+use yq_semantics::ParseError;
 
 /// A word for a scalar, if one is in front, and what follows it.
 fn word(text: &str) -> Option<(&'static str, &str)>

@@ -5,11 +5,10 @@ ghost use Rattle.yq_expr_parser.specs.FormAnswers.{ReadsAll};
 ghost use Rattle.yq_semantics.specs.View.{program_step};
 ghost use Rattle.yq_expr_parser.specs.Parse as spec;
 
-use crate::error::ParseError;
 use crate::front::{after, closed, key, misread, number, string};
 use std::alloc::Global;
 use yq_scalar_reader::int_value;
-use yq_semantics::PathStep;
+use yq_semantics::{ParseError, PathStep};
 
 /// A step in brackets, from after the opening one.
 #[tactic(auto, unfolding(crate::specs::Parse::bracketed_at))]

@@ -6,10 +6,9 @@ ghost use Rattle.yq_expr_parser.specs.Parse as spec;
 
 use super::literal::scalar;
 use super::path::path;
-use crate::error::ParseError;
 use crate::front::{after, closed, expect, misread, string};
 use std::alloc::Global;
-use yq_semantics::{Comparison, Condition, Operand, Stage, is_simple};
+use yq_semantics::{Comparison, Condition, Operand, ParseError, Stage, is_simple};
 
 /// What is compared.
 #[tactic(auto, using(yq_semantics::proofs::Lists::list_all_map), unfolding(crate::specs::Parse::operand_at))]

@@ -7,10 +7,9 @@ ghost use Rattle.yq_expr_parser.specs.Parse as spec;
 
 use super::literal::literal;
 use super::pipe::{left, pipe};
-use crate::error::ParseError;
 use crate::front::{after, begins_step, closed, expect, string};
 use std::alloc::Global;
-use yq_semantics::{Assignment, Comment, CommentPlace, Operator, Stage, Term, Update};
+use yq_semantics::{Assignment, Comment, CommentPlace, Operator, ParseError, Stage, Term, Update};
 
 /// How many collections may be nested in a literal.
 const LITERAL_DEPTH: usize = 64;

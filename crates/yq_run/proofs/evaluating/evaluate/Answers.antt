@@ -4,7 +4,7 @@ use Rattle.yq_semantics.specs.View.{program_of}
 use Rattle.yq_history.{proofs.CallLaws.fails, specs.Report.report_by}
 use Rattle.yq_fault.specs.declared.fault.Fault.{Fault}
 use Rattle.yq_commands.{proofs.DoneLaws.{by_words, parsed_shows, unparsed_shows}, proofs.CommandCalls.{none_yet, parsed_calls}}
-use Rattle.yq_commands.{specs.Calls.CallsToShow, specs.CommandDone.Evaluates, specs.CommandEffects.{IsUnparsed, fault_of}}
+use Rattle.yq_commands.{specs.Calls.CallsToShow, specs.CommandDone.Evaluates, specs.CommandFaults.{IsUnparsed, cause_in}}
 use Rattle.yq_commands.{specs.Editing.program_in, specs.Evaluation.evaluated, specs.FileEdits.PrintsUpdate}
 use Rattle.yq_commands.proofs.FileEditLaws.{parsed_free, printed_comes, unparsed_fault}
 use Rattle.yq_run.proofs.evaluating.evaluate.Goals as goal
@@ -38,12 +38,12 @@ returns-clause-edited g c = λ keeps.
 pub returns-in_err-program-clause-unparsed : goal.returns-in_err-program-clause-unparsed
 returns-in_err-program-clause-unparsed g c =
     let p = err_from_is_err_and c.from_residual.result c.from_residual.ensures.1 in
-    subst (λ x. (f : Fault) → fault_of (program_in x) ≡ Some f → IsUnparsed f c.from_residual.result) c.as_str-expr.ensures.value
+    subst (λ x. (y : Cause) → cause_in (program_in x) ≡ Some y → IsUnparsed y c.from_residual.result) c.as_str-expr.ensures.value
     (unparsed_fault c.from_residual.result c.as_str-expr.result.now _ (p.1 ∙ ap Err p.2) c.in_err-program.ensures.err)
 
 pub returns-clause-unparsed : goal.returns-clause-unparsed
 returns-clause-unparsed g c =
-    subst (λ x. (f : Fault) → fault_of (program_in x) ≡ Some f → IsUnparsed f c.evaluate_program.result) c.as_str-expr.ensures.value
+    subst (λ x. (y : Cause) → cause_in (program_in x) ≡ Some y → IsUnparsed y c.evaluate_program.result) c.as_str-expr.ensures.value
     (parsed_free c.evaluate_program.result c.as_str-expr.result.now (program_of c.in_ok-program.program) c.in_ok-program.ensures.ok)
 
 pub returns-in_err-program-clause-calls : goal.returns-in_err-program-clause-calls

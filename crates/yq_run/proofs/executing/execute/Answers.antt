@@ -3,7 +3,7 @@ use Rattle.std.{proofs.lemmas.Option.none-some, specs.FinMap.get, specs.String.s
 use Rattle.yq_history.{specs.Effects.{listing_effect, move_effect, squash_effect}, specs.Report.{Report, report_by}}
 use Rattle.yq_history.{specs.Steps.{listing_cause, move_cause, move_next, squash_cause, squash_next}, proofs.EffectLaws.on_ok}
 use Rattle.yq_args.specs.declared.command.Command.TheVariants.{Eval}
-use Rattle.yq_commands.{specs.CommandEffects.{expression_fault, fault_of}, specs.Editing.program_in}
+use Rattle.yq_commands.{specs.CommandEffects.expression_cause, specs.Editing.program_in}
 use Rattle.yq_commands.{specs.Prints.{prints, reads_journal, prints_change}, specs.Expecting.expects_change}
 use Rattle.yq_commands.proofs.ExpectingLaws.{none_expected}
 use Rattle.yq_commands.specs.CommandDone.{ArrivesOn, EditsOn, ExpectsOn, ListsOn, OthersOn, ShowsOn, WorksOn}
@@ -30,7 +30,7 @@ returns-in-Undo g c =
         kept = e.kept keeps;
         others = subst (OthersOn _ _) (sym is) (pair_others _ _ _ _ c.as_str.ensures.value c.as_str-in-Undo.ensures.value _ _ (e.others keeps));
       };
-      unparsed = λ f fault. absurd (none-some f (sym (ap expression_fault is) ∙ fault));
+      unparsed = λ x cause. absurd (none-some x (sym (ap expression_cause is) ∙ cause));
       silent = λ hidden still. ap (λ (s : Report). s.printed) c.requires.empty;
       matched = λ reads free. ap (λ (s : Report). s.is_match) c.requires.empty;
       helped = subst (λ x. Helps x c.move_file.result (report_by c.args.report.now)) (sym is) tt;
@@ -58,7 +58,7 @@ returns-in-Redo g c =
         kept = e.kept keeps;
         others = subst (OthersOn _ _) (sym is) (pair_others _ _ _ _ c.as_str-in-Redo.ensures.value c.as_str-in-Redo-2.ensures.value _ _ (e.others keeps));
       };
-      unparsed = λ f fault. absurd (none-some f (sym (ap expression_fault is) ∙ fault));
+      unparsed = λ x cause. absurd (none-some x (sym (ap expression_cause is) ∙ cause));
       silent = λ hidden still. ap (λ (s : Report). s.printed) c.requires.empty;
       matched = λ reads free. ap (λ (s : Report). s.is_match) c.requires.empty;
       helped = subst (λ x. Helps x c.move_file-in-Redo.result (report_by c.args.report.now)) (sym is) tt;
@@ -86,7 +86,7 @@ returns-in-Squash g c =
         kept = e.kept keeps;
         others = subst (OthersOn _ _) (sym is) (pair_others _ _ _ _ c.as_str-in-Squash.ensures.value c.as_str-in-Squash-2.ensures.value _ _ (λ q apart beside. e.others keeps q beside));
       };
-      unparsed = λ f fault. absurd (none-some f (sym (ap expression_fault is) ∙ fault));
+      unparsed = λ x cause. absurd (none-some x (sym (ap expression_cause is) ∙ cause));
       silent = λ hidden still. ap (λ (s : Report). s.printed) c.requires.empty;
       matched = λ reads free. ap (λ (s : Report). s.is_match) c.requires.empty;
       helped = subst (λ x. Helps x c.squash.result (report_by c.args.report.now)) (sym is) tt;
@@ -116,7 +116,7 @@ returns-in-History g c =
         kept = each_error _ c.listing.result (λ x inside. e.same keeps);
         others = λ q apart. ap (λ m. get m q) (e.same keeps);
       };
-      unparsed = λ f fault. absurd (none-some f (sym (ap expression_fault is) ∙ fault));
+      unparsed = λ x cause. absurd (none-some x (sym (ap expression_cause is) ∙ cause));
       silent = λ hidden still. absurd (true≢false (sym (ap prints is) ∙ hidden));
       matched = λ reads free. e.matched;
       helped = subst (λ x. Helps x c.listing.result (report_by report)) (sym is) tt;
@@ -142,7 +142,7 @@ returns-in-Help g c =
         kept = each_error _ c.help.result (λ x inside. refl);
         others = λ q apart. refl;
       };
-      unparsed = λ f fault. absurd (none-some f (sym (ap expression_fault is) ∙ fault));
+      unparsed = λ x cause. absurd (none-some x (sym (ap expression_cause is) ∙ cause));
       silent = λ hidden still. absurd (true≢false (sym (ap prints is) ∙ hidden));
       matched = λ reads free. absurd (false≢true (sym (ap reads_journal is) ∙ reads));
       helped = subst (λ x. Helps x c.help.result (report_by c.help.new.report)) (sym is) c.help.ensures.text;
@@ -169,7 +169,7 @@ returns-in-Eval g c =
         kept = each_error _ c.evaluate.result (λ x inside. (e.done keeps).same);
         others = λ q apart. ap (λ m. get m q) (e.done keeps).same;
       };
-      unparsed = λ f fault. e.unparsed f (sym (ap expression_fault is) ∙ fault);
+      unparsed = λ y cause. e.unparsed y (sym (ap expression_cause is) ∙ cause);
       silent = λ hidden still. absurd (true≢false (sym (ap prints is) ∙ hidden));
       matched = λ reads free. absurd (false≢true (sym (ap reads_journal is) ∙ reads));
       helped = subst (λ x. Helps x c.evaluate.result (report_by c.evaluate.new.report)) (sym is) tt;
@@ -198,7 +198,7 @@ returns-in-Eval-default-true g c =
         kept = (e.done keeps).kept;
         others = subst (OthersOn _ _) (sym is) (pair_others _ _ _ _ refl refl _ _ (e.done keeps).others);
       };
-      unparsed = λ f fault. e.unparsed f (sym (ap expression_fault is) ∙ fault);
+      unparsed = λ y cause. e.unparsed y (sym (ap expression_cause is) ∙ cause);
       silent = λ hidden still. e.silent (sym (ap prints_change is) ∙ still);
       matched = λ reads free. e.unasked (sym (ap expects_change is) ∙ free) (ap (λ (s : Report). s.is_match) c.requires.empty);
       helped = subst (λ x. Helps x c.update.result (report_by c.update.new.report)) (sym is) tt;

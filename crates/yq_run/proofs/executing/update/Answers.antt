@@ -3,7 +3,7 @@ use Rattle.std.{specs.FinMap.get, specs.String.string_bytes}
 use Rattle.yq_journal.specs.State.{State}
 use Rattle.yq_semantics.specs.View.{program_of}
 use Rattle.yq_commands.specs.Editing.{program_edits, program_in}
-use Rattle.yq_commands.specs.CommandEffects.{edit_effect, update_effect, output_by, IsUnparsed, fault_of}
+use Rattle.yq_commands.specs.CommandEffects.{edit_effect, update_effect, output_by}
 use Rattle.yq_commands.{specs.Expecting.{report_edit, works_as_expected}, proofs.EditEffects.parsed_works}
 use Rattle.yq_commands.proofs.FileEditLaws.{file_comes, parsed_free, unparsed_fault, both_come, change_output_by}
 use Rattle.yq_commands.{specs.CommandSteps.{update_cause, update_next}, proofs.ExpectingLaws.{effect_expected, matched_as, history_showing}}
@@ -75,7 +75,7 @@ returns g c =
           });
       silent = e.silent;
       unasked = e.unasked;
-      unparsed = subst (λ x. (f : Fault) → fault_of (program_in x) ≡ Some f → IsUnparsed f c.edit_from.result) c.as_str-expr.ensures.value
+      unparsed = subst (λ x. (y : Cause) → cause_in (program_in x) ≡ Some y → IsUnparsed y c.edit_from.result) c.as_str-expr.ensures.value
           (parsed_free c.edit_from.result c.as_str-expr.result.now (program_of c.in_ok-program.program) c.in_ok-program.ensures.ok);
       no_output = e.no_output;
       count = e.count ∙ ap (failures_after c.edit_from.result) o.count;
@@ -109,12 +109,12 @@ returns-in_err-text-clause-done g c = λ keeps.
 pub returns-in_err-program-clause-unparsed : goal.returns-in_err-program-clause-unparsed
 returns-in_err-program-clause-unparsed g c =
     let p = err_from_is_err_and c.from_residual.result c.from_residual.ensures.1 in
-    subst (λ x. (f : Fault) → fault_of (program_in x) ≡ Some f → IsUnparsed f c.from_residual.result) c.as_str-expr.ensures.value
+    subst (λ x. (y : Cause) → cause_in (program_in x) ≡ Some y → IsUnparsed y c.from_residual.result) c.as_str-expr.ensures.value
     (unparsed_fault c.from_residual.result c.as_str-expr.result.now _ (p.1 ∙ ap Err p.2) c.in_err-program.ensures.err)
 
 pub returns-in_err-text-clause-unparsed : goal.returns-in_err-text-clause-unparsed
 returns-in_err-text-clause-unparsed g c =
-    subst (λ x. (f : Fault) → fault_of (program_in x) ≡ Some f → IsUnparsed f c.from_residual-in_err-text.result) c.as_str-expr.ensures.value
+    subst (λ x. (y : Cause) → cause_in (program_in x) ≡ Some y → IsUnparsed y c.from_residual-in_err-text.result) c.as_str-expr.ensures.value
     (parsed_free c.from_residual-in_err-text.result c.as_str-expr.result.now (program_of c.in_ok-program.program) c.in_ok-program.ensures.ok)
 
 pub returns-in_err-program-clause-calls : goal.returns-in_err-program-clause-calls

@@ -5,7 +5,7 @@ use yq_failure::Failure;
 
 /// What is at fault in a text that is not a program. `left` is how many bytes of the text there are from
 /// the token at fault on.
-#[derive(Clone, Copy, Debug)]
+#[derive(Clone, Copy, PartialEq, Eq, Debug)]
 pub enum ParseFault {
     /// E1: it is not written as an expression. `expected` is what an expression has there: a mark, or the
     /// name of a form; empty where that isn't known.
@@ -18,7 +18,7 @@ pub enum ParseFault {
 
 impl ParseFault {
     /// How many bytes of the text there are from the token at fault on.
-    pub(crate) fn left(&self) -> usize {
+    pub fn left(&self) -> usize {
         match self {
             ParseFault::Syntax { left, .. }
             | ParseFault::NotInProfile { left }
