@@ -1,5 +1,6 @@
 //! A line of a text, and a caret below a place of it.
 
+use crate::parts::in_two;
 use std::alloc::AllocError;
 
 /// How many columns of a line are shown, and how many of these before the place at most.
@@ -73,29 +74,19 @@ fn push_after(out: &mut String, after: &str, before: usize) -> Result<(), AllocE
     Ok(())
 }
 
-/// What is before a place on its line.
-pub fn line_before(before: &str) -> &str {
-    match before.rsplit_once('\n') {
-        Some((_, line)) => line,
-        None => before,
-    }
-}
-
-/// What is from a place on, on its line.
-fn line_after(after: &str) -> &str {
-    let line = match after.split_once('\n') {
-        Some((line, _)) => line,
-        None => after,
-    };
-    line.strip_suffix('\r').unwrap_or(line)
+/// The line on which a place is, parted there.
+pub fn line_at(text: &str, at: usize) -> (&str, &str) {
+    let (before, after) = in_two(text, at);
+    let before = before.rsplit_once('\n').unwrap_or(("", before)).1;
+    let after = after.split_once('\n').unwrap_or((after, "")).0;
+    (before, after.strip_suffix('\r').unwrap_or(after))
 }
 
 /// Adds the line of a text on which a place is, and a caret below that.
 pub fn push_caret(out: &mut String, text: &str, at: usize) -> Result<(), AllocError> {
-    let (before, after) = text.split_at_checked(at).unwrap_or((text, ""));
+    let (before, after) = line_at(text, at);
     out.push_str("  ")?;
-    let after = line_after(after);
-    let columns = push_before(out, line_before(before), after)?;
+    let columns = push_before(out, before, after)?;
     push_after(out, after, columns)?;
     out.push_str("\n  ")?;
     'columns: for _ in 0..columns {

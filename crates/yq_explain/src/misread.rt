@@ -1,7 +1,7 @@
 //! What is no expression.
 
 use crate::advice::{Advice, BY_SELECT, advise, of_value, rewrite};
-use crate::parts::{Parts, first_char, last_char, parted_at_value};
+use crate::parts::{Parts, first_char, in_two, last_char, parted_at_value};
 use crate::updates::{of_comma, of_equals, of_step};
 use std::alloc::{AllocError, Global};
 
@@ -34,10 +34,7 @@ fn of_dot(alloc: Global, p: Parts<'_>) -> Result<Option<Advice>, AllocError> {
     match first_char(p.after) {
         Some(c) if c.is_ascii_digit() => {
             let (number, rest) = match key.token.split_once('.') {
-                Some((number, _)) => p
-                    .after
-                    .split_at_checked(number.len())
-                    .unwrap_or((number, "")),
+                Some((number, _)) => in_two(p.after, number.len()),
                 None => (key.token, key.after),
             };
             let parts = [p.before, "[", number, "]", rest];
@@ -70,8 +67,8 @@ fn of_unread(
             let key = parted_at_value(expr, at);
             let path = key.before.len().saturating_add(1);
             let word = key.token.split_once('.').unwrap_or(("", key.token)).1;
-            let before = expr.split_at_checked(path).unwrap_or((expr, "")).0;
-            rewrite(alloc, OTHER_KEY, &[before, "\"", word, "\"", key.after])
+            let parts = [in_two(expr, path).0, "\"", word, "\"", key.after];
+            rewrite(alloc, OTHER_KEY, &parts)
         }
         _ => Ok(None),
     }

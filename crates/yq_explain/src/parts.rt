@@ -10,6 +10,11 @@ pub struct Parts<'e> {
     pub after: &'e str,
 }
 
+/// A text in two at a place; whole, and nothing after it, where it has no such place.
+pub fn in_two(text: &str, at: usize) -> (&str, &str) {
+    text.split_at_checked(at).unwrap_or((text, ""))
+}
+
 /// Whether a character is one of words.
 pub fn is_word_char(c: char) -> bool {
     c.is_alphanumeric() || c == '_'
@@ -32,12 +37,11 @@ fn mark_len(text: &str) -> usize {
 
 /// An expression, parted where its token at fault begins.
 pub fn parted(expr: &str, at: usize) -> Parts<'_> {
-    let (before, rest) = expr.split_at_checked(at).unwrap_or((expr, ""));
+    let (before, rest) = in_two(expr, at);
     let word = rest
         .len()
         .saturating_sub(rest.trim_start_matches(is_word_char).len());
-    let len = if word > 0 { word } else { mark_len(rest) };
-    let (token, after) = rest.split_at_checked(len).unwrap_or((rest, ""));
+    let (token, after) = in_two(rest, if word > 0 { word } else { mark_len(rest) });
     Parts {
         before,
         token,
@@ -47,17 +51,12 @@ pub fn parted(expr: &str, at: usize) -> Parts<'_> {
 
 /// The same, parted at the whole value without quotes that goes on at this place.
 pub fn parted_at_value(expr: &str, at: usize) -> Parts<'_> {
-    let before = expr.split_at_checked(at).unwrap_or((expr, "")).0;
-    let (before, rest) = expr
-        .split_at_checked(before.trim_end_matches(is_value_char).len())
-        .unwrap_or((expr, ""));
-    let len = rest
-        .len()
-        .saturating_sub(rest.trim_start_matches(is_value_char).len());
-    let (token, after) = rest.split_at_checked(len).unwrap_or((rest, ""));
+    let before = in_two(expr, at).0.trim_end_matches(is_value_char);
+    let rest = in_two(expr, before.len()).1;
+    let after = rest.trim_start_matches(is_value_char);
     Parts {
         before,
-        token,
+        token: in_two(rest, rest.len().saturating_sub(after.len())).0,
         after,
     }
 }

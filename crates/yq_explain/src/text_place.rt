@@ -1,6 +1,6 @@
 //! Where a text is at fault.
 
-use crate::caret::{line_before, push_caret, push_name};
+use crate::caret::{line_at, push_caret, push_name};
 use std::alloc::{AllocError, Global};
 use yq_core::fault_place::fault_at;
 use yq_core::{ReadFault, spaces_len};
@@ -40,8 +40,7 @@ pub fn place_lines(
         Some(bytes) if fault_at(fault.kind, bytes, fault.at) == fault => {
             let text = text_in(bytes);
             let at = past_spaces(text, fault.at);
-            let before = text.split_at_checked(at).unwrap_or((text, "")).0;
-            let column = line_before(before).chars().count().saturating_add(1);
+            let column = line_at(text, at).0.chars().count().saturating_add(1);
             let column = format!(in alloc; ", column {column}:\n")?;
             out.push_str(column.as_str())?;
             push_caret(&mut out, text, at)?;
