@@ -2,8 +2,7 @@
 use Rattle.std.proofs.Common.{◌≡◌, inl, inr, ℕ, false, List, [], ◌∷◌, ◌++◌, Result, Ok, Err, is_ok, sym, subst, refl}
 use Rattle.yq_semantics.specs.Program.{Program}
 use Rattle.yq_args.specs.declared.command.Command.{Command}
-use Rattle.yq_history.specs.Causes.{Cause}
-use Rattle.yq_history.{specs.Report.Report, specs.Calls.CallsOnPair, specs.Effects.Effect}
+use Rattle.yq_history.{specs.Causes.Cause, specs.Report.Report, specs.Calls.CallsOnPair, specs.Effects.Effect}
 use Rattle.yq_fault.specs.declared.fault.Fault.{Fault}
 use Rattle.yq_store.specs.Calls.{Call}
 use Rattle.yq_commands.{specs.declared.answer.Answer.Answer, specs.Lists.IsAnswer, specs.Calls.{CallsOf, CallsOfAll, IfProgram}}

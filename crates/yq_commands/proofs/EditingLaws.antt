@@ -3,13 +3,12 @@ use Rattle.std.proofs.Common.{rules, ◌≡◌, ◌≢◌, ℕ, List, true, fals
 use Rattle.std.specs.Str.{is_utf8}
 use Rattle.yq_core.{specs.declared.ReadFault.ReadFault, specs.declared.fault.FaultKind.TheVariants.NotUtf8}
 use Rattle.yq_documents.specs.Reading.{read_at, checked_at}
-use Rattle.yq_semantics.specs.Program.{Program}
+use Rattle.yq_semantics.{specs.Program.Program, specs.Parsing.refusal, specs.declared.parse_fault.ParseFault.ParseFault}
 use Rattle.yq_edit_laws.{specs.Carried.{edit_of, program_done}, specs.Edit.by_reading}
 use Rattle.yq_fault.{specs.declared.fault.Fault.Fault, specs.declared.fault.Fault.TheVariants.{Expression, Unreadable}}
 use Rattle.yq_history.specs.Causes.{IsFor, IsUnreadable, no_program}
 use Rattle.yq_commands.{specs.CommandFaults.cause_in, specs.Editing.{Refuses, program_edits, program_in, unreadable, edit_outcome}}
 use Rattle.yq_expr_parser.specs.Parse.{outcome}
-use Rattle.yq_semantics.{specs.Parsing.refusal, specs.declared.parse_fault.ParseFault.ParseFault}
 
 -- bytes that are no UTF-8
 pub not_read : (t : List ℕ) → is_utf8 t ≡ false → read_at t ≡ None

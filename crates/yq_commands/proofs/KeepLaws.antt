@@ -3,8 +3,8 @@ use Rattle.std.proofs.Common.{rules, ◌≡◌, ◌≢◌, ◌⊎◌, inl, inr, 
 use Rattle.std.{proofs.Common.{IfErr, sym, ap, ◌∙◌, subst, refl}, proofs.lemmas.List.Elements.{All-head, All-tail}, specs.FinMap.get}
 use Rattle.std.specs.String.{string_bytes}
 use Rattle.yq_journal.{specs.Good.Good, specs.History.History}
-use Rattle.yq_commands.specs.declared.answer.Answer.{Answer}
-use Rattle.yq_commands.{specs.CommandFaults.IsUnparsed, specs.CommandEffects.{OfEffect, IsListing, expression_cause, output_by}, specs.FileEdits.HasEdited}
+use Rattle.yq_commands.{specs.declared.answer.Answer.Answer, specs.CommandFaults.IsUnparsed}
+use Rattle.yq_commands.{specs.CommandEffects.{OfEffect, IsListing, expression_cause, output_by}, specs.FileEdits.HasEdited}
 use Rattle.yq_commands.{specs.CommandDone.{CarriesOut, IsSilent}, specs.CommandNames.{IsOn, file_of}}
 use Rattle.yq_commands.specs.Lists.{IsUnrelated, AllOnOrApart, Reply, IsAnswer, Goes, RunsAll, ReportsEffect, HasEffect, RunsTo, Keeps}
 use Rattle.yq_commands.{specs.Lists.{ReportsUnparsed, is_accepted, leaves_names}, specs.Help.{AnswersHelp, Helps}}

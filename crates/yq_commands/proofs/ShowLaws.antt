@@ -17,8 +17,7 @@ use Rattle.yq_store.specs.FileMap.{FileMap}
 use Rattle.yq_args.specs.declared.eval_options.EvalOptions.{EvalOptions}
 use Rattle.yq_commands.specs.Editing.{EditOutcome, edited, Refuses, program_edits}
 use Rattle.yq_commands.specs.Evaluation.{of_file, IsShowing, show_edit, show_found, show_read, shows, report_in, edit_output}
-use Rattle.yq_commands.specs.CommandFaults.{cause_in}
-use Rattle.yq_commands.{proofs.EditingLaws.unread_text, specs.Expecting.{change_output, changes_as_expected}}
+use Rattle.yq_commands.{specs.CommandFaults.cause_in, proofs.EditingLaws.unread_text, specs.Expecting.{change_output, changes_as_expected}}
 use Rattle.yq_text.specs.Splice.{Splice}
 use Rattle.yq_history.specs.declared.report.Report as declared
 use Rattle.yq_semantics.specs.Judgement as judgement

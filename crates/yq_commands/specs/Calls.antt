@@ -3,8 +3,7 @@ use Rattle.std.{specs.Prelude.{◌≡◌, ◌⊎◌, ℕ, List, [], ◌∷◌, t
 use Rattle.yq_semantics.specs.Program.{Program}
 use Rattle.yq_args.{specs.declared.command.Command.Command, specs.declared.eval_words.EvalWords.EvalWords}
 use Rattle.yq_args.specs.declared.command.Command.TheVariants.{Eval, Undo, Redo, History as Lists, Squash, Help}
-use Rattle.yq_history.specs.Causes.{Cause}
-use Rattle.yq_history.{specs.Calls.{CallsOnPair, ReadsFile}, specs.Report.Report}
+use Rattle.yq_history.{specs.Causes.Cause, specs.Calls.{CallsOnPair, ReadsFile}, specs.Report.Report}
 use Rattle.yq_history.specs.Effects.{move_effect, squash_effect, listing_effect}
 use Rattle.yq_fault.specs.declared.fault.Fault.{Fault}
 use Rattle.yq_store.specs.Calls.{Call}

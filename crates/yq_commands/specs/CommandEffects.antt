@@ -9,8 +9,8 @@ use Rattle.yq_args.specs.declared.command.Command.TheVariants.{Eval, Undo, Redo,
 use Rattle.yq_fault.{specs.declared.fault.Fault.Fault, specs.declared.fault.Fault.TheVariants.OutOfMemory}
 use Rattle.yq_history.specs.Effects.{Effect, refuses, writes_nothing, writes_both, from_pair, move_effect, squash_effect, listing_effect}
 use Rattle.yq_history.{specs.Effects.printed_by, specs.Causes.{Cause, named, no_reading}, specs.Output.{IsOutput, Output, bytes, diff}}
-use Rattle.yq_commands.specs.CommandFaults.{cause_in}
-use Rattle.yq_commands.{specs.Editing.{EditOutcome, unreadable, refused, edited, program_in, program_edits}, specs.Edits.record_between}
+use Rattle.yq_commands.{specs.CommandFaults.cause_in, specs.Editing.{EditOutcome, unreadable, refused, edited, program_in, program_edits}}
+use Rattle.yq_commands.specs.Edits.{record_between}
 use Rattle.yq_journal.specs.declared.moves.Move.TheVariants as move
 use Rattle.yq_fault.specs.declared.fault.Fault.TheVariants as fault
 

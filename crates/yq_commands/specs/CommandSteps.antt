@@ -9,8 +9,8 @@ use Rattle.yq_args.specs.declared.command.Command.TheVariants.{Eval, Undo, Redo,
 use Rattle.yq_fault.specs.declared.fault.Fault.{Fault}
 use Rattle.yq_history.specs.Causes.{Cause, named, no_reading}
 use Rattle.yq_history.specs.Steps.{move_cause, move_next, squash_cause, squash_next, listing_cause}
-use Rattle.yq_commands.specs.Editing.{EditOutcome, unreadable, refused, edited, program_in, program_edits}
-use Rattle.yq_commands.{specs.Evaluation.evaluated, specs.CommandFaults.cause_in}
+use Rattle.yq_commands.{specs.Editing.{EditOutcome, unreadable, refused, edited, program_in, program_edits}, specs.Evaluation.evaluated}
+use Rattle.yq_commands.specs.CommandFaults.{cause_in}
 use Rattle.yq_journal.specs.declared.moves.Move.TheVariants as move
 use Rattle.yq_fault.specs.declared.fault.Fault.TheVariants as fault
 

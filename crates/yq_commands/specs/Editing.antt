@@ -1,7 +1,6 @@
 -- What an expression makes of a text.
 use Rattle.std.specs.Prelude.{◌≡◌, ◌≢◌, ℕ, List, Some, Result, Ok, Err, IfErr, length, string_bytes}
-use Rattle.yq_semantics.specs.Program.{Program}
-use Rattle.yq_semantics.specs.Parsing.{Outcome, parsed}
+use Rattle.yq_semantics.{specs.Program.Program, specs.Parsing.{Outcome, parsed}}
 use Rattle.yq_expr_parser.specs.Parse.{outcome}
 use Rattle.yq_text.{specs.Splice.{Splice, all_done, lengths_done}, specs.declared.edited.Edited.Edited}
 use Rattle.yq_edit_laws.{specs.Carried.edit_of, specs.Edit.Edit}

@@ -5,8 +5,8 @@ use Rattle.yq_semantics.specs.Program.{Program}
 use Rattle.yq_journal.specs.History.{History, text_at}
 use Rattle.yq_args.{specs.declared.command.Command.Command, specs.declared.command.Command.TheVariants.Eval}
 use Rattle.yq_args.specs.declared.eval_options.EvalOptions.{EvalOptions}
-use Rattle.yq_history.specs.Causes.{Cause}
-use Rattle.yq_history.{specs.Effects.{Effect, writes_nothing}, specs.Output.{IsOutput, Output, Showing, bytes, diff, showing_nothing}}
+use Rattle.yq_history.{specs.Causes.Cause, specs.Effects.{Effect, writes_nothing}}
+use Rattle.yq_history.specs.Output.{IsOutput, Output, Showing, bytes, diff, showing_nothing}
 use Rattle.yq_fault.specs.declared.fault.Fault.{Fault}
 use Rattle.yq_store.specs.FileMap.{FileMap}
 use Rattle.yq_commands.{specs.CommandEffects.OfEffect, specs.Editing.{EditOutcome, edited, program_edits}}

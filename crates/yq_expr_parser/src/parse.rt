@@ -1,11 +1,8 @@
 //! Texts are parsed into programs.
 ghost use Rattle.std.specs.Prelude.{◌≡◌, IfOk, IfErr};
-ghost use Rattle.yq_expr_parser.specs.ReadAnswers.{GivesForm};
-ghost use Rattle.yq_expr_parser.specs.Lexing.{tokens};
-ghost use Rattle.yq_expr_parser.specs.Outcome.{Answers, ExprRefused};
-ghost use Rattle.yq_semantics.specs.Parsing.{refusal};
+ghost use Rattle.yq_expr_parser.{specs.ReadAnswers.GivesForm, specs.Lexing.tokens, specs.Outcome.{Answers, ExprRefused}};
 ghost use Rattle.yq_expr_parser.specs.FormAnswers.{GivesAll, IsProgramOf, AnswersEach};
-ghost use Rattle.yq_semantics.{specs.Grammar.literal_depth, specs.View.{stage_of, program_of}};
+ghost use Rattle.yq_semantics.{specs.Parsing.refusal, specs.Grammar.literal_depth, specs.View.{stage_of, program_of}};
 ghost use Rattle.yq_expr_parser.specs.Parse as spec;
 
 mod literal;

@@ -1,12 +1,11 @@
 //! Expressions that aren't carried out in place: what they show of a file.
 ghost use Rattle.std.{specs.Prelude.{◌≡◌, Some, IfErr, IsTrue, false}, specs.String.string_bytes};
 ghost use Rattle.yq_semantics.{specs.Program.is_read, specs.View.program_of};
-ghost use Rattle.yq_history.{specs.Calls.ReadsFile, specs.Report.report_by};
+ghost use Rattle.yq_history.{specs.Calls.ReadsFile, specs.Report.report_by, specs.Causes.Cause};
 ghost use Rattle.yq_fault.specs.Faults.{is_failure, is_output};
 ghost use Rattle.yq_store.specs.Count.{failures_after};
 ghost use Rattle.yq_commands.{specs.Calls.CallsOfEvaluation, specs.CommandDone.Evaluates, specs.Editing.program_in};
 ghost use Rattle.yq_commands.{specs.CommandFaults.{FailsFor, IsUnparsed, cause_in}, specs.FileEdits.GivesEdit};
-ghost use Rattle.yq_history.specs.Causes.{Cause};
 ghost use Rattle.yq_commands.specs.Evaluation.{GivesShowing, of_file, shows};
 ghost use Rattle.yq_commands.specs.ProgramAnswers.{GivesUpdate, PrintsParsed, PrintsWords, ShowsWords, parsed_showing};
 

@@ -1,10 +1,9 @@
 //! One command, carried out over a store.
 ghost use Rattle.std.{specs.Prelude.{◌≡◌, [], Some, IfErr, false}, specs.String.string_bytes};
-ghost use Rattle.yq_commands.specs.CommandDone.{IsSilent, MatchesStill, MatchesUnasked};
-ghost use Rattle.yq_commands.{specs.CommandFaults.{IsUnparsed, cause_in}, specs.CommandEffects.expression_cause, specs.Editing.program_in};
-ghost use Rattle.yq_history.specs.Causes.{Cause};
-ghost use Rattle.yq_commands.{specs.Calls.{CallsOf, CallsOfUpdate}, specs.Help.Helps, specs.ProgramAnswers.{Executes, Updates}};
-ghost use Rattle.yq_history.specs.Report.{nothing, report_by};
+ghost use Rattle.yq_commands.{specs.CommandDone.{IsSilent, MatchesStill, MatchesUnasked}, specs.CommandFaults.{IsUnparsed, cause_in}};
+ghost use Rattle.yq_commands.{specs.CommandEffects.expression_cause, specs.Editing.program_in, specs.Calls.{CallsOf, CallsOfUpdate}};
+ghost use Rattle.yq_commands.{specs.Help.Helps, specs.ProgramAnswers.{Executes, Updates}};
+ghost use Rattle.yq_history.{specs.Causes.Cause, specs.Report.{nothing, report_by}};
 ghost use Rattle.yq_fault.specs.Faults.{is_output};
 ghost use Rattle.yq_store.specs.Count.{failures_after};
 

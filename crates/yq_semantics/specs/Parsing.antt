@@ -1,6 +1,5 @@
 -- What comes of a text as an expression: its program, or why it has none (own).
-use Rattle.yq_semantics.specs.Program.{Program}
-use Rattle.yq_semantics.specs.declared.parse_fault.ParseFault.{ParseFault}
+use Rattle.yq_semantics.{specs.Program.Program, specs.declared.parse_fault.ParseFault.ParseFault}
 use Rattle.yq_failure.specs.declared.failure.Failure.{Failure}
 use Rattle.yq_semantics.specs.declared.parse_fault.ParseFault.TheVariants as fault
 

@@ -2,8 +2,7 @@ use Rattle.std.{proofs.Common.{◌≡◌, ℕ, List, false, Ok, Err, IfErr, Some
 use Rattle.std.{specs.FinMap.get, specs.String.string_bytes}
 use Rattle.yq_journal.specs.State.{State}
 use Rattle.yq_semantics.specs.View.{program_of}
-use Rattle.yq_commands.specs.Editing.{program_edits, program_in}
-use Rattle.yq_commands.specs.CommandEffects.{edit_effect, update_effect, output_by}
+use Rattle.yq_commands.{specs.Editing.{program_edits, program_in}, specs.CommandEffects.{edit_effect, update_effect, output_by}}
 use Rattle.yq_commands.{specs.Expecting.{report_edit, works_as_expected}, proofs.EditEffects.parsed_works}
 use Rattle.yq_commands.proofs.FileEditLaws.{file_comes, parsed_free, unparsed_fault, both_come, change_output_by}
 use Rattle.yq_commands.{specs.CommandSteps.{update_cause, update_next}, proofs.ExpectingLaws.{effect_expected, matched_as, history_showing}}
