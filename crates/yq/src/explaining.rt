@@ -50,12 +50,10 @@ fn lines_of(
 ) -> Result<String, Fault> {
     let (file, _) = purpose_of(command);
     match (fault, command) {
-        (Some(Fault::Expression(fault)), Command::Eval { words, .. }) => Ok(expression_lines(
-            rt.alloc(),
-            words.expr.as_str(),
-            fault,
-            code,
-        )?),
+        (Some(Fault::Expression(place)), Command::Eval { words, .. }) => {
+            let expr = words.expr.as_str();
+            Ok(expression_lines(rt.alloc(), expr, place, code)?)
+        }
         (Some(Fault::Unreadable(place)), _) => {
             let bytes = bytes_of(rt, file);
             let mut text = place_lines(rt.alloc(), file, bytes.as_deref(), place)?;
