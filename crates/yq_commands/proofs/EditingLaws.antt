@@ -6,8 +6,8 @@ use Rattle.yq_documents.specs.Reading.{read_at, checked_at}
 use Rattle.yq_semantics.{specs.Program.Program, specs.Parsing.refusal, specs.declared.parse_fault.ParseFault.ParseFault}
 use Rattle.yq_edit_laws.{specs.Carried.{edit_of, program_done}, specs.Edit.by_reading}
 use Rattle.yq_fault.{specs.declared.fault.Fault.Fault, specs.declared.fault.Fault.TheVariants.{Expression, Unreadable}}
-use Rattle.yq_history.specs.Causes.{IsFor, IsUnreadable, no_program}
-use Rattle.yq_commands.{specs.CommandFaults.cause_in, specs.Editing.{Refuses, program_edits, program_in, unreadable, edit_outcome}}
+use Rattle.yq_history.specs.Causes.{IsFor, IsUnreadable, no_reading}
+use Rattle.yq_commands.{specs.CommandFaults.cause_in, specs.Editing.{Refuses, program_edits, program_in, refused, edit_outcome}}
 use Rattle.yq_expr_parser.specs.Parse.{outcome}
 
 -- bytes that are no UTF-8
@@ -16,7 +16,7 @@ unfolding read_at
 not_read t is = ap (λ b. if b then checked_at t else None) is
 
 -- nothing is made of them
-unread : (p : Program) (t : List ℕ) → read_at t ≡ None → program_edits p t ≡ unreadable t
+unread : (p : Program) (t : List ℕ) → read_at t ≡ None → program_edits p t ≡ refused (no_reading t)
 unfolding program_edits edit_of
 unread p t is = ap (λ o. edit_outcome t (by_reading (λ c. program_done p t) o)) is
 

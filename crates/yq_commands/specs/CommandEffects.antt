@@ -8,8 +8,8 @@ use Rattle.yq_args.specs.declared.command.Command.{Command}
 use Rattle.yq_args.specs.declared.command.Command.TheVariants.{Eval, Undo, Redo, History as Lists, Squash}
 use Rattle.yq_fault.{specs.declared.fault.Fault.Fault, specs.declared.fault.Fault.TheVariants.OutOfMemory}
 use Rattle.yq_history.specs.Effects.{Effect, refuses, writes_nothing, writes_both, from_pair, move_effect, squash_effect, listing_effect}
-use Rattle.yq_history.{specs.Effects.printed_by, specs.Causes.{Cause, named, no_reading}, specs.Output.{IsOutput, Output, bytes, diff}}
-use Rattle.yq_commands.{specs.CommandFaults.cause_in, specs.Editing.{EditOutcome, unreadable, refused, edited, program_in, program_edits}}
+use Rattle.yq_history.{specs.Effects.printed_by, specs.Causes.{Cause, named}, specs.Output.{IsOutput, Output, bytes, diff}}
+use Rattle.yq_commands.{specs.CommandFaults.cause_in, specs.Editing.{EditOutcome, refused, edited, program_in, program_edits}}
 use Rattle.yq_commands.specs.Edits.{record_between}
 use Rattle.yq_journal.specs.declared.moves.Move.TheVariants as move
 use Rattle.yq_fault.specs.declared.fault.Fault.TheVariants as fault
@@ -20,8 +20,7 @@ edit_writes edit t u s = writes_both u (with_move s (move.Edit edit) t) (journal
 
 -- what an edit does to them, by what it gives: a record of one edit goes into the journal
 abbrev pub edit_effect : List ℕ → EditOutcome → List ℕ → State → Effect
-edit_effect expr (unreadable old) t s = refuses (no_reading old)
-edit_effect expr (refused f) t s = refuses (named f)
+edit_effect expr (refused x) t s = refuses x
 edit_effect expr (edited u changes) t s =
     if bytes_eq u t then writes_nothing (bytes [])
     else if nat_le most_records s.at then refuses (named (fault.Journal JournalFull))

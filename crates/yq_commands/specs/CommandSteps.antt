@@ -7,9 +7,8 @@ use Rattle.yq_journal.specs.declared.fault.JournalFault.TheVariants.{JournalFull
 use Rattle.yq_args.specs.declared.command.Command.{Command}
 use Rattle.yq_args.specs.declared.command.Command.TheVariants.{Eval, Undo, Redo, History as Lists, Squash, Help}
 use Rattle.yq_fault.specs.declared.fault.Fault.{Fault}
-use Rattle.yq_history.specs.Causes.{Cause, named, no_reading}
-use Rattle.yq_history.specs.Steps.{move_cause, move_next, squash_cause, squash_next, listing_cause}
-use Rattle.yq_commands.{specs.Editing.{EditOutcome, unreadable, refused, edited, program_in, program_edits}, specs.Evaluation.evaluated}
+use Rattle.yq_history.{specs.Causes.{Cause, named}, specs.Steps.{move_cause, move_next, squash_cause, squash_next, listing_cause}}
+use Rattle.yq_commands.{specs.Editing.{EditOutcome, refused, edited, program_in, program_edits}, specs.Evaluation.evaluated}
 use Rattle.yq_commands.specs.CommandFaults.{cause_in}
 use Rattle.yq_journal.specs.declared.moves.Move.TheVariants as move
 use Rattle.yq_fault.specs.declared.fault.Fault.TheVariants as fault
@@ -22,14 +21,12 @@ room_cause h text =
 
 -- why an edit is refused, by what it gives
 abbrev pub edit_cause : History → EditOutcome → Option Cause
-edit_cause h (unreadable old) = Some (no_reading old)
-edit_cause h (refused f) = Some (named f)
+edit_cause h (refused x) = Some x
 edit_cause h (edited text changes) = room_cause h text
 
 -- the history after it: one to an equal text leaves it
 abbrev pub edit_next : History → List ℕ → EditOutcome → History
-edit_next h expr (unreadable old) = h
-edit_next h expr (refused f) = h
+edit_next h expr (refused x) = h
 edit_next h expr (edited text changes) =
     if bytes_eq text (text_at h) then h
     else if nat_le most_records h.at then h else after_edit h expr text

@@ -4,15 +4,14 @@ use Rattle.yq_semantics.{specs.Program.Program, specs.Parsing.{Outcome, parsed}}
 use Rattle.yq_expr_parser.specs.Parse.{outcome}
 use Rattle.yq_text.{specs.Splice.{Splice, all_done, lengths_done}, specs.declared.edited.Edited.Edited}
 use Rattle.yq_edit_laws.{specs.Carried.edit_of, specs.Edit.Edit}
-use Rattle.yq_history.specs.Causes.{Cause, IsUnreadable, no_program}
+use Rattle.yq_history.specs.Causes.{Cause, IsFor, named, no_program, no_reading}
 use Rattle.yq_fault.{specs.declared.fault.Fault.Fault, specs.declared.fault.Fault.TheVariants.OutOfMemory}
 use Rattle.yq_edit_laws.specs.Edit as edit
 use Rattle.yq_fault.specs.declared.fault.Fault.TheVariants as fault
 
--- what an edit gives: this text has no reading, or the program is refused on it, or it gives a text by splices (own)
+-- what an edit gives: it is refused for this cause, or it gives a text by splices (own)
 pub data EditOutcome : Type 0 where
-  unreadable : List ℕ → EditOutcome
-  refused : Fault → EditOutcome
+  refused : Cause → EditOutcome
   edited : List ℕ → List Splice → EditOutcome
 
 -- the same, of a text that was edited (own)
@@ -29,8 +28,7 @@ LengthsLead t e = lengths_done e.splices.items (length t) ≡ Some (length (stri
 
 -- the fault tells why nothing is given (own)
 abbrev pub Refuses : EditOutcome → Fault → Type 0
-Refuses (unreadable text) e = IsUnreadable text e
-Refuses (refused f) e = e ≡ f
+Refuses (refused x) e = IsFor (Some x) e
 Refuses (edited text changes) e = ⊥
 
 -- an edit is refused for that, or for want of memory (own)
@@ -48,8 +46,8 @@ program_in expr = result_of (outcome expr)
 
 -- what an edit of a text gives (own)
 abbrev pub edit_outcome : List ℕ → Edit → EditOutcome
-edit_outcome old edit.unreadable = unreadable old
-edit_outcome old (edit.refuses why) = refused (fault.Refused why)
+edit_outcome old edit.unreadable = refused (no_reading old)
+edit_outcome old (edit.refuses why) = refused (named (fault.Refused why))
 edit_outcome old (edit.gives text changes) = edited text changes
 
 -- what a program makes of a text (own)

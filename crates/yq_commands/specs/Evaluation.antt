@@ -8,7 +8,7 @@ use Rattle.yq_args.specs.declared.eval_options.EvalOptions.{EvalOptions}
 use Rattle.yq_fault.{specs.declared.fault.Fault.Fault, specs.declared.fault.Fault.TheVariants.OutOfMemory}
 use Rattle.yq_history.{specs.Causes.{Cause, IsFor, named, no_reading}, specs.Output.{Output, Showing, Shows, bytes, diff, showing_nothing}}
 use Rattle.yq_history.specs.Report.{Report, report_by}
-use Rattle.yq_commands.{specs.Editing.{EditOutcome, unreadable, refused, edited, program_edits}, specs.Expecting.changes_as_expected}
+use Rattle.yq_commands.{specs.Editing.{EditOutcome, refused, edited, program_edits}, specs.Expecting.changes_as_expected}
 use Rattle.yq_commands.specs.Reads.{report_matches}
 use Rattle.yq_history.specs.declared.report.Report as declared
 use Rattle.yq_fault.specs.declared.fault.Fault.TheVariants as fault
@@ -19,8 +19,7 @@ edit_output options t u = if options.diff then diff t u else bytes u
 
 -- of an edit of this text that is shown; with `--expect-change` the new text is to be another one
 abbrev pub show_edit : EvalOptions → List ℕ → EditOutcome → Result Showing Cause
-show_edit options t (unreadable old) = Err (no_reading old)
-show_edit options t (refused f) = Err (named f)
+show_edit options t (refused x) = Err x
 show_edit options t (edited u changes) = Ok (record { output = edit_output options t u; is_match = changes_as_expected options t u })
 
 -- of a read its matches are shown, by what matching gives
