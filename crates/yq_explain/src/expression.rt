@@ -5,7 +5,7 @@ use crate::caret::{push_caret, push_name};
 use crate::expected::push_expected;
 use crate::rows::push_rows;
 use std::alloc::{AllocError, Global};
-use yq_semantics::ParseFault;
+use yq_semantics::{Expected, ParseFault};
 
 /// Adds what can be done about an expression that is refused; where neither that nor what was expected
 /// is known, what the code means.
@@ -25,7 +25,7 @@ fn push_advice(
             }
             out.push('\n')
         }
-        None if fault.expected().is_empty() => push_rows(out, code, false).map(|_| ()),
+        None if fault.expected() == Expected::Unknown => push_rows(out, code, false).map(|_| ()),
         None => Ok(()),
     }
 }

@@ -14,7 +14,7 @@ use crate::front::{is_end, misread};
 use crate::pattern::{has_pattern, pattern_left};
 use crate::survey::survey;
 use std::alloc::Global;
-use yq_semantics::{ParseError, ParseFault, Program, Stage, Syntax, Update};
+use yq_semantics::{Expected, ParseError, ParseFault, Program, Stage, Syntax, Update};
 
 /// The program that a text says. Refusals come in this order: a token that can't be read, then a
 /// token of other expressions or more than 64 open brackets, then what is no program, then a
@@ -61,7 +61,7 @@ fn read(alloc: Global, text: &str) -> Result<Vec<Stage>, ParseError>
     if is_end(rest) {
         Ok(stages)
     } else {
-        Err(ParseError::Fault(misread(rest, "end")))
+        Err(ParseError::Fault(misread(rest, Expected::End)))
     }
 }
 
@@ -74,7 +74,7 @@ fn updates(alloc: Global, text: &str) -> Result<Syntax, ParseError>
     if is_end(rest) {
         Ok(Syntax::Updates(updates))
     } else {
-        Err(ParseError::Fault(misread(rest, "end")))
+        Err(ParseError::Fault(misread(rest, Expected::End)))
     }
 }
 

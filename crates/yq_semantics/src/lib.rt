@@ -14,7 +14,7 @@ pub use laws::{
     rooms_alike, rooms_ready,
 };
 pub use op::{Op, copied_steps};
-pub use parse_fault::{ParseError, ParseFault};
+pub use parse_fault::{Expected, ParseError, ParseFault};
 pub use program::{
     Assignment, Comment, CommentPlace, Comparison, Condition, Operand, Operator, PathStep, Program,
     Stage, Syntax, Term, Update, is_index, is_simple,

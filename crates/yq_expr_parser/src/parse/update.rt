@@ -9,7 +9,9 @@ use super::literal::literal;
 use super::pipe::{left, pipe};
 use crate::front::{after, begins_step, closed, expect, string};
 use std::alloc::Global;
-use yq_semantics::{Assignment, Comment, CommentPlace, Operator, ParseError, Stage, Term, Update};
+use yq_semantics::{
+    Assignment, Comment, CommentPlace, Expected, Operator, ParseError, Stage, Term, Update,
+};
 
 /// How many collections may be nested in a literal.
 const LITERAL_DEPTH: usize = 64;
@@ -101,7 +103,7 @@ fn action(alloc: Global, left: Vec<Stage>, text: &str) -> Result<(Update, &str),
         ));
     }
     let (place, rest) = place(text)?;
-    let (text, rest) = string(alloc, expect(rest, "=")?, "text")?;
+    let (text, rest) = string(alloc, expect(rest, "=")?, Expected::Text)?;
     Ok((Update::Comment(Comment { left, place, text }), rest))
 }
 
