@@ -1,12 +1,12 @@
 -- What a command does to a file and its journal, by their bytes as they are, good for a history or not (own).
-use Rattle.std.specs.Prelude.{◌≡◌, ◌≢◌, ℕ, List, [], nat_le, Bool, if◌then◌else◌, Option, Some, None, Result, Ok, Err, MatchResult, true}
+use Rattle.std.specs.Prelude.{◌≢◌, ℕ, List, [], nat_le, Bool, if◌then◌else◌, Option, Some, None, Result, Ok, Err, true}
 use Rattle.std.{specs.Str.bytes_eq, specs.String.string_bytes}
 use Rattle.yq_semantics.specs.Program.{Program}
 use Rattle.yq_journal.{specs.Record.Record, specs.Refusals.most_records, specs.State.{State, journal_after, with_move}}
 use Rattle.yq_journal.specs.declared.fault.JournalFault.TheVariants.{JournalFull}
 use Rattle.yq_args.specs.declared.command.Command.{Command}
 use Rattle.yq_args.specs.declared.command.Command.TheVariants.{Eval, Undo, Redo, History as Lists, Squash}
-use Rattle.yq_fault.{specs.declared.fault.Fault.Fault, specs.declared.fault.Fault.TheVariants.OutOfMemory}
+use Rattle.yq_fault.specs.declared.fault.Fault.TheVariants.{OutOfMemory}
 use Rattle.yq_history.specs.Effects.{Effect, refuses, writes_nothing, writes_both, from_pair, move_effect, squash_effect, listing_effect}
 use Rattle.yq_history.{specs.Effects.printed_by, specs.Causes.{Cause, named}, specs.Output.{IsOutput, Output, bytes, diff}}
 use Rattle.yq_commands.{specs.CommandFaults.cause_in, specs.Editing.{EditOutcome, refused, edited, program_in, program_edits}}

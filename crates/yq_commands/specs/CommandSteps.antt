@@ -6,7 +6,6 @@ use Rattle.yq_journal.{specs.History.{History, text_at, after_edit}, specs.Refus
 use Rattle.yq_journal.specs.declared.fault.JournalFault.TheVariants.{JournalFull}
 use Rattle.yq_args.specs.declared.command.Command.{Command}
 use Rattle.yq_args.specs.declared.command.Command.TheVariants.{Eval, Undo, Redo, History as Lists, Squash, Help}
-use Rattle.yq_fault.specs.declared.fault.Fault.{Fault}
 use Rattle.yq_history.{specs.Causes.{Cause, named}, specs.Steps.{move_cause, move_next, squash_cause, squash_next, listing_cause}}
 use Rattle.yq_commands.{specs.Editing.{EditOutcome, refused, edited, program_in, program_edits}, specs.Evaluation.evaluated}
 use Rattle.yq_commands.specs.CommandFaults.{cause_in}

@@ -1,12 +1,12 @@
 -- What an expression that isn't carried out in place shows of a file (own).
-use Rattle.std.specs.Prelude.{◌≢◌, ℕ, List, Option, Some, None, option_map, Result, Ok, Err, IfErr, IfOk, if◌then◌else◌}
+use Rattle.std.specs.Prelude.{ℕ, List, Option, Some, None, option_map, Result, Ok, Err, IfOk, if◌then◌else◌}
 use Rattle.yq_core.specs.Tree.{Node}
 use Rattle.yq_documents.{specs.Documents.Document, specs.Reading.{documents, read_at}}
 use Rattle.yq_semantics.{specs.Copies.matches, specs.Judgement.{Judgement, gives, refuses}, specs.Program.{Program, Stage, read, updates}}
 use Rattle.yq_journal.specs.History.{History, text_at}
 use Rattle.yq_args.specs.declared.eval_options.EvalOptions.{EvalOptions}
 use Rattle.yq_fault.{specs.declared.fault.Fault.Fault, specs.declared.fault.Fault.TheVariants.OutOfMemory}
-use Rattle.yq_history.{specs.Causes.{Cause, IsFor, named, no_reading}, specs.Output.{Output, Showing, Shows, bytes, diff, showing_nothing}}
+use Rattle.yq_history.{specs.Causes.{Cause, named, no_reading}, specs.Output.{Output, Showing, Shows, bytes, diff, showing_nothing}}
 use Rattle.yq_history.specs.Report.{Report, report_by}
 use Rattle.yq_commands.{specs.Editing.{EditOutcome, refused, edited, program_edits}, specs.Expecting.changes_as_expected}
 use Rattle.yq_commands.specs.Reads.{report_matches}

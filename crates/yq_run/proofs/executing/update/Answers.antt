@@ -3,13 +3,14 @@ use Rattle.std.{specs.FinMap.get, specs.String.string_bytes}
 use Rattle.yq_journal.specs.State.{State}
 use Rattle.yq_semantics.specs.View.{program_of}
 use Rattle.yq_commands.{specs.Editing.{program_edits, program_in}, specs.CommandEffects.{edit_effect, update_effect, output_by}}
-use Rattle.yq_commands.{specs.Expecting.{report_edit, works_as_expected}, proofs.EditEffects.parsed_works}
+use Rattle.yq_commands.{specs.CommandFaults.{IsUnparsed, cause_in}, specs.Expecting.{report_edit, works_as_expected}}
+use Rattle.yq_commands.proofs.EditEffects.{parsed_works}
 use Rattle.yq_commands.proofs.FileEditLaws.{file_comes, parsed_free, unparsed_fault, both_come, change_output_by}
 use Rattle.yq_commands.{specs.CommandSteps.{update_cause, update_next}, proofs.ExpectingLaws.{effect_expected, matched_as, history_showing}}
 use Rattle.yq_commands.{proofs.OutcomeLaws.{arrives_as, opened}, proofs.CommandCalls.{none_yet, parsed_calls}}
 use Rattle.yq_commands.{proofs.DoneLaws.{by_words, unopened_edits, unparsed_edits}, specs.Calls.CallsToEdit, specs.CommandDone.EditsInPlace}
-use Rattle.yq_history.{specs.Report.report_by, proofs.CallLaws.{fails, unopened_calls, opened_calls}, proofs.EffectLaws.from_opened}
-use Rattle.yq_history.{specs.Output.{IsOutput, Shows}, proofs.MoveLaws.on_ok_map}
+use Rattle.yq_history.{specs.Causes.Cause, specs.Report.report_by, proofs.CallLaws.{fails, unopened_calls, opened_calls}}
+use Rattle.yq_history.{proofs.EffectLaws.from_opened, specs.Output.{IsOutput, Shows}, proofs.MoveLaws.on_ok_map}
 use Rattle.yq_fault.{specs.declared.fault.Fault.Fault, specs.Faults.is_outer_fault}
 use Rattle.yq_store.specs.Count.{failures_after}
 use Rattle.yq_run.proofs.executing.update.Goals as goal
