@@ -49,26 +49,27 @@ fn lines_of(
     code: &str,
 ) -> Result<String, Fault> {
     let (file, _) = purpose_of(command);
-    match (fault, command) {
-        (Some(Fault::Syntax | Fault::NotInProfile | Fault::Pattern), Command::Eval { words, .. }) =>
-            Ok(expression_lines(rt.alloc(), words.expr.as_str(), code)?),
+    let mut text = match (fault, command) {
+        (Some(Fault::Expression(place)), Command::Eval { words, .. }) => {
+            let expr = words.expr.as_str();
+            return Ok(expression_lines(rt.alloc(), expr, place, code)?);
+        }
         (Some(Fault::Unreadable(place)), _) => {
             let bytes = bytes_of(rt, file);
-            let mut text = place_lines(rt.alloc(), file, bytes.as_deref(), place)?;
-            push_rows(&mut text, code, false)?;
-            Ok(text)
+            place_lines(rt.alloc(), file, bytes.as_deref(), place)?
         }
-        (fault, command) => {
+        _ => {
             let mut text = String::from_str(rt.alloc(), "FILE: ")?;
             push_name(&mut text, file)?;
             text.push('\n')?;
-            if let (Some(Fault::Refused(why)), Command::Eval { words, .. }) = (fault, command) {
-                push_value(rt, &mut text, file, words.expr.as_str(), why)?;
-            }
-            push_rows(&mut text, code, false)?;
-            Ok(text)
+            text
         }
+    };
+    if let (Some(Fault::Refused(why)), Command::Eval { words, .. }) = (fault, command) {
+        push_value(rt, &mut text, file, words.expr.as_str(), why)?;
     }
+    push_rows(&mut text, code, false)?;
+    Ok(text)
 }
 
 /// The lines about a fault of the program's own command; without one nothing was matched.

@@ -1,14 +1,14 @@
 -- Texts without a reading, and why a program is refused on a text.
-use Rattle.std.proofs.Common.{rules, ◌≡◌, ◌≢◌, ℕ, List, true, false, if◌then◌else◌, None, sym, ap, subst, ◌∙◌, true≢false}
+use Rattle.std.proofs.Common.{rules, ◌≡◌, ◌≢◌, ℕ, List, true, false, if◌then◌else◌, None, sym, ap, subst, ◌∙◌, true≢false, Err}
 use Rattle.std.specs.Str.{is_utf8}
 use Rattle.yq_core.{specs.declared.ReadFault.ReadFault, specs.declared.fault.FaultKind.TheVariants.NotUtf8}
 use Rattle.yq_documents.specs.Reading.{read_at, checked_at}
-use Rattle.yq_semantics.specs.Program.{Program}
+use Rattle.yq_semantics.{specs.Program.Program, specs.Parsing.refusal, specs.declared.parse_fault.ParseFault.ParseFault}
 use Rattle.yq_edit_laws.{specs.Carried.{edit_of, program_done}, specs.Edit.by_reading}
-use Rattle.yq_fault.{specs.declared.fault.Fault.Fault, specs.declared.fault.Fault.TheVariants.{OutOfMemory, Unreadable}}
+use Rattle.yq_fault.{specs.declared.fault.Fault.Fault, specs.declared.fault.Fault.TheVariants.{Expression, Unreadable}}
 use Rattle.yq_history.specs.Causes.{IsFor, IsUnreadable, no_reading}
-use Rattle.yq_commands.{specs.CommandFaults.{cause_in, of_parse}, specs.Editing.{Refuses, program_edits, program_in, refused, edit_outcome}}
-use Rattle.yq_expr_parser.{specs.Outcome.{AnswersError, ParseError}, specs.Parse.outcome}
+use Rattle.yq_commands.{specs.CommandFaults.cause_in, specs.Editing.{Refuses, program_edits, program_in, refused, edit_outcome}}
+use Rattle.yq_expr_parser.specs.Parse.{outcome}
 
 -- bytes that are no UTF-8
 pub not_read : (t : List ℕ) → is_utf8 t ≡ false → read_at t ≡ None
@@ -24,9 +24,9 @@ pub unread_refuses : (p : Program) (t : List ℕ) (e : Fault) → read_at t ≡ 
 unread_refuses p t e none reports = subst (λ o. Refuses o e) (sym (unread p t none)) reports
 
 -- why an expression has no program
-pub parse_refused : (t : List ℕ) (e : ParseError) → AnswersError e (outcome t) → of_parse e ≢ OutOfMemory → IsFor (cause_in (program_in t)) (of_parse e)
+pub parse_refused : (t : List ℕ) (f : ParseFault) → outcome t ≡ refusal f → IsFor (cause_in (program_in t)) (Expression f)
 unfolding program_in
-parse_refused t e h other = search rules
+parse_refused t f h = search rules
 
 -- ---- whether a fault tells that they are no UTF-8
 

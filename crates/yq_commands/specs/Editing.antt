@@ -1,12 +1,11 @@
 -- What an expression makes of a text.
 use Rattle.std.specs.Prelude.{◌≡◌, ◌≢◌, ℕ, List, Some, Result, Ok, Err, IfErr, length, string_bytes}
-use Rattle.yq_semantics.specs.Program.{Program}
+use Rattle.yq_semantics.{specs.Program.Program, specs.Parsing.{Outcome, parsed}}
 use Rattle.yq_expr_parser.specs.Parse.{outcome}
 use Rattle.yq_text.{specs.Splice.{Splice, all_done, lengths_done}, specs.declared.edited.Edited.Edited}
 use Rattle.yq_edit_laws.{specs.Carried.edit_of, specs.Edit.Edit}
-use Rattle.yq_history.specs.Causes.{Cause, IsFor, named, no_reading}
+use Rattle.yq_history.specs.Causes.{Cause, IsFor, named, no_program, no_reading}
 use Rattle.yq_fault.{specs.declared.fault.Fault.Fault, specs.declared.fault.Fault.TheVariants.OutOfMemory}
-use Rattle.yq_expr_parser.specs.Outcome as expr
 use Rattle.yq_edit_laws.specs.Edit as edit
 use Rattle.yq_fault.specs.declared.fault.Fault.TheVariants as fault
 
@@ -37,11 +36,9 @@ abbrev pub RefusedBy : EditOutcome → {T : Type 0} → Result T Fault → Type 
 RefusedBy outcome r = IfErr r (λ e. e ≢ OutOfMemory → Refuses outcome e)
 
 -- what comes of an expression, as a program or as the cause why it is none (own)
-abbrev pub result_of : expr.Outcome → Result Program Cause
-result_of (expr.parsed p) = Ok p
-result_of expr.ill_formed = Err (named fault.Syntax)
-result_of expr.not_in_profile = Err (named fault.NotInProfile)
-result_of expr.with_pattern = Err (named fault.Pattern)
+abbrev pub result_of : Outcome → Result Program Cause
+result_of (parsed p) = Ok p
+result_of o = Err (no_program o)
 
 -- the program of an expression, or the cause why it is none (own)
 unfoldable pub program_in : List ℕ → Result Program Cause

@@ -4,27 +4,13 @@ ghost use Rattle.yq_semantics.specs.View.{program_of};
 ghost use Rattle.yq_documents.specs.Reading.{read_at};
 ghost use Rattle.yq_history.specs.Causes.{IsUnreadable};
 ghost use Rattle.yq_fault.specs.Faults.{is_failure, is_output};
-ghost use Rattle.yq_commands.{specs.CommandFaults.{FailsFor, of_parse}, specs.Editing.program_in};
+ghost use Rattle.yq_commands.{specs.CommandFaults.FailsFor, specs.Editing.program_in};
 
 use std::alloc::Global;
-use yq_expr_parser::{ParseError, ParseFault, parse_expr};
+use yq_expr_parser::{ParseError, parse_expr};
 use yq_fault::Fault;
 use yq_semantics::Program;
 use yq_tree::text_of;
-
-/// Why an expression has no program.
-fn parse_fault(error: ParseError) -> Fault
-    ensures value { result ≡ of_parse error }
-    ensures inside { is_failure result ≡ false }
-    ensures no_output { is_output result ≡ false }
-{
-    match error {
-        ParseError::Memory => Fault::OutOfMemory,
-        ParseError::Fault(ParseFault::Syntax { .. }) => Fault::Syntax,
-        ParseError::Fault(ParseFault::NotInProfile { .. }) => Fault::NotInProfile,
-        ParseError::Fault(ParseFault::Pattern { .. }) => Fault::Pattern,
-    }
-}
 
 /// The program of an expression.
 #[tactic(auto, using(crate::proofs::EditingLaws::parse_refused), unfolding(crate::specs::Editing::program_in))]
@@ -36,7 +22,8 @@ pub fn parse(alloc: Global, expr: &str) -> Result<Program, Fault>
 {
     match parse_expr(alloc, expr) {
         Ok(program) => Ok(program),
-        Err(error) => Err(parse_fault(error)),
+        Err(ParseError::Memory) => Err(Fault::OutOfMemory),
+        Err(ParseError::Fault(fault)) => Err(Fault::Expression(fault)),
     }
 }
 

@@ -5,7 +5,7 @@ use crate::marks::of_mark;
 use crate::misread::of_misread;
 use crate::parts::{Parts, first_char, is_word_char, last_char, parted, parted_at_value};
 use std::alloc::{AllocError, Global};
-use yq_expr_parser::ParseFault;
+use yq_semantics::ParseFault;
 
 /// What can be done, and the expression as it may have been meant; that is empty where it isn't known.
 #[derive(Drop)]

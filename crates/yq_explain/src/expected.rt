@@ -1,37 +1,36 @@
 //! What an expression has where it is at fault.
 
 use std::alloc::AllocError;
+use yq_semantics::Expected;
 
-/// What the parser expected: the form that it names.
-fn form_of(expected: &str) -> Option<&'static str> {
+/// The form that the parser expected, in words; of a mark none.
+fn form_of(expected: Expected) -> &'static str {
     match expected {
-        "." => Some("a path, which begins with '.'"),
-        "end" => Some("the end, or '|'"),
-        "step" => Some("a number, a key in double quotes or ']'"),
-        "one value" => Some("a path without '[]'"),
-        "key" => Some("a key in double quotes"),
-        "value" => Some("a text in double quotes, a number, true, false or null"),
-        "text" => Some("a text in double quotes"),
-        "other keys" => Some("a mapping without a key twice"),
-        "!=" => Some("'==' or '!='"),
-        "head_comment" => Some("'=', '|=' or '+='"),
-        _ => None,
+        Expected::Path => "a path, which begins with '.'",
+        Expected::Step => "a number, a key in double quotes or ']'",
+        Expected::OneValue => "a path without '[]'",
+        Expected::Key => "a key in double quotes",
+        Expected::Value => "a text in double quotes, a number, true, false or null",
+        Expected::Text => "a text in double quotes",
+        Expected::OtherKeys => "a mapping without a key twice",
+        Expected::Comparison => "'==' or '!='",
+        Expected::Operator => "'=', '|=' or '+='",
+        Expected::End => "the end, or '|'",
+        Expected::Mark(_) | Expected::Unknown => "",
     }
 }
 
 /// Adds what was expected, where that is known.
-pub fn push_expected(out: &mut String, expected: &str) -> Result<(), AllocError> {
-    if expected.is_empty() {
+pub fn push_expected(out: &mut String, expected: Expected) -> Result<(), AllocError> {
+    if expected == Expected::Unknown {
         return Ok(());
     }
     out.push_str("expected here: ")?;
-    match form_of(expected) {
-        Some(form) => out.push_str(form)?,
-        None => {
-            out.push('\'')?;
-            out.push_str(expected)?;
-            out.push('\'')?;
-        }
+    out.push_str(form_of(expected))?;
+    if let Expected::Mark(mark) = expected {
+        out.push('\'')?;
+        out.push(mark)?;
+        out.push('\'')?;
     }
     out.push('\n')
 }

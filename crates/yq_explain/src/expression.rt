@@ -5,7 +5,7 @@ use crate::caret::{push_caret, push_name};
 use crate::expected::push_expected;
 use crate::rows::push_rows;
 use std::alloc::{AllocError, Global};
-use yq_expr_parser::{ParseError, ParseFault, parse_expr};
+use yq_semantics::{Expected, ParseFault};
 
 /// Adds what can be done about an expression that is refused; where neither that nor what was expected
 /// is known, what the code means.
@@ -25,24 +25,22 @@ fn push_advice(
             }
             out.push('\n')
         }
-        None if fault.expected().is_empty() => push_rows(out, code, false).map(|_| ()),
+        None if fault.expected() == Expected::Unknown => push_rows(out, code, false).map(|_| ()),
         None => Ok(()),
     }
 }
 
 /// Where an expression is at fault, in lines: its line with a caret below the token at fault, what was
-/// expected there, and what can be done. Of one that is none of these, what the code means.
-pub fn expression_lines(alloc: Global, expr: &str, code: &str) -> Result<String, AllocError> {
+/// expected there, and what can be done. `code` is that of the fault.
+pub fn expression_lines(
+    alloc: Global,
+    expr: &str,
+    fault: ParseFault,
+    code: &str,
+) -> Result<String, AllocError> {
     let mut out = String::new(alloc);
-    match parse_expr(alloc, expr) {
-        Ok(_) | Err(ParseError::Memory) => {
-            push_rows(&mut out, code, false)?;
-        }
-        Err(ParseError::Fault(fault)) => {
-            push_caret(&mut out, expr, fault.at(expr))?;
-            push_expected(&mut out, fault.expected())?;
-            push_advice(alloc, &mut out, expr, fault, code)?;
-        }
-    }
+    push_caret(&mut out, expr, fault.at(expr))?;
+    push_expected(&mut out, fault.expected())?;
+    push_advice(alloc, &mut out, expr, fault, code)?;
     Ok(out)
 }

@@ -4,6 +4,7 @@ use crate::advice::{Advice, BY_SELECT, advise, of_value, rewrite};
 use crate::parts::{Parts, first_char, in_two, last_char, parted_at_value};
 use crate::updates::{of_comma, of_equals, of_step};
 use std::alloc::{AllocError, Global};
+use yq_semantics::Expected;
 
 /// The expression with double quotes in the place of single ones.
 fn with_double(alloc: Global, expr: &str) -> Result<String, AllocError> {
@@ -75,18 +76,22 @@ fn of_unread(
 }
 
 /// About a token after an opening bracket, or where a key or value is missing.
-fn of_bracket(alloc: Global, p: Parts<'_>, expected: &str) -> Result<Option<Advice>, AllocError> {
+fn of_bracket(
+    alloc: Global,
+    p: Parts<'_>,
+    expected: Expected,
+) -> Result<Option<Advice>, AllocError> {
     match (p.token.chars().next(), expected) {
-        (Some(':'), "]") => advise(
+        (Some(':'), Expected::Mark(']')) => advise(
             alloc,
             "each item is named by its own number: there are no ranges",
         ),
-        (Some('}' | ']'), "key" | "value") => {
+        (Some('}' | ']'), Expected::Key | Expected::Value) => {
             let before = p.before.trim_end();
             let parts = [before.strip_suffix(',').unwrap_or(before), p.token, p.after];
             rewrite(alloc, "no comma comes before a closing bracket", &parts)
         }
-        (_, "step") => advise(alloc, BY_SELECT),
+        (_, Expected::Step) => advise(alloc, BY_SELECT),
         _ => Ok(None),
     }
 }
@@ -97,7 +102,7 @@ fn of_late_dot(
     expr: &str,
     at: usize,
     p: Parts<'_>,
-    expected: &str,
+    expected: Expected,
 ) -> Result<Option<Advice>, AllocError> {
     if matches!(last_char(p.before), Some(')')) {
         return of_step(alloc, p);
@@ -108,7 +113,7 @@ fn of_late_dot(
     if matches!(first_char(p.after), Some('0'..='9')) {
         return of_dot(alloc, p);
     }
-    if expected == "end" {
+    if expected == Expected::End {
         let parts = [p.before.trim_end(), " | ", p.token, p.after];
         return rewrite(alloc, "'|' comes between two updates", &parts);
     }
@@ -121,23 +126,23 @@ pub fn of_misread(
     expr: &str,
     at: usize,
     p: Parts<'_>,
-    expected: &str,
+    expected: Expected,
 ) -> Result<Option<Advice>, AllocError> {
-    if expected.is_empty() || expr.trim().is_empty() {
+    if expected == Expected::Unknown || expr.trim().is_empty() {
         return of_unread(alloc, expr, at, p);
     }
     match p.token.chars().next() {
-        Some(_) if expected == "(" => {
+        Some(_) if expected == Expected::Mark('(') => {
             let parts = [p.before.trim_end(), "(", p.token, p.after.trim_end(), ")"];
             rewrite(alloc, "parentheses come after it", &parts)
         }
         Some('=' | '|' | '+') => of_equals(alloc, p, expected),
-        Some(':') if expected == "head_comment" => {
+        Some(':') if expected == Expected::Operator => {
             let parts = [p.before.trim_end(), " =", p.after];
             rewrite(alloc, "a value is set by '='", &parts)
         }
         Some(',') => of_comma(alloc, p),
-        Some('[') if expected == "." => {
+        Some('[') if expected == Expected::Path => {
             let parts = [p.before, ".", p.token, p.after];
             rewrite(alloc, "a path begins with a dot", &parts)
         }

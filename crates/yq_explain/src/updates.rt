@@ -3,6 +3,7 @@
 use crate::advice::{Advice, advise, rewrite};
 use crate::parts::Parts;
 use std::alloc::{AllocError, Global};
+use yq_semantics::Expected;
 
 /// How selected places are updated.
 const IN_PARENTHESES: &str = "selected places are written in parentheses";
@@ -11,19 +12,19 @@ const IN_PARENTHESES: &str = "selected places are written in parentheses";
 pub fn of_equals(
     alloc: Global,
     p: Parts<'_>,
-    expected: &str,
+    expected: Expected,
 ) -> Result<Option<Advice>, AllocError> {
     let before = p.before.trim_end();
     if before.ends_with("==") {
         return rewrite(alloc, "values are compared by '=='", &[before, p.after]);
     }
     match expected {
-        "!=" => rewrite(
+        Expected::Comparison => rewrite(
             alloc,
             "values are compared by '=='",
             &[p.before, "==", p.after],
         ),
-        "end" if before.contains('|') => {
+        Expected::End if before.contains('|') => {
             let parts = ["(", before, ") ", p.token, p.after];
             rewrite(alloc, IN_PARENTHESES, &parts)
         }

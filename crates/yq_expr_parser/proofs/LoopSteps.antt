@@ -3,8 +3,7 @@ use Rattle.std.proofs.Common.{rules, ◌≡◌, ℕ, List, [], ◌∷◌, ◌++�
 use Rattle.std.{proofs.Common.{◌∙◌, append_assoc, append-nil, Result, Err}, proofs.lemmas.List.map_push, specs.Borrow.Bor}
 use Rattle.std.specs.Prelude.{codes}
 use Rattle.yq_core.specs.Answers.{◌>>=◌}
-use Rattle.yq_expr_parser.{specs.Outcome.ParseError, specs.ReadAnswers.{ParseFails, GivesForm, with_tokens, IsShorter}}
-use Rattle.yq_expr_parser.specs.Lexing.{tokens, after}
+use Rattle.yq_expr_parser.{specs.ReadAnswers.{ParseFails, GivesForm, with_tokens, IsShorter}, specs.Lexing.{tokens, after}}
 use Rattle.yq_expr_parser.specs.Parse.{Parse, either, with_front, many, step_at, after_mark, parted_at, literal_at, field_at, stage_at}
 use Rattle.yq_expr_parser.specs.Parse.{term_at, parse_update}
 use Rattle.yq_expr_parser.proofs.Readers.{Lessens, many_next, Takes, Shortens, behind_takes, behind_shortens}
@@ -12,7 +11,8 @@ use Rattle.yq_expr_parser.proofs.PathTakes.{step_takes, next_shortens}
 use Rattle.yq_expr_parser.proofs.LiteralTakes.{literal_takes, literal_shortens, field_takes, field_shortens}
 use Rattle.yq_expr_parser.proofs.PipeTakes.{stage_takes, stage_shortens}
 use Rattle.yq_expr_parser.proofs.UpdateTakes.{term_takes, term_shortens, update_takes, update_shortens}
-use Rattle.yq_semantics.{specs.Tokens.Token, specs.Grammar.{Production, IsLiteral, IsField, IsStage, IsTerm, IsUpdate, literal_depth}}
+use Rattle.yq_semantics.{specs.Parsing.ParseError, specs.Tokens.Token}
+use Rattle.yq_semantics.specs.Grammar.{Production, IsLiteral, IsField, IsStage, IsTerm, IsUpdate, literal_depth}
 use Rattle.yq_failure.specs.declared.failure.Failure.TheVariants as failure
 
 -- the forms read so far before those to come

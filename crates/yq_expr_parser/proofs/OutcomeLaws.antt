@@ -1,11 +1,11 @@
 -- That the outcome of a text is what it comes to by the grammar, and nothing else.
 use Rattle.std.proofs.Common.{◌≡◌, ◌⊎◌, ◌↔◌, ℕ, Bool, true, false, List, Option, Some, None, refl, sym, ◌∙◌, inl, inr, rules}
-use Rattle.yq_expr_parser.specs.Lexing.{tokens, AreRead}
-use Rattle.yq_expr_parser.specs.Outcome.{Outcome, parsed, ill_formed, not_in_profile, with_pattern, ComesTo, HasForeign, IsTooDeep}
+use Rattle.yq_expr_parser.{specs.Lexing.{tokens, AreRead}, specs.Outcome.{ComesTo, HasForeign, IsTooDeep}}
 use Rattle.yq_expr_parser.specs.Parse.{surveyed, program_at, outcome}
 use Rattle.yq_expr_parser.proofs.Outcomes.{all_read, derives_again, none_in, outcome_again, outcome_comes, surveys, unread_in}
 use Rattle.yq_expr_parser.{proofs.TextTokens.{tokens_take, tokens_again}, proofs.UpdateTakes.program_takes}
-use Rattle.yq_semantics.{specs.Tokens.{Token, AreTokens}, specs.Program.Program, specs.Grammar.{IsProgram, literal_depth}}
+use Rattle.yq_semantics.{specs.Parsing.{Outcome, parsed, ill_formed, not_in_profile, with_pattern}, specs.Tokens.{Token, AreTokens}}
+use Rattle.yq_semantics.{specs.Program.Program, specs.Grammar.{IsProgram, literal_depth}}
 
 -- the tokens of a text are those that are read of it
 pub one_list : (text : List ℕ) (ts us : List Token) → AreTokens ts text → AreTokens us text → ts ≡ us

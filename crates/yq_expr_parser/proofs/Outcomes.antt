@@ -4,12 +4,12 @@ use Rattle.std.proofs.Common.{Result, Ok, Err, refl, sym, ap, ◌∙◌, subst, 
 use Rattle.std.{proofs.lemmas.Bool.{false≢true, or_cases, lt-ltb, or_parts}, proofs.lemmas.Option.none-some}
 use Rattle.std.specs.Prelude.{IfOk, IfErr, if◌then◌else◌}
 use Rattle.yq_core.proofs.Bools.{chosen}
-use Rattle.yq_expr_parser.specs.Outcome.{Outcome, ParseError, parsed, not_in_profile, with_pattern, count_if, is_opening, is_closing}
-use Rattle.yq_expr_parser.specs.Outcome.{opening_count, closing_count, IsTooDeep, HasForeign, has_pattern, Derives, ComesTo, ExprRefused}
-use Rattle.yq_expr_parser.{specs.Outcome.{Answers, AnswersError}, specs.Lexing.{tokens, AreRead}}
+use Rattle.yq_expr_parser.specs.Outcome.{count_if, is_opening, is_closing, opening_count, closing_count, IsTooDeep, HasForeign, has_pattern}
+use Rattle.yq_expr_parser.{specs.Outcome.{Derives, ComesTo, ExprRefused, Answers, AnswersError}, specs.Lexing.{tokens, AreRead}}
 use Rattle.yq_expr_parser.specs.Parse.{is_unread, is_foreign_token, surveyed, program_at, unless_pattern, parse_outcome, outcome}
 use Rattle.yq_expr_parser.{proofs.TextTokens.{tokens_take, tokens_again}, proofs.UpdateTakes.program_takes}
 use Rattle.yq_expr_parser.proofs.ProgramAgain.{program_again}
+use Rattle.yq_semantics.specs.Parsing.{Outcome, ParseError, parsed, not_in_profile, with_pattern}
 use Rattle.yq_semantics.{specs.Tokens.{Token, foreign, unread, AreTokens}, specs.Program.{Program, LiteralsHold}}
 use Rattle.yq_semantics.{specs.Grammar.literal_depth, proofs.Literals.literals_hold}
 

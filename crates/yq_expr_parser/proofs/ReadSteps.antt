@@ -3,11 +3,10 @@ use Rattle.std.proofs.Common.{rules, ◌≡◌, ℕ, suc, ◌-◌, ◌<◌, leng
 use Rattle.std.{proofs.Common.{sym, ap, ◌∙◌, subst, map, option_map, Result}, specs.Borrow.Bor}
 use Rattle.std.specs.Prelude.{if◌then◌else◌, ◌==◌, is_some, codes}
 use Rattle.yq_core.{specs.Answers.◌>>=◌, specs.Values.items}
-use Rattle.yq_expr_parser.{specs.Outcome.ParseError, specs.ReadAnswers.{ParseFails, GivesForm, ReadsForm, with_tokens}}
-use Rattle.yq_expr_parser.specs.Lexing.{tokens, after}
+use Rattle.yq_expr_parser.{specs.ReadAnswers.{ParseFails, GivesForm, ReadsForm, with_tokens}, specs.Lexing.{tokens, after}}
 use Rattle.yq_expr_parser.specs.Parse.{either, many, listed_at, field_at, literal_at, scalar_node_at, mapping_of, written_path}
 use Rattle.yq_expr_parser.{proofs.Readers.Lessens, proofs.LoopSteps.{onto, step_more}}
-use Rattle.yq_semantics.{specs.Program.PathStep, specs.Tokens.Token}
+use Rattle.yq_semantics.{specs.Parsing.ParseError, specs.Program.PathStep, specs.Tokens.Token}
 use Rattle.yq_core.specs.Tree as tree
 
 -- a step gave something, and so does the next one

@@ -3,8 +3,8 @@ use Rattle.std.{specs.Borrow.Bor, specs.Prelude.{◌≡◌, ℕ, List, Option, R
 use Rattle.std.specs.declared.alloc.Global.{Global}
 use Rattle.yq_core.{specs.declared.value.Value.Value, specs.Tree.Node}
 use Rattle.yq_semantics.{specs.Grammar.literal_depth, specs.Program.{Program, Update}, specs.Tokens.Token, specs.View.stage_of}
-use Rattle.yq_semantics.specs.declared.program.Stage.{Stage}
-use Rattle.yq_expr_parser.{specs.Lexing.{after, as_step, taken, tokens}, specs.Outcome.{Answers, Derives, has_pattern, parsed, ParseError}}
+use Rattle.yq_semantics.{specs.declared.program.Stage.Stage, specs.Parsing.{parsed, ParseError}}
+use Rattle.yq_expr_parser.{specs.Lexing.{after, as_step, taken, tokens}, specs.Outcome.{Answers, Derives, has_pattern}}
 use Rattle.yq_expr_parser.specs.Parse.{Parse, action_at, field_at, listed_at, literal_at, parse_update, parted_at}
 use Rattle.yq_expr_parser.specs.ReadAnswers.{GivesForm, ReadsForm, Succeeds, with_tokens}
 

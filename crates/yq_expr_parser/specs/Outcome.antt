@@ -1,17 +1,11 @@
 -- What comes of a text: its program, or the first refusal in order.
 use Rattle.std.specs.Prelude.{◌≡◌, ℕ, ◌+◌, ◌<◌, ◌⊎◌, Bool, true, false, ◌||◌, ◌==◌, List, [], ◌∷◌, take, codes, Result, Ok, Err}
 use Rattle.std.specs.List.{list_any}
-use Rattle.yq_expr_parser.specs.declared.error.ParseFault.{ParseFault}
 use Rattle.yq_semantics.specs.Program.{PathStep, key, index, each, Operand, value_at, document_index, Condition, compares, has, Stage, path}
 use Rattle.yq_semantics.specs.Program.{select, Term, literal, found, Update, assign, delete, comment, Program, read, updates}
 use Rattle.yq_semantics.{specs.Tokens.{Token, foreign, is_symbol, AreTokens}, specs.Grammar.IsProgram}
-use Rattle.yq_failure.specs.declared.failure.Failure.{Failure}
+use Rattle.yq_semantics.specs.Parsing.{Outcome, ParseError, parsed, ill_formed, not_in_profile, with_pattern, refusal}
 use Rattle.yq_failure.specs.declared.failure.Failure.TheVariants as failure
-use Rattle.yq_expr_parser.specs.declared.error.ParseFault.TheVariants as fault
-
--- why a text is not a program (own)
-abbrev pub ParseError : Type 0
-ParseError = Failure ParseFault
 
 -- a text with `*` or `?` (own)
 abbrev pub is_pattern : List ℕ → Bool
@@ -99,13 +93,6 @@ HasForeign (t ∷ ts) = (t ≡ foreign) ⊎ HasForeign ts
 abbrev pub Derives : List ℕ → Program → Type 0
 Derives text p = (ts : List Token) × AreTokens ts text × ¬ HasForeign ts × ¬ IsTooDeep ts × IsProgram p ts
 
--- What comes of a text: a program, or why it is none (own).
-pub data Outcome : Type 0 where
-  parsed : Program → Outcome
-  ill_formed : Outcome
-  not_in_profile : Outcome
-  with_pattern : Outcome
-
 -- What a text comes to by the grammar: a program that it derives and that has no pattern, or else the first of these:
 -- it has no tokens; it has a token of other expressions or too many open brackets; it has no derivation; it has a pattern (own).
 abbrev pub ComesTo : List ℕ → Outcome → Type 0
@@ -115,12 +102,6 @@ ComesTo text ill_formed =
     ⊎ ((ts : List Token) × AreTokens ts text × ¬ HasForeign ts × ¬ IsTooDeep ts × ((p : Program) → ¬ IsProgram p ts))
 ComesTo text not_in_profile = (ts : List Token) × AreTokens ts text × (HasForeign ts ⊎ IsTooDeep ts)
 ComesTo text with_pattern = (p : Program) × Derives text p × (has_pattern p ≡ true)
-
--- the refusal that a fault reports, wherever it is in the text (own)
-abbrev pub refusal : ParseFault → Outcome
-refusal (fault.Syntax left expected) = ill_formed
-refusal (fault.NotInProfile left) = not_in_profile
-refusal (fault.Pattern left) = with_pattern
 
 -- a text has the cause of its refusal; want of memory says nothing (own)
 abbrev pub ExprRefused : ParseError → List ℕ → Type 0

@@ -7,8 +7,9 @@ use Rattle.yq_semantics.{specs.declared.program.Operator.Operator, specs.declare
 use Rattle.yq_semantics.specs.Program.{is_simple, PathStep, key, index, each, Operand, value_at, document_index, Condition, compares, has}
 use Rattle.yq_semantics.specs.Program.{Stage, path, select, Term, literal, found, Update, assign, delete, comment, Program, read, updates}
 use Rattle.yq_semantics.{specs.Tokens.{Token, string, number, step, symbol, foreign, unread}, specs.Grammar.literal_depth}
-use Rattle.yq_expr_parser.specs.Outcome.{Outcome, parsed, ill_formed, not_in_profile, with_pattern, has_pattern, count_if, is_opening}
-use Rattle.yq_expr_parser.{specs.Outcome.is_closing, specs.Lexing.{tokens, after, taken, as_number, as_string, as_step, no_tokens}}
+use Rattle.yq_semantics.specs.Parsing.{Outcome, parsed, ill_formed, not_in_profile, with_pattern}
+use Rattle.yq_expr_parser.specs.Outcome.{has_pattern, count_if, is_opening, is_closing}
+use Rattle.yq_expr_parser.specs.Lexing.{tokens, after, taken, as_number, as_string, as_step, no_tokens}
 use Rattle.yq_core.specs.Tree as tree
 use Rattle.yq_semantics.specs.declared.program.Operator.TheVariants as operator
 use Rattle.yq_semantics.specs.declared.program.CommentPlace.TheVariants as place

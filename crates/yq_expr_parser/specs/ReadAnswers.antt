@@ -1,7 +1,7 @@
 -- What an answer of the parser says of what reading gives.
 use Rattle.std.{specs.Prelude.{◌≡◌, ℕ, ◌<◌, List, length, Option, Some, None, option_map, Result, Ok, Err, IfOk}, specs.Borrow.Bor}
-use Rattle.yq_expr_parser.{specs.Outcome.{ParseError, ill_formed, refusal}, specs.Lexing.tokens}
-use Rattle.yq_semantics.specs.Tokens.{Token}
+use Rattle.yq_expr_parser.specs.Lexing.{tokens}
+use Rattle.yq_semantics.{specs.Parsing.{ParseError, ill_formed, refusal}, specs.Tokens.Token}
 use Rattle.yq_failure.specs.declared.failure.Failure.TheVariants as failure
 
 -- A fault of syntax comes where reading gives nothing; want of memory says nothing (own).

@@ -1,12 +1,13 @@
 //! What is in front of a text, token by token.
 ghost use Rattle.std.specs.Prelude.{◌≡◌, ◌<◌, length, is_some, option_map, string_bytes, IfSome, IfOk};
 ghost use Rattle.yq_expr_parser.specs.ReadAnswers.{GivesForm, ReadsForm, Shortens, IsShorter, with_tokens};
-ghost use Rattle.yq_expr_parser.{specs.FormAnswers.{tokens_after, taken_from, closed_form, TakesKey}, specs.Outcome.{refusal, ill_formed}};
+ghost use Rattle.yq_expr_parser.specs.FormAnswers.{tokens_after, taken_from, closed_form, TakesKey};
+ghost use Rattle.yq_semantics.specs.Parsing.{refusal, ill_formed};
 ghost use Rattle.yq_expr_parser.specs.Lexing as spec;
 
-use crate::error::{ParseError, ParseFault};
 use crate::token::{left_of, split_token};
 use std::alloc::Global;
+use yq_semantics::{Expected, ParseError, ParseFault};
 
 /// Whether no token is left.
 #[tactic(auto, using(crate::proofs::Lexing::tokens_next))]
@@ -34,8 +35,8 @@ pub(crate) fn after<'t>(text: &'t str, symbol: &str) -> Option<&'t str>
     }
 }
 
-/// The fault of a text that doesn't have in front what an expression has there; `expected` names that.
-pub(crate) fn misread(text: &str, expected: &'static str) -> ParseFault
+/// The fault of a text that doesn't have in front what an expression has there.
+pub(crate) fn misread(text: &str, expected: Expected) -> ParseFault
     ensures { refusal result ≡ ill_formed }
 {
     ParseFault::Syntax {
@@ -44,12 +45,23 @@ pub(crate) fn misread(text: &str, expected: &'static str) -> ParseFault
     }
 }
 
+/// What an expression has where the mark or word has to be.
+fn expected_by(symbol: &str) -> Expected {
+    match (symbol, symbol.chars().next()) {
+        (".", _) => Expected::Path,
+        ("!=", _) => Expected::Comparison,
+        ("head_comment", _) => Expected::Operator,
+        (_, Some(mark)) => Expected::Mark(mark),
+        (_, None) => Expected::Unknown,
+    }
+}
+
 /// What follows the mark or word, which has to be in front.
 pub(crate) fn expect<'t>(text: &'t str, symbol: &'static str) -> Result<&'t str, ParseError>
     ensures value { GivesForm (λ r. spec.tokens r.now) result (tokens_after symbol.now text.now) }
     ensures shorter { IfOk result (λ r. length r.now < length text.now) }
 {
-    after(text, symbol).ok_or(ParseError::Fault(misread(text, symbol)))
+    after(text, symbol).ok_or(ParseError::Fault(misread(text, expected_by(symbol))))
 }
 
 /// A form and what follows the mark, which has to be after the form.
@@ -80,13 +92,13 @@ pub(crate) fn number(text: &str) -> Option<(&str, &str)>
     }
 }
 
-/// The string in front, which has to be there, and what follows it. `expected` names the form that is
-/// there in expressions.
+/// The string in front, which has to be there, and what follows it. `expected` is the form that is there
+/// in expressions.
 #[tactic(auto, using(crate::proofs::Lexing::tokens_next))]
 pub(crate) fn string<'t>(
     alloc: Global,
     text: &'t str,
-    expected: &'static str,
+    expected: Expected,
 ) -> Result<(String, &'t str), ParseError>
     ensures value { ReadsForm string_bytes result (spec.taken spec.as_string (spec.tokens text.now)) }
     ensures shorter { Shortens text.now result }

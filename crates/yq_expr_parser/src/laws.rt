@@ -1,7 +1,7 @@
 //! Laws of expressions.
 ghost use Rattle.std.specs.Prelude.{◌≡◌, ◌↔◌, ℕ, List};
-ghost use Rattle.yq_expr_parser.{specs.Outcome.{ComesTo, Derives, Outcome}, specs.Parse.outcome};
-ghost use Rattle.yq_semantics.{specs.Program.Program, specs.Tokens.{AreTokens, Token}};
+ghost use Rattle.yq_expr_parser.{specs.Outcome.{ComesTo, Derives}, specs.Parse.outcome};
+ghost use Rattle.yq_semantics.{specs.Parsing.Outcome, specs.Program.Program, specs.Tokens.{AreTokens, Token}};
 
 /// No text has two lists of tokens.
 pub fn one_token_list()

@@ -1,7 +1,6 @@
 //! Expressions parsed into programs.
 #![tactic(auto)]
 
-mod error;
 mod front;
 mod laws;
 mod parse;
@@ -9,6 +8,6 @@ mod pattern;
 mod survey;
 mod token;
 
-pub use error::{ParseError, ParseFault};
 pub use laws::{one_outcome, one_program, one_token_list};
 pub use parse::parse_expr;
+pub use yq_semantics::{ParseError, ParseFault};

@@ -1,8 +1,8 @@
 //! Texts are parsed into programs.
 ghost use Rattle.std.specs.Prelude.{◌≡◌, IfOk, IfErr};
-ghost use Rattle.yq_expr_parser.{specs.ReadAnswers.GivesForm, specs.Lexing.tokens, specs.Outcome.{Answers, ExprRefused, refusal}};
+ghost use Rattle.yq_expr_parser.{specs.ReadAnswers.GivesForm, specs.Lexing.tokens, specs.Outcome.{Answers, ExprRefused}};
 ghost use Rattle.yq_expr_parser.specs.FormAnswers.{GivesAll, IsProgramOf, AnswersEach};
-ghost use Rattle.yq_semantics.{specs.Grammar.literal_depth, specs.View.{stage_of, program_of}};
+ghost use Rattle.yq_semantics.{specs.Parsing.refusal, specs.Grammar.literal_depth, specs.View.{stage_of, program_of}};
 ghost use Rattle.yq_expr_parser.specs.Parse as spec;
 
 mod literal;
@@ -10,12 +10,11 @@ mod path;
 mod pipe;
 mod update;
 
-use crate::error::{ParseError, ParseFault};
 use crate::front::{is_end, misread};
 use crate::pattern::{has_pattern, pattern_left};
 use crate::survey::survey;
 use std::alloc::Global;
-use yq_semantics::{Program, Stage, Syntax, Update};
+use yq_semantics::{Expected, ParseError, ParseFault, Program, Stage, Syntax, Update};
 
 /// The program that a text says. Refusals come in this order: a token that can't be read, then a
 /// token of other expressions or more than 64 open brackets, then what is no program, then a
@@ -62,7 +61,7 @@ fn read(alloc: Global, text: &str) -> Result<Vec<Stage>, ParseError>
     if is_end(rest) {
         Ok(stages)
     } else {
-        Err(ParseError::Fault(misread(rest, "end")))
+        Err(ParseError::Fault(misread(rest, Expected::End)))
     }
 }
 
@@ -75,7 +74,7 @@ fn updates(alloc: Global, text: &str) -> Result<Syntax, ParseError>
     if is_end(rest) {
         Ok(Syntax::Updates(updates))
     } else {
-        Err(ParseError::Fault(misread(rest, "end")))
+        Err(ParseError::Fault(misread(rest, Expected::End)))
     }
 }
 
@@ -102,7 +101,7 @@ fn program(alloc: Global, text: &str) -> Result<Syntax, ParseError>
         Err(ParseError::Fault(first)) => match updates(alloc, text) {
             Ok(syntax) => Ok(syntax),
             Err(ParseError::Memory) => Err(ParseError::Memory),
-            Err(ParseError::Fault(fault)) => { Err(ParseError::Fault(further(first, fault))) }
+            Err(ParseError::Fault(fault)) => Err(ParseError::Fault(further(first, fault))),
         },
     }
 }

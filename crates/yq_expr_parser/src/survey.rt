@@ -4,9 +4,9 @@ ghost use Rattle.yq_expr_parser.{specs.ReadAnswers.GivesForm, specs.Lexing.token
 ghost use Rattle.yq_expr_parser.specs.Outcome as grammar;
 ghost use Rattle.yq_expr_parser.specs.Parse as spec;
 
-use crate::error::ParseError;
 use crate::front::misread;
 use crate::token::{Token, left_of, split_token};
+use yq_semantics::{Expected, ParseError};
 
 /// How many brackets may be open at one place.
 const MAX_OPEN: usize = 64;
@@ -51,7 +51,7 @@ pub(crate) fn survey(text: &str) -> Result<(bool, usize), ParseError>
             return Ok((other, left));
         };
         if token.is_unread() {
-            return Err(ParseError::Fault(misread(rest, "")));
+            return Err(ParseError::Fault(misread(rest, Expected::Unknown)));
         }
         opened = counted(is_opening(token), opened);
         closed = counted(is_closing(token), closed);

@@ -5,15 +5,13 @@ use std::fmt::{self, Debug, Display, Formatter, Write};
 use yq_args::UsageCause;
 use yq_core::{FaultKind, ReadFault};
 use yq_journal::JournalFault;
-use yq_semantics::Refusal;
+use yq_semantics::{ParseFault, Refusal};
 
 /// Why a command is refused. Its text is the line that the program prints.
 #[derive(Clone, Copy, PartialEq, Eq)]
 pub enum Fault {
     Usage(UsageCause),
-    Syntax,
-    NotInProfile,
-    Pattern,
+    Expression(ParseFault),
     /// S1: no file has the name.
     NotThere,
     /// S2: the store didn't read.
@@ -54,9 +52,9 @@ impl Error for Fault {}
 fn line_of(fault: &Fault) -> &'static str {
     match fault {
         Fault::Usage(_) => "U1 usage",
-        Fault::Syntax => "E1 syntax",
-        Fault::NotInProfile => "E2 not in profile",
-        Fault::Pattern => "E3 pattern",
+        Fault::Expression(ParseFault::Syntax { .. }) => "E1 syntax",
+        Fault::Expression(ParseFault::NotInProfile { .. }) => "E2 not in profile",
+        Fault::Expression(ParseFault::Pattern { .. }) => "E3 pattern",
         Fault::NotThere => "S1 not there",
         Fault::ReadFailed => "S2 read failed",
         Fault::WriteFailed => "S3 write failed",

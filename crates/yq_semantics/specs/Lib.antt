@@ -2,6 +2,7 @@ pub use Rattle.yq_core.specs.Values
 pub use Rattle.yq_core.specs.Tree
 pub mod Grammar
 pub mod Program
+pub mod Parsing
 pub mod Tokens
 pub mod View
 pub mod Matching

@@ -5,6 +5,7 @@
 
 mod laws;
 mod op;
+mod parse_fault;
 mod program;
 mod refusal;
 
@@ -13,6 +14,7 @@ pub use laws::{
     rooms_alike, rooms_ready,
 };
 pub use op::Op;
+pub use parse_fault::{Expected, ParseError, ParseFault};
 pub use program::{
     Assignment, Comment, CommentPlace, Comparison, Condition, Operand, Operator, PathStep, Program,
     Stage, Syntax, Term, Update, is_index, is_simple,

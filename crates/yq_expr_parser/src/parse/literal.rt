@@ -5,11 +5,11 @@ ghost use Rattle.yq_expr_parser.specs.FormAnswers.{ReadsOf, ReadsAll, literal_it
 ghost use Rattle.yq_core.{specs.Values.{value_node, field_of}, specs.Keys.are_distinct};
 ghost use Rattle.yq_expr_parser.specs.Parse as spec;
 
-use crate::error::ParseError;
 use crate::front::{after, closed, expect, misread, number, string};
 use std::alloc::{AllocError, Global};
 use yq_core::{Scalar, Value};
 use yq_scalar_reader::are_distinct;
+use yq_semantics::{Expected, ParseError};
 
 /// A word for a scalar, if one is in front, and what follows it.
 fn word(text: &str) -> Option<(&'static str, &str)>
@@ -42,7 +42,7 @@ pub(super) fn scalar(alloc: Global, text: &str) -> Result<(Scalar, &str), ParseE
         let scalar = Scalar::plain(alloc, word)?;
         return Ok((scalar, rest));
     }
-    let (content, rest) = string(alloc, text, "value")?;
+    let (content, rest) = string(alloc, text, Expected::Value)?;
     Ok((Scalar::string(content), rest))
 }
 
@@ -91,7 +91,7 @@ pub(super) fn literal(alloc: Global, text: &str, depth: usize) -> Result<(Value,
         if keys_differ(alloc, &fields)? {
             return Ok((Value::Map(fields), rest));
         }
-        return Err(ParseError::Fault(misread(text, "other keys")));
+        return Err(ParseError::Fault(misread(text, Expected::OtherKeys)));
     }
     scalar_value(alloc, text)
 }
@@ -148,7 +148,7 @@ fn field(alloc: Global, text: &str, depth: usize) -> Result<((String, Value), &s
     ensures value { ReadsOf field_of result (spec.field_at (spec.literal_at depth)) text.now }
     ensures shorter { Shortens text.now result }
 {
-    let (key, rest) = string(alloc, text, "key")?;
+    let (key, rest) = string(alloc, text, Expected::Key)?;
     let rest = expect(rest, ":")?;
     let (value, rest) = literal(alloc, rest, depth)?;
     Ok(((key, value), rest))

@@ -5,11 +5,10 @@ ghost use Rattle.yq_expr_parser.specs.FormAnswers.{ReadsAll};
 ghost use Rattle.yq_semantics.specs.View.{program_step};
 ghost use Rattle.yq_expr_parser.specs.Parse as spec;
 
-use crate::error::ParseError;
 use crate::front::{after, closed, key, misread, number, string};
 use std::alloc::Global;
 use yq_scalar_reader::int_value;
-use yq_semantics::PathStep;
+use yq_semantics::{Expected, ParseError, PathStep};
 
 /// A step in brackets, from after the opening one.
 #[tactic(auto, unfolding(crate::specs::Parse::bracketed_at))]
@@ -21,10 +20,10 @@ fn bracketed(alloc: Global, text: &str) -> Result<(PathStep, &str), ParseError>
         return Ok((PathStep::Each, rest));
     }
     if let Some((digits, rest)) = number(text) {
-        let index = int_value(digits).ok_or(ParseError::Fault(misread(text, "step")))?;
+        let index = int_value(digits).ok_or(ParseError::Fault(misread(text, Expected::Step)))?;
         return closed(PathStep::Index(index), rest, "]");
     }
-    let (key, rest) = string(alloc, text, "step")?;
+    let (key, rest) = string(alloc, text, Expected::Step)?;
     closed(PathStep::Key(key), rest, "]")
 }
 
@@ -81,7 +80,7 @@ pub(super) fn path(alloc: Global, text: &str) -> Result<(Vec<PathStep>, &str), P
     ensures shorter { Shortens text.now result }
 {
     if after(text, "[").is_some() {
-        return Err(ParseError::Fault(misread(text, ".")));
+        return Err(ParseError::Fault(misread(text, Expected::Path)));
     }
     let (steps, rest) = steps(alloc, text)?;
     if steps.is_empty() {

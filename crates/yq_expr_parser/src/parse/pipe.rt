@@ -6,10 +6,9 @@ ghost use Rattle.yq_expr_parser.specs.Parse as spec;
 
 use super::literal::scalar;
 use super::path::path;
-use crate::error::ParseError;
 use crate::front::{after, closed, expect, misread, string};
 use std::alloc::Global;
-use yq_semantics::{Comparison, Condition, Operand, Stage, is_simple};
+use yq_semantics::{Comparison, Condition, Expected, Operand, ParseError, Stage, is_simple};
 
 /// What is compared.
 #[tactic(auto, using(yq_semantics::proofs::Lists::list_all_map), unfolding(crate::specs::Parse::operand_at))]
@@ -27,7 +26,7 @@ fn operand(alloc: Global, text: &str) -> Result<(Operand, &str), ParseError>
     if is_simple(&steps) {
         return Ok((Operand::Path(steps), rest));
     }
-    Err(ParseError::Fault(misread(text, "one value")))
+    Err(ParseError::Fault(misread(text, Expected::OneValue)))
 }
 
 /// `==`, which is true, or `!=`.
@@ -48,7 +47,7 @@ fn condition(alloc: Global, text: &str) -> Result<(Condition, &str), ParseError>
     ensures shorter { Shortens text.now result }
 {
     if let Some(rest) = after(text, "has") {
-        let (key, rest) = string(alloc, expect(rest, "(")?, "key")?;
+        let (key, rest) = string(alloc, expect(rest, "(")?, Expected::Key)?;
         return closed(Condition::Has(key), rest, ")");
     }
     let (operand, rest) = operand(alloc, text)?;

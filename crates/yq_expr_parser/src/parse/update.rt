@@ -7,10 +7,11 @@ ghost use Rattle.yq_expr_parser.specs.Parse as spec;
 
 use super::literal::literal;
 use super::pipe::{left, pipe};
-use crate::error::ParseError;
 use crate::front::{after, begins_step, closed, expect, string};
 use std::alloc::Global;
-use yq_semantics::{Assignment, Comment, CommentPlace, Operator, Stage, Term, Update};
+use yq_semantics::{
+    Assignment, Comment, CommentPlace, Expected, Operator, ParseError, Stage, Term, Update,
+};
 
 /// How many collections may be nested in a literal.
 const LITERAL_DEPTH: usize = 64;
@@ -102,7 +103,7 @@ fn action(alloc: Global, left: Vec<Stage>, text: &str) -> Result<(Update, &str),
         ));
     }
     let (place, rest) = place(text)?;
-    let (text, rest) = string(alloc, expect(rest, "=")?, "text")?;
+    let (text, rest) = string(alloc, expect(rest, "=")?, Expected::Text)?;
     Ok((Update::Comment(Comment { left, place, text }), rest))
 }
 
