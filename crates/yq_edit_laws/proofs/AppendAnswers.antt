@@ -70,10 +70,6 @@ module _ (c : Cut) (n : ℕ) (steps : List Step) (key : Option (List ℕ)) (v : 
 
 -- ---- by the end of the collection
 
-pub no_more : (t : List ℕ) (o : Option CollPieces) (g : CollPieces → Option (List Segment)) → FlowEndAgrees t o None → (o >>= g) ≡ None
-no_more t None g agrees = refl
-no_more t (Some w) g agrees = absurd agrees
-
 -- The code finds the end of the flow collection at a path.
 pub record EndFound (c : Cut) (n : ℕ) (steps : List Step) (x : FlowEnd) : Type 0 where
   pub read : read_at (cut_text c) ≡ Some c
@@ -101,10 +97,6 @@ module _ (c : Cut) (n : ℕ) (steps : List Step) (key : Option (List ℕ)) (v : 
   keyed_is : keyed_takes x.keyed key ≡ takes_key f.coll.close key
   keyed_is =
       ap (λ (y : Bool × Bool × ℕ). keyed_takes y.0 key) f.agrees.end ∙ ap (λ (z : CollPieces). takes_key z.close key) place.coll_is
-
-  pub not_taken : keyed_takes x.keyed key ≡ false → (flow_collection n steps c >>= flow_more (cut_text c) key v) ≡ None
-  not_taken is =
-      ap (λ (y : Option CollPieces). y >>= flow_more (cut_text c) key v) f.found ∙ ap (λ (k : Bool). cond k (Some (flow_segments (cut_text c) (edited f.coll))) None) (sym keyed_is ∙ is)
 
   -- where it is written
   pub taken : (whole : List ℕ) (p : PlacedEdit) → whole ≡ cut_text c → p ≡ end_place x.some x.at → keyed_takes x.keyed key ≡ true →

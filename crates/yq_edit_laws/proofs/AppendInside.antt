@@ -1,6 +1,6 @@
 -- One item or entry more after a line that has a break.
 use Rattle.std.proofs.Common.{rules, ◌≡◌, ℕ, suc, ◌≤◌, true, false, List, [], ◌∷◌, ◌++◌, length, Option, Some, refl, sym, ap, ◌∙◌, subst}
-use Rattle.std.{proofs.Common.{append_assoc, append-nil, replicate}, proofs.lemmas.Bool.false≢true}
+use Rattle.std.{proofs.Common.{append_assoc, append-nil}, proofs.lemmas.Bool.false≢true}
 use Rattle.yq_core.{specs.BlockWritten.break_text, specs.Paths.{Step, append_child, changed_at, within}, specs.Tree.Node}
 use Rattle.yq_text.{specs.Limit.text_limit, specs.Script.{Segment, new_text}}
 use Rattle.yq_row_table.{specs.Exchange.asked_behind, specs.Grammar.{unlimited, no_rows}, proofs.PlainEnds.AtLine}
@@ -11,14 +11,13 @@ use Rattle.yq_places.{specs.CollectionEnds.{CollectionEnd, is_broken}, specs.Row
 use Rattle.yq_documents.{specs.Documents.lead_of, specs.Ready.begins_no_node, specs.Reading.read_at}
 use Rattle.yq_outline.{specs.Lines.{lines_from, lines_of_rows}, specs.Outline.label, specs.Places.content_under}
 use Rattle.yq_edit_rules.{specs.declared.layout.Layout.Layout, specs.Alone.singleton, specs.BlockRows.node_rows}
-use Rattle.yq_edit_rules.{specs.BlockText.block_value, proofs.BlockEndLaws.line_ends, proofs.TextLaws.value_spelled}
-use Rattle.yq_edit_rules.{specs.Appends.{TakesRows, inserted}, specs.Changed.{IsChanged, put_document}}
-use Rattle.yq_edit_rules.{specs.CollectionPlaces.IsCollectionEnd, specs.DocumentRows.behind_document, specs.Rooms.is_block_root}
-use Rattle.yq_edit_rules.{proofs.AppendLaws.block_appended, proofs.EndedRowLaws.rows_then, proofs.TextPieceLaws.pieces_joined}
-use Rattle.yq_edit_rules.{proofs.BlockLineLaws.break_uncommented, specs.Local.{IsLocal, IsLocalTo}}
-use Rattle.yq_edit_rules.{proofs.ItemsLocal.{first_nothing, last_nothing}, proofs.LocalLaws.{cut_known, rows_local}}
-use Rattle.yq_edit_rules.{specs.Layouts.layout_of, specs.EntryEdits.entry_lines, specs.ReadsAfter.ReadsAfter}
-use Rattle.yq_edit_rules.{proofs.CommentPieceLaws.break_piece, proofs.SegmentLaws.segments_readable}
+use Rattle.yq_edit_rules.{proofs.BlockEndLaws.line_ends, proofs.TextLaws.value_spelled, specs.Appends.{TakesRows, inserted}}
+use Rattle.yq_edit_rules.{specs.Changed.{IsChanged, put_document}, specs.CollectionPlaces.IsCollectionEnd}
+use Rattle.yq_edit_rules.{specs.DocumentRows.behind_document, specs.Rooms.is_block_root, proofs.AppendLaws.block_appended}
+use Rattle.yq_edit_rules.{proofs.EndedRowLaws.rows_then, proofs.TextPieceLaws.pieces_joined, proofs.BlockLineLaws.break_uncommented}
+use Rattle.yq_edit_rules.{specs.Local.{IsLocal, IsLocalTo}, proofs.ItemsLocal.{first_nothing, last_nothing}}
+use Rattle.yq_edit_rules.{proofs.LocalLaws.{cut_known, rows_local}, specs.Layouts.layout_of, specs.EntryEdits.entry_lines}
+use Rattle.yq_edit_rules.{specs.ReadsAfter.ReadsAfter, proofs.CommentPieceLaws.break_piece, proofs.SegmentLaws.segments_readable}
 use Rattle.yq_edit_rules.proofs.AppendPlaces.{IsAppendPlace, put_segments, old_is, p, there, e, allows_there, kept_pieces, IsAsked, entry}
 use Rattle.yq_edit_rules.proofs.AppendPlaces.{written, new_rows_are, entry_piece, filled, finished}
 use Rattle.yq_semantics.specs.Operations.{append}
@@ -78,20 +77,7 @@ module _ (doc : ℕ) (steps : List Step) (key : Option (List ℕ)) (v : Node) (c
   q_rows = ap (λ rs. place.front ++ (new ++ rs)) (own_gap place.back part.end)
 
   pub new_is : cut_text (put_document doc q c) ≡ new_text (put_segments x (lines ++ break_text l.br))
-  new_is =
-      let w = filled doc steps key v c x read at g in
-      place.new_text q
-      ∙ (ap (λ z. place.start ++ z)
-      ((λ i. rows_text (q_rows i) (own_end place.back part.end i ++ rest))
-      ∙ (rows_text-append place.front (new ++ place.back) (part.end ++ rest)
-      ∙ (rows_then place.front (rows_text (new ++ place.back) (part.end ++ rest))
-      ∙ ap (λ z. rows_text place.front [] ++ z) (rows_text-append new place.back (part.end ++ rest)))))
-      ∙ (sym (append_assoc place.start (rows_text place.front []) (rows_text new (rows_text place.back (part.end ++ rest))))
-      ∙ ((λ i. sym place.before_is i ++ rows_text new (sym place.behind_is i))
-      ∙ ap (λ z. x.before ++ z)
-      (value_spelled (singleton key v) l x.column (break_text l.br) x.behind w.filled w.value
-      ∙ (sym (append_assoc (replicate x.column 32) (block_value l x.column (singleton key v)) (break_text l.br ++ x.behind))
-      ∙ (sym (append_assoc lines (break_text l.br) x.behind) ∙ ap (λ z. (lines ++ break_text l.br) ++ z) (sym (append-nil x.behind))))))))
+  new_is = search (rules, filled, q_rows, own_end, rows_text-append, rows_then, append_assoc, value_spelled, append-nil)
 
   readable : length (new_text (put_segments x (lines ++ break_text l.br))) ≤ text_limit → IsReadable (cut_text (put_document doc q c))
   readable size =

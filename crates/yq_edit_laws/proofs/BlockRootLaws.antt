@@ -64,42 +64,29 @@ module _ (d : PlacedPart) (r : Row) (rs : List Row) (are : AreRows unlimited (r 
       go (inr none) = inr none
 
 pub block_root_at : (n : ℕ) (c : Cut) (column : ℕ) (w : LinesIn) → read_at (cut_text c) ≡ Some c → HasRoot n c column w → IsBlockRoot n c column w
-block_root_at n c column w read h = subst (IsBlockRoot n c column) h.is (record {
-  d = h.d;
-  placed = h.placed;
-  row = h.row;
-  others = h.others;
-  rows_are = h.rows_are;
-  block = ap (λ xs. begins_no_node (lines_of_rows xs)) h.rows_are ∙ row_entry h.row h.others h.block;
-  ends = ends_with t more (own_ended h.d h.row h.others are h.block);
-  before_is = refl;
-  behind_is = refl;
-  column_is = sym h.column_is;
-  whole = ap (λ u. (h.d.before ++ front) ++ u) (sym (append_assoc (less_break t) (last_break t) more) ∙ ap (λ u. u ++ more) (less_is t))
-      ∙ (append_assoc h.d.before front (t ++ more)
-      ∙ (ap (λ u. h.d.before ++ u) (sym (rows_split h.d h.row h.others are more)) ∙ (ap (λ xs. h.d.before ++ rows_text xs more) (sym h.rows_are) ∙ sym stands.text)));
-})
-  where
-    t : List ℕ
-    t = behind_indent h.row (rows_text h.others [])
-
-    more : List ℕ
-    more = h.d.part.end ++ h.d.behind
-
-    front : List ℕ
-    front = h.row.gap ++ replicate h.row.column 32
-
-    stands : StandsAt c n h.d
-    stands = document_stands_at c n h.d h.placed
-
-    cut : IsCut (cut_text c) c
-    cut = (document_known (cut_text c) c n h.d.part (record { read = read; there = stands.there })).cut
-
-    lies : LiesIn h.d
-    lies = lies_in n c h.d cut.parts h.placed
-
-    are : AreRows unlimited (h.row ∷ h.others) h.d.part.end h.d.behind
-    are = subst (λ xs. AreRows unlimited xs h.d.part.end h.d.behind) h.rows_are lies.rows
+block_root_at n c column w read h =
+    let t : List ℕ = behind_indent h.row (rows_text h.others []) in
+    let more : List ℕ = h.d.part.end ++ h.d.behind in
+    let front : List ℕ = h.row.gap ++ replicate h.row.column 32 in
+    let stands : StandsAt c n h.d = document_stands_at c n h.d h.placed in
+    let cut : IsCut (cut_text c) c = (document_known (cut_text c) c n h.d.part (record { read = read; there = stands.there })).cut in
+    let lies : LiesIn h.d = lies_in n c h.d cut.parts h.placed in
+    let are : AreRows unlimited (h.row ∷ h.others) h.d.part.end h.d.behind = subst (λ xs. AreRows unlimited xs h.d.part.end h.d.behind) h.rows_are lies.rows in
+    subst (IsBlockRoot n c column) h.is (record {
+      d = h.d;
+      placed = h.placed;
+      row = h.row;
+      others = h.others;
+      rows_are = h.rows_are;
+      block = ap (λ xs. begins_no_node (lines_of_rows xs)) h.rows_are ∙ row_entry h.row h.others h.block;
+      ends = ends_with t more (own_ended h.d h.row h.others are h.block);
+      before_is = refl;
+      behind_is = refl;
+      column_is = sym h.column_is;
+      whole = ap (λ u. (h.d.before ++ front) ++ u) (sym (append_assoc (less_break t) (last_break t) more) ∙ ap (λ u. u ++ more) (less_is t))
+          ∙ (append_assoc h.d.before front (t ++ more)
+          ∙ (ap (λ u. h.d.before ++ u) (sym (rows_split h.d h.row h.others are more)) ∙ (ap (λ xs. h.d.before ++ rows_text xs more) (sym h.rows_are) ∙ sym stands.text)));
+    })
 
 -- ---- a value may come there
 

@@ -3,7 +3,7 @@ use Rattle.std.proofs.Common.{rules, inl, inr, ◌⊎◌, ◌≡◌, ℕ, suc, �
 use Rattle.std.proofs.Common.{Option, Some, None, refl, sym, ap, ◌∙◌, subst, arith, append_assoc, append-nil, length-append}
 use Rattle.std.{proofs.lemmas.Bool.{cases_lt, false≢true}, proofs.lemmas.Option.same_Some, specs.List.slice_get, specs.Option.is_none}
 use Rattle.std.specs.Prelude.{option_and_then}
-use mathlib.Core.List.{head-eq_of_cons-eq, tail-eq_of_cons-eq}
+use mathlib.Core.List.{tail-eq_of_cons-eq}
 use Rattle.yq_core.{specs.Paths.Step, specs.Text.is_empty, specs.Tree.Node}
 use Rattle.yq_outline.{specs.Comments.head_comment, specs.Outline.{Line, Outline, flatten}}
 use Rattle.yq_outline.{specs.Places.{FoundLine, here, lines_after, lines_before}, specs.Positions.has_no_mark, proofs.Decides.flatten-group}
@@ -27,12 +27,7 @@ rows_by_lines : (a b c d : List Row) → a ++ b ≡ c ++ d → length (lines_of_
 rows_by_lines [] b [] d e size = (refl, e)
 rows_by_lines [] b (y ∷ c) d e size = absurd (omega (arith, size, row_count y, length-append (row_lines y) (lines_of_rows c)))
 rows_by_lines (x ∷ a) b [] d e size = absurd (omega (arith, size, row_count x, length-append (row_lines x) (lines_of_rows a)))
-rows_by_lines (x ∷ a) b (y ∷ c) d e size =
-    let first : x ≡ y = head-eq_of_cons-eq e in
-    let h =
-    rows_by_lines a b c d (tail-eq_of_cons-eq e)
-    (omega (arith, size, ap (λ (r : Row). length (row_lines r)) first, length-append (row_lines x) (lines_of_rows a), length-append (row_lines y) (lines_of_rows c))) in
-    (λ i. first i ∷ h.0 i, h.1)
+rows_by_lines (x ∷ a) b (y ∷ c) d e size = search (rules, length-append, rows_by_lines a b c d (tail-eq_of_cons-eq e))
 
 -- ---- under a line
 

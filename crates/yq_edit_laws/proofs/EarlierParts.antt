@@ -10,7 +10,8 @@ use Rattle.yq_core.{specs.Nodes.{node_text, opening_bracket, sep_text, without_a
 use Rattle.yq_core.{proofs.NodeAgain.{node_longer, sep_longer}, proofs.NodesWrittenLaws.{key_append, sep_append}, proofs.PathLaws.then_some}
 use Rattle.yq_flow_edits.specs.FlowEdits.{FlowEdit, IsFlowEdited, add_item, behind_appended, behind_last, put_content, put_item}
 use Rattle.yq_flow_edits.{proofs.EditLaws.around_is, proofs.ItemSwaps.{item_cut, text_cut}}
-use Rattle.yq_edit_laws.{proofs.FlowLonger.{entry_more, item_more}, proofs.LaterEnds.{items_end, node_end, own_end, rest_in}}
+use Rattle.yq_places.proofs.FlowNodeLaws.{item_more}
+use Rattle.yq_edit_laws.{proofs.FlowLonger.entry_more, proofs.LaterEnds.{items_end, node_end, own_end, rest_in}}
 use Rattle.yq_edit_laws.proofs.LaterParts.{content_within, inside_within, node_in_items, with_node}
 use Rattle.yq_core.specs.Tree as tree
 
@@ -25,12 +26,7 @@ inside_more s (anchored n gap node) rest more = inside_more s node rest more
 
 parts_more : (q : List Step) (x : EntryPieces) (more : List ℕ) → entry_pieces_at q (entry_more more x) ≡ option_map (entry_more more) (entry_pieces_at q x)
 parts_more [] x more = refl
-parts_more (s ∷ q) x more = ap (option_and_then (entry_pieces_at q)) (inside_more s x.node x.rest more) ∙ go (path_inside s x.node x.rest) (λ y. parts_more q y more)
-  where
-    go : (o : Option EntryPieces) →
-        ((y : EntryPieces) → entry_pieces_at q (entry_more more y) ≡ option_map (entry_more more) (entry_pieces_at q y)) →
-        option_and_then (entry_pieces_at q) (option_map (entry_more more) o) ≡ option_map (entry_more more) (option_and_then (entry_pieces_at q) o)
-    go o again = search rules
+parts_more (s ∷ q) x more = search (rules, inside_more, entry_more, parts_more q)
 
 -- ---- an item or entry before one that changes
 
@@ -84,14 +80,7 @@ front_item k s r f (item key n sep is) rest y u t t2 here there h short long =
     go true false is_r here there again = search (rules, arith, node_in_items, sep_longer, same_Some)
     go false true is_r here there again =
         let w = items_turn k (further s) f is rest y t t2 here h in
-        let two : own n ≡ u = same_Some _ _ there in
-        let others : Items = change_item (further s) f is in
-        inr (
-          sep_text sep w.0,
-          ap (λ (z : EntryPieces). z.rest) (sym two) ∙ (ap (sep_text sep) w.1 ∙ sep_append sep w.0 t),
-          ap (λ (b : Bool). cond b (Some (record { key = key; node = n; rest = sep_text sep (flow_items_text k others rest) })) (item_at k (further r) others rest)) is_r
-              ∙ (ap (λ (l : List ℕ). Some (record { key = key; node = n; rest = l })) (ap (sep_text sep) w.2 ∙ sep_append sep w.0 t2) ∙ ap (λ (z : EntryPieces). Some (record z { rest = sep_text sep w.0 ++ t2 })) two),
-        )
+        search (rules, own, same_Some, sep_append)
     go false false is_r here there again = search (rules, with_node)
 
 -- the item or entry to which steps lead from one that comes before another text then
@@ -177,11 +166,9 @@ front_node : (s r : Step) (f : FlowNode → FlowNode) (node : FlowNode) (rest : 
     path_inside s node rest ≡ Some y → path_inside r node rest ≡ Some u → Turns (node_text y.node y.rest) (node_text (f y.node) y.rest) t t2 →
     length y.rest ≤ length t → length t < length (node_text u.node u.rest) →
     ((u ≡ y) × (path_inside r (within_items (change_item s f) node) rest ≡ Some (with_node (f y.node) y))) ⊎ ComesBefore t t2 u (path_inside r (within_items (change_item s f) node) rest)
-front_node s r f empty rest y u t t2 here there h short long = absurd (none-some _ here)
-front_node s r f (alias n) rest y u t t2 here there h short long = absurd (none-some _ here)
-front_node s r f (scalar p) rest y u t t2 here there h short long = absurd (none-some _ here)
 front_node s r f (coll k gap is) rest y u t t2 here there h short long = front_item k s r f is rest y u t t2 here there h short long
 front_node s r f (anchored n gap node) rest y u t t2 here there h short long = front_node s r f node rest y u t t2 here there h short long
+front_node s r f _ rest y u t t2 here there h short long = absurd (none-some _ here)
 
 -- steps lead to no less text after a collection than that after the node that holds it
 pub rest_within : (p : List Step) (x : EntryPieces) (w : CollPieces) → coll_along p x.node x.rest ≡ Some w → length x.rest ≤ length w.rest
@@ -219,11 +206,9 @@ module _ (w : CollPieces) (gap : List ℕ) (is : Items) (t t2 : List ℕ) (short
 
   own_before : (r : Step) (node : FlowNode) (rest : List ℕ) (u : EntryPieces) → coll_in node rest ≡ Some w → path_inside r node rest ≡ Some u →
       length t < length (node_text (without_anchor u.node) u.rest) → ComesBefore t t2 u (path_inside r (put_coll gap is node) rest)
-  own_before r empty rest u e there long = absurd (none-some _ e)
-  own_before r (alias n) rest u e there long = absurd (none-some _ e)
-  own_before r (scalar b) rest u e there long = absurd (none-some _ e)
   own_before r (coll k g items) rest u e there long = search (rules, same_Some _ _ e)
   own_before r (anchored n g node) rest u e there long = own_before r node rest u e there long
+  own_before r _ rest u e there long = absurd (none-some _ e)
 
   -- a part of an item or entry that comes before
   by_before : (r : Step) (q : List Step) (u z x : EntryPieces) → entry_pieces_at q u ≡ Some z → ComesBefore t t2 u (path_inside r x.node x.rest) → ComesBefore t t2 z (entry_pieces_at (r ∷ q) x)

@@ -6,7 +6,7 @@ use Rattle.yq_core.specs.Plain.{IsPlain, ends_plain}
 use Rattle.yq_core.specs.Text.{front, is_break, is_white, is_feed, is_return, is_line, is_empty, no_white, unless, NoneIn}
 use Rattle.yq_core.{proofs.Bools.at_byte, proofs.BlockPieceLaws.{IsLf, append_lf, line_lf, raw_lf}}
 use Rattle.yq_core.specs.Nodes.{FlowNode, empty, alias, scalar, coll, anchored, in_name, is_close, flow_items_text, node_text}
-use Rattle.yq_core.{specs.Nodes.{opening_bracket, IsFlowNode}, specs.Scalars.IsInQuotes, proofs.NodesWrittenLaws.node_append}
+use Rattle.yq_core.{specs.Nodes.{opening_bracket, IsFlowNode}, proofs.NodesWrittenLaws.node_append}
 use Rattle.yq_row_table.{proofs.seams.FrontSeams.row_some, specs.Exchange.row_front, specs.Gap.IsWhite}
 use Rattle.yq_row_table.specs.Grammar.{IsContent, IsKey, IsMark, IsRow, Limit, is_entry}
 use Rattle.yq_row_table.specs.Rows.{Content, Nothing, Inline, Block, Row, behind_indent, content_text, dashes_text, mark_text}
@@ -92,14 +92,12 @@ plain_feed spaces [] h = refl
 plain_feed spaces (b ∷ []) h = (or_parts (is_feed b) (is_return b && front is_feed []) (or_parts (is_white b) (is_break (b ∷ [])) (last_no_space spaces b [] h.0 refl)).1).0
 plain_feed spaces (b ∷ (c ∷ p)) h = plain_feed spaces (c ∷ p) h.1
 
-quoted_feed : (p : List ℕ) → IsInQuotes p [] → ends_feed p ≡ false
-quoted_feed p h = search (rules, feed_more)
-
 node_feed : (spaces : Option ℕ) (node : FlowNode) (d : ℕ) → IsFlowNode false spaces d node [] → ends_feed (node_text node []) ≡ false
 unfolding node_text IsFlowNode
 node_feed spaces empty d h = refl
 node_feed spaces (alias n) d h = feed_byte 42 (n ++ []) refl (ap ends_feed (append-nil n) ∙ name_feed n [] h.inside)
-node_feed spaces (scalar p) d h = ap ends_feed (append-nil p) ∙ ⊎_elim {0, 0, 0} (λ (k : IsPlain false spaces p []). plain_feed spaces p k.inside) (λ k. quoted_feed p k.0) h
+node_feed spaces (scalar p) d h =
+    ap ends_feed (append-nil p) ∙ ⊎_elim {0, 0, 0} (λ (k : IsPlain false spaces p []). plain_feed spaces p k.inside) (λ k. search (rules, feed_more)) h
 node_feed spaces (coll k g is) d h =
     let x = items_close k is in
     let whole : opening_bracket k ∷ (g ++ flow_items_text k is []) ≡ (opening_bracket k ∷ (g ++ x.0)) ++ k ∷ [] = ap (λ t. opening_bracket k ∷ (g ++ t)) x.1 ∙ ap (λ t. opening_bracket k ∷ t) (sym (append_assoc g x.0 (k ∷ []))) in

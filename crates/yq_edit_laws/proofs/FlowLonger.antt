@@ -1,12 +1,12 @@
 -- Edits of a flow collection in a part of a text, as edits of the text.
 use Rattle.std.proofs.Common.{rules, ◌≡◌, ℕ, ◌≤◌, true, false, cond, List, [], ◌∷◌, ◌++◌, length, Option, Some, None, option_map, refl, sym}
-use Rattle.std.{proofs.Common.{ap, ◌∙◌, arith, append_assoc, length-append}, specs.Option.option_or}
-use Rattle.yq_core.{specs.Paths.{Step, is_here, further}, specs.Collections.CollPieces, specs.Entries.{EntryPieces, item_at}}
+use Rattle.std.proofs.Common.{ap, arith, append_assoc, length-append}
+use Rattle.yq_core.{specs.Paths.{Step, is_here, further}, specs.Collections.CollPieces, specs.Entries.EntryPieces}
 use Rattle.yq_core.{specs.Nodes.{Key, Sep, FlowNode, Items, none, item}, specs.Trees.key_content, specs.Tree.key_label}
 use Rattle.yq_core.proofs.NodesWrittenLaws.{items_append, sep_append}
 use Rattle.yq_flow_edits.{specs.FlowEdits.{FlowEdit, appending, behind_last}, specs.FlowPlaces.place_edit}
-use Rattle.yq_flow_edits.specs.Removals.{before_next, edit_from_item, comma_left, gap_of, last_gone, last_out, last_removed, next_text}
-use Rattle.yq_flow_edits.{specs.Removals.removing_from, proofs.RemovePlaces.or_mapped}
+use Rattle.yq_flow_edits.specs.Removals.{before_next, edit_from_item, gap_of, last_gone, last_out, last_removed, next_text, removing_from}
+use Rattle.yq_flow_edits.proofs.RemovePlaces.{or_mapped}
 use Rattle.yq_edit_laws.specs.EditPlaces.{moved_on}
 
 -- ---- more text after a collection
@@ -18,14 +18,6 @@ entry_more more y = record { key = y.key; node = y.node; rest = y.rest ++ more }
 -- a collection before a longer rest
 abbrev pub with_more : List ℕ → CollPieces → CollPieces
 with_more more w = record { close = w.close; gap = w.gap; items = w.items; rest = w.rest ++ more }
-
-as_entry : Key → FlowNode → List ℕ → Option EntryPieces
-as_entry key n rest = Some (record { key = key; node = n; rest = rest })
-
-pub item_more : (k : ℕ) (s : Step) (is : Items) (rest more : List ℕ) → item_at k s is (rest ++ more) ≡ option_map (entry_more more) (item_at k s is rest)
-unfolding as_entry
-item_more k s none rest more = refl
-item_more k s (item key n sep is) rest more = search (rules, items_append, sep_append, item_more k (further s) is rest more)
 
 -- ---- the same edit before a longer rest
 
@@ -51,10 +43,6 @@ appending_more key m more w = ap (λ (l : List ℕ). record (appending key m w) 
 next_more : (k : ℕ) (g : List ℕ) (key : Key) (n : FlowNode) (sep : Sep) (is : Items) (rest more : List ℕ) → before_next k (rest ++ more) g key n sep is ≡ option_map (edit_more more) (before_next k rest g key n sep is)
 next_more k g key n sep is rest more = search (rules, items_append)
 
-comma_more : (k : ℕ) (g : List ℕ) (key : Key) (n : FlowNode) (sep : Sep) (key2 : Key) (n2 : FlowNode) (sep2 : Sep) (rest more : List ℕ) →
-    comma_left k (rest ++ more) g key n sep key2 n2 sep2 ≡ edit_more more (comma_left k rest g key n sep key2 n2 sep2)
-comma_more k g key n sep key2 n2 sep2 rest more = search (rules, append_assoc)
-
 out_more : (k : ℕ) (s : Step) (g : List ℕ) (key : Key) (n : FlowNode) (sep : Sep) (is : Items) (rest more : List ℕ) → last_out k (rest ++ more) s g key n sep is ≡ option_map (edit_more more) (last_out k rest s g key n sep is)
 out_more k s g key n sep none rest more = refl
 out_more k s g key n sep (item key2 n2 sep2 (item key3 n3 sep3 is)) rest more = refl
@@ -62,7 +50,7 @@ out_more k s g key n sep (item key2 n2 sep2 none) rest more =
     let new : List ℕ → FlowEdit = λ r. last_removed k r g key n sep key2 n2 sep2 in
     let gone : last_gone k (rest ++ more) g key n sep key2 n2 sep2 ≡ edit_more more (last_gone k rest g key n sep key2 n2 sep2) =
     ap (λ (l : List ℕ). record { gap = g; items = item key n sep2 none; old = next_text sep key2 n2; lead = []; written = []; behind = l }) (sep_append sep2 (k ∷ rest) more) in
-    let one : new (rest ++ more) ≡ edit_more more (new rest) = search (rules, comma_more) in
+    let one : new (rest ++ more) ≡ edit_more more (new rest) = search (rules, append_assoc) in
     elim (is_here s (key_label (key_content key2))) as (λ v. cond v (Some (new (rest ++ more))) None ≡ option_map (edit_more more) (cond v (Some (new rest)) None)) [ true ↦ ap Some one | false ↦ refl ]
 
 behind_more : (g : List ℕ) (key : Key) (n : FlowNode) (sep : Sep) (more : List ℕ) (o : Option FlowEdit) →
@@ -73,12 +61,4 @@ pub removing_more : (k : ℕ) (s : Step) (g : List ℕ) (is : Items) (rest more 
 removing_more k s g none rest more = refl
 removing_more k s g (item key n sep is) rest more =
     let t : Step = further s in
-    let again = ap (option_map (edit_from_item g key n sep)) (removing_more k t (gap_of sep) is rest more) ∙ behind_more g key n sep more (removing_from k rest t (gap_of sep) is) in
-    elim (is_here s (key_label (key_content key)))
-    as (λ b. cond b (before_next k (rest ++ more) g key n sep is) (option_or (last_out k (rest ++ more) t g key n sep is) (option_map (edit_from_item g key n sep) (removing_from k (rest ++ more) t (gap_of sep) is)))
-    ≡ option_map (edit_more more) (cond b (before_next k rest g key n sep is) (option_or (last_out k rest t g key n sep is) (option_map (edit_from_item g key n sep) (removing_from k rest t (gap_of sep) is))))) [
-      | true ↦ next_more k g key n sep is rest more
-      | false ↦ (λ i. option_or (out_more k t g key n sep is rest more i) (again i))
-          ∙ or_mapped (edit_more more) (last_out k rest t g key n sep is)
-          (option_map (edit_from_item g key n sep) (removing_from k rest t (gap_of sep) is))
-    ]
+    search (rules, behind_more, next_more, out_more, or_mapped, removing_more k t (gap_of sep) is rest more)

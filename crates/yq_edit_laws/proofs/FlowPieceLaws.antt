@@ -32,14 +32,11 @@ front_utf8 t a b n e u at size =
     let there : n ≡ length a = omega (arith, size, ap length e, length-append a b) in
     subst IsUtf8 ((λ i. take (there i) (e i)) ∙ take-append_seam a b) (IsUtf8-take t n u at)
 
-behind_utf8 : (a b : List ℕ) → IsUtf8 (a ++ b) → IsCharBoundary (a ++ b) (length a) → IsUtf8 b
-behind_utf8 a b u at = subst IsUtf8 (drop-append_seam a b) (IsUtf8-drop (a ++ b) (length a) u at)
-
 pub piece_front : (a b : List ℕ) → IsPiece (a ++ b) → IsUtf8 a → Whole a b → IsPiece a
 piece_front a b h u w = search (rules, and_parts, all_text, all_join, and_from, pairs_whole)
 
 pub piece_behind : (a b : List ℕ) → IsPiece (a ++ b) → IsUtf8 a → IsCharBoundary (a ++ b) (length a) → IsPiece b
-piece_behind a b h u at = search (rules, and_parts, all_text, all_join, behind_utf8, and_from, pairs_back)
+piece_behind a b h u at = search (rules, and_parts, all_text, all_join, drop-append_seam, IsUtf8-drop, and_from, pairs_back)
 
 -- Of an edit that begins and ends at whole characters, where no CR comes before an LF, the text before and after it are pieces.
 pub edit_pieces : (t before : List ℕ) (e : FlowEdit) → IsPiece t → t ≡ before ++ (e.old ++ e.behind) → IsCharBoundary t (length t - length (e.old ++ e.behind)) → IsCharBoundary t (length t - length e.behind) →

@@ -7,11 +7,10 @@ use Rattle.yq_core.{specs.declared.style.Place.TheVariants.Flow, specs.Collectio
 use Rattle.yq_core.{specs.Entries.EntryPieces, specs.Nodes.{Key, Items, none, item, is_empty_node, node_text, without_anchor}}
 use Rattle.yq_core.{specs.Places.locate, specs.Scalars.scalar_style, specs.Trees.scalar_node, proofs.PathLaws.items_hold}
 use Rattle.yq_text.{specs.Limit.text_limit, specs.Script.new_text}
-use Rattle.yq_flow_edits.specs.FlowEdits.{FlowEdit, IsFlowEdited, behind_appended, put_content, put_item, put_value, replacing, space_for}
-use Rattle.yq_flow_edits.{specs.FlowEdits.spaced_key, specs.Valued.IsValueTree, proofs.EditLaws.around_is}
-use Rattle.yq_flow_edits.{proofs.EditSpans.{EditIsSpan, replace_spans}, proofs.PlacedEdits.replace_placed}
-use Rattle.yq_flow_edits.{proofs.ValueEdits.{change_last, scalar_replaced, value_replaced}, proofs.ValueFits.scalar_block}
-use Rattle.yq_flow_edits.proofs.ItemPlaces.{item_rest}
+use Rattle.yq_flow_edits.specs.FlowEdits.{FlowEdit, IsFlowEdited, behind_appended, put_item, put_value, replacing, space_for, spaced_key}
+use Rattle.yq_flow_edits.{specs.Valued.IsValueTree, proofs.EditLaws.around_is, proofs.EditSpans.{EditIsSpan, replace_spans}}
+use Rattle.yq_flow_edits.{proofs.PlacedEdits.replace_placed, proofs.ValueEdits.{change_last, scalar_replaced, value_replaced}}
+use Rattle.yq_flow_edits.{proofs.ValueFits.scalar_block, proofs.ItemPlaces.item_rest}
 use Rattle.yq_row_table.specs.Rows.{Cut, cut_text}
 use Rattle.yq_documents.{specs.Documents.{EachHasFitKeys, HasFitKey, HasFitKeys, lead_of}, specs.TreeEdits.replaced_node}
 use Rattle.yq_documents.specs.Reading.{documents, read_at, root_of}
@@ -70,12 +69,9 @@ value_keys old v h = search (rules, flow_fits)
 spaced_fit : (key : Key) → HasFitKey key → HasFitKey (spaced_key key)
 spaced_fit key h = search rules
 
-content_fit : (m : inline.FlowNode) (key : Key) (n : inline.FlowNode) → HasFitKeys m → HasFitKey key → HasFitKey (put_content m key n).0 × HasFitKeys (put_content m key n).1
-content_fit m key n h k = search (rules, spaced_fit)
-
 put_fit : (s : Step) (m : inline.FlowNode) (is : Items) → HasFitKeys m → EachHasFitKeys is → EachHasFitKeys (put_item s m is)
 put_fit s m none h k = tt
-put_fit s m (item key n sep is) h k = search (rules, content_fit m key n h k.0, cond_both, put_fit (further s) m is h k.2)
+put_fit s m (item key n sep is) h k = search (rules, spaced_fit, cond_both, put_fit (further s) m is h k.2)
 
 -- ---- the tree
 
@@ -158,11 +154,7 @@ module _ (c : Cut) (doc : ℕ) (path : List Step) (v : tree.Node) (read : read_a
               ap (λ (f : tree.Node → tree.Node). f (root_of at.part)) (step_change path a.init a.step (replaced_node v) a.last)
               ∙ ap (λ n. changed_at path (replaced_node n) (root_of at.part)) (sym (led_same (is_block_root at.part) (lead_of at.part) path v (below_root (is_block_root at.part) path a.init a.step a.last)));
           pieces = (subst IsPiece (sym (before_is (cut_text c) there.before (e.old ++ e.behind) there.text)) parts.0, (space_there (without_anchor a.item.node), (written_piece (content_written a.item.node) v h, (parts.1, tt))));
-          stays = omega (
-            arith,
-            (around_is x stands).longer,
-            item_rest a.coll.close a.step a.coll.items a.coll.rest a.item a.at,
-          );
+          stays = omega (arith, (around_is x stands).longer, item_rest a.coll.close a.step a.coll.items a.coll.rest a.item a.at);
         }
 
     pub replaced_carried : length (new_text (flow_segments (cut_text c) e)) ≤ text_limit → CarriedOut (replace doc path v) c (flow_segments (cut_text c) e)

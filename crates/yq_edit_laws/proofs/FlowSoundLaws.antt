@@ -1,7 +1,6 @@
 -- The paths of operations in flow collections, and the roots that they leave.
-use Rattle.std.proofs.Common.{rules, ◌≡◌, inl, inr, ℕ, false, List, [], ◌∷◌, ◌++◌, Option, Some, None, option_map, option_and_then, refl}
-use Rattle.std.{proofs.Common.{sym, ap, ◌∙◌, subst}, proofs.lemmas.Bool.or_parts, proofs.lemmas.Option.{none-some, same_Some}}
-use Rattle.std.specs.List.{list_any}
+use Rattle.std.proofs.Common.{rules, ◌≡◌, inl, inr, ℕ, false, List, [], ◌∷◌, ◌++◌, Option, Some, None, option_map, refl, sym, ap, ◌∙◌}
+use Rattle.std.{proofs.Common.subst, proofs.lemmas.Bool.or_parts, proofs.lemmas.Option.{none-some, same_Some}, specs.List.list_any}
 use Rattle.yq_core.{specs.Paths.{Step, changed_at, child_at, node_at, remove_child, within}, specs.Tree.{Node, children_of}}
 use Rattle.yq_core.specs.Anchors.{Name, Anchors, Refers, IsAmong, names_of}
 use Rattle.yq_documents.specs.TreeEdits.{at_end}
@@ -27,13 +26,7 @@ last_is (t ∷ (u ∷ path)) init s e = go (last_step (u ∷ path)) refl e (λ a
 -- the node above the one to which a path leads
 pub above_is : (init : List Step) (s : Step) (root n : Node) → node_at (init ++ (s ∷ [])) root ≡ Some n → (old : Node) × (node_at init root ≡ Some old) × (child_at s (children_of old) ≡ Some n)
 above_is [] s root n e = search (rules, none-some)
-above_is (t ∷ init) s root n e = go (child_at t (children_of root)) refl e (λ x is. above_is init s x n is)
-  where
-    go : (o : Option Node) → child_at t (children_of root) ≡ o → option_and_then (node_at (init ++ (s ∷ []))) o ≡ Some n →
-        ((x : Node) → node_at (init ++ (s ∷ [])) x ≡ Some n → (old : Node) × (node_at init x ≡ Some old) × (child_at s (children_of old) ≡ Some n)) →
-        (old : Node) × (node_at (t ∷ init) root ≡ Some old) × (child_at s (children_of old) ≡ Some n)
-    go None at e again = absurd (none-some _ e)
-    go (Some x) at e again = let a = again x e in (a.0, ap (option_and_then (node_at init)) at ∙ a.1, a.2)
+above_is (t ∷ init) s root n e = search (rules, none-some, above_is init s)
 
 -- ---- anchors that nobody names
 

@@ -1,19 +1,15 @@
 -- Where a flow collection is at a path, no block collection is there, which gets rows more.
 use Rattle.std.proofs.Common.{rules, ◌≡◌, ℕ, List, [], ◌∷◌, Option, Some, None, option_map, refl, sym, ap, ◌∙◌, subst}
-use Rattle.std.{proofs.lemmas.Option.{none-some, same_Some}, specs.Prelude.option_and_then}
-use Rattle.yq_core.{specs.Answers.◌>>=◌, specs.Paths.Step, specs.Tree.Node, specs.Collections.CollPieces}
+use Rattle.std.proofs.lemmas.Option.{none-some, same_Some}
+use Rattle.yq_core.{specs.Paths.Step, specs.Tree.Node, specs.Collections.CollPieces}
 use Rattle.yq_text.specs.Script.{Segment}
-use Rattle.yq_outline.{specs.Outline.Outline, specs.Places.{FoundLine, find}}
+use Rattle.yq_outline.{specs.Outline.Outline, specs.Places.FoundLine}
 use Rattle.yq_row_table.specs.Rows.{Cut, Part, cut_text}
 use Rattle.yq_documents.specs.Reading.{part_outline, read_at}
-use Rattle.yq_places.specs.FlowNodes.{bare_line, find_head, flow_collection, head_line}
-use Rattle.yq_edit_rules.{specs.EntryEdits.more_at, specs.FlowRows.FlowAt}
-use Rattle.yq_edit_rules.specs.Siblings.{HasEntries, IsCollectionAt, NodeLines, lines_below}
+use Rattle.yq_places.specs.FlowNodes.{bare_line, find_head, flow_collection}
+use Rattle.yq_edit_rules.{specs.EntryEdits.more_at, specs.FlowRows.FlowAt, specs.Siblings.{HasEntries, IsCollectionAt, NodeLines}}
 use Rattle.yq_edit_laws.proofs.MoreLaws.{more_place}
 use Rattle.yq_edit_laws.proofs.FlowStandings as standing
-
-abbrev Reached : Type 0
-Reached = FoundLine × List Step
 
 -- the first line of a block collection isn't a node itself
 none_bare : (o : Outline) → HasEntries o → bare_line o ≡ None
@@ -22,14 +18,7 @@ none_bare o h = search rules
 -- no head is that of a block collection
 none_headed : (steps : List Step) (o : Outline) (h : NodeLines) → IsCollectionAt steps o h → find_head steps o ≡ None
 none_headed [] o h at = ap (option_map (λ (f : FoundLine). (f, []))) (none_bare o (subst HasEntries (sym (ap (λ (z : NodeLines). z.lines) (same_Some _ _ at.place_is))) at.block))
-none_headed (s ∷ ss) o h at = go (find s ss o) at.place_is
-  where
-    below : (f : FoundLine) (left : List Step) (head : Option Node) → lines_below head left f ≡ Some h → f.line.head ≡ head → head_line f left ≡ None
-    below f left head e is = search (rules, none-some, none_bare, same_Some)
-
-    go : (r : Option Reached) → option_and_then (λ (x : Reached). lines_below x.0.line.head x.1 x.0) r ≡ Some h → (r >>= λ x. head_line x.0 x.1) ≡ None
-    go None e = refl
-    go (Some x) e = below x.0 x.1 x.0.line.head e refl
+none_headed (s ∷ ss) o h at = search (rules, none-some, none_bare, same_Some)
 
 -- so no rows more are put there
 pub no_rows_more : (c : Cut) (n : ℕ) (steps : List Step) (w : CollPieces) (key : Option (List ℕ)) (v : Node) → read_at (cut_text c) ≡ Some c → flow_collection n steps c ≡ Some w → more_at n steps c key v ≡ None

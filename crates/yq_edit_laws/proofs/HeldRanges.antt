@@ -45,9 +45,6 @@ pub record IsInLine (h : Held) : Type 0 where
   pub ends : is_one_line (h.white ++ h.comment) ≡ true
   pub broken : is_one_line ((h.white ++ h.comment) ++ line_break h) ≡ true
 
-in_line : (white comment b : List ℕ) → IsWhite white → (break : List ℕ) → IsComment comment break → is_one_line b ≡ true → is_one_line ((white ++ comment) ++ b) ≡ true
-in_line white comment b blank break as_comment h = ap is_one_line (append_assoc white comment b) ∙ white_before white (comment ++ b) blank (comment_before comment break b as_comment h)
-
 -- the break of its line
 break_there : (x : Bool) (b l : List ℕ) → is_one_line b ≡ true → is_one_line l ≡ true → is_one_line (cond (is_empty (cond x [] b)) (cond x b l) (cond x [] b)) ≡ true
 break_there x b l h k = search rules
@@ -66,5 +63,5 @@ held_in_line n s ss c e read at =
       ends = subst (λ (x : LineEnd). is_one_line (x.white ++ x.comment) ≡ true) (sym agrees)
           (white_before tail.white tail.comment tail.line.blank
           (ap is_one_line (sym (append-nil tail.comment)) ∙ comment_before tail.comment tail.line.break [] tail.line.as_comment nothing_line));
-      broken = search (rules, in_line, break_there);
+      broken = search (rules, is_one_line, append_assoc, white_before, comment_before, break_there);
     }

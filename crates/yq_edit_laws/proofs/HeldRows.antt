@@ -3,7 +3,7 @@ use Rattle.std.proofs.Common.{◌≡◌, inl, ℕ, ℤ, true, false, cond, ◌&&
 use Rattle.std.{proofs.Common.{ap, ◌∙◌, subst, arith, append_assoc, length-append, rules}, proofs.lemmas.Bool.{false≢true, and_parts}}
 use Rattle.yq_core.{specs.BlockWritten.break_text, specs.Characters.pairs_returns, specs.Paths.Step}
 use Rattle.yq_core.{specs.Text.{is_break, is_empty, is_line}, specs.Tree.{Node, anchor_of}, specs.Nodes.{node_text, IsFlowNode}}
-use Rattle.yq_outline.{specs.Comments.line_comment, specs.Outline.{IsOpen, Line, Outline, anchored, flatten, head_or, value}}
+use Rattle.yq_outline.{specs.Comments.line_comment, specs.Outline.{IsOpen, Line, Outline, anchored, flatten, value}}
 use Rattle.yq_outline.{specs.Places.content_under, specs.Lines.{content_anchor, head_of, lines_of_rows, row_lines}}
 use Rattle.yq_row_table.{specs.Exchange.asked_behind, specs.Gap.IsBreak, specs.Grammar.{IsContent, IsRow, IsTail, unlimited}}
 use Rattle.yq_row_table.{specs.Rows.{Content, Cut, Row, cut_text, parent_indent, rows_text}, specs.View.{Slices, content_cut, slices}}
@@ -105,12 +105,7 @@ module _ (n : ℕ) (s : Step) (ss : List Step) (c : Cut) (e : RowsOfEntry) (ther
       open_row o l u after h = search rules
 
       go : (u : Outline) → there.found.under ≡ u → anchor_of (content_under there.found.line there.found.under) ≡ content_anchor e.row.content
-      go outline.end is = (λ i. anchor_of (content_under (sym line_there i) (is i))) ∙ content_named (parent_indent e.row) e.row.content _ row.content
-      go (outline.row l u after) is =
-          let none : there.found.line.head ≡ None = open_row there.found.line.head l u after (subst (IsOpen there.found.line.head) is open') in
-          let entries : HasEntries (outline.row l u after) = search (rules, false≢true, beside, lines_there ∙ ap flatten is) in
-          (λ i. anchor_of (anchored there.found.line.anchor (head_or (none i) (value (is i)))))
-          ∙ (value_unnamed (outline.row l u after) entries there.found.line.anchor ∙ ap (λ (k : Line). k.anchor) (sym line_there))
+      go u is = search (rules, line_there, content_named, row, open_row, open', false≢true, lines_there, value_unnamed)
 
   module _ (read : read_at (cut_text c) ≡ Some c) (at : rows_of_entry n (s ∷ ss) c ≡ Some e) where
     pairs : pairs_returns ((slices e.row).tail ++ ((slices e.row).raw ++ rows_text e.under (behind_entry e))) ≡ true

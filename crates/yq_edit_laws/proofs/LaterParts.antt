@@ -65,11 +65,9 @@ later_item k s r m (item key n sep is) rest y z here there less =
 pub node_put : (s r : Step) (m node : FlowNode) (rest : List ℕ) (w : CollPieces) (y z : EntryPieces) → coll_in node rest ≡ Some w →
     item_at w.close s w.items w.rest ≡ Some y → path_inside r node rest ≡ Some z → length z.rest < length y.rest →
     path_inside r (put_coll w.gap (put_item s m w.items) node) rest ≡ Some z
-node_put s r m empty rest w y z e here there less = absurd (none-some _ e)
-node_put s r m (alias n) rest w y z e here there less = absurd (none-some _ e)
-node_put s r m (scalar p) rest w y z e here there less = absurd (none-some _ e)
 node_put s r m (coll k gap is) rest w y z e here there less = search (rules, same_Some _ _ e, later_item)
 node_put s r m (anchored n gap node) rest w y z e here there less = node_put s r m node rest w y z e here there less
+node_put s r m _ rest w y z e here there less = absurd (none-some _ e)
 
 -- ---- in nested ones
 

@@ -2,7 +2,7 @@
 use Rattle.std.proofs.Common.{◌≡◌, ◌⊎◌, ⊎_elim, ℕ, Bool, true, false, ◌&&◌, ◌||◌, not, cond, eqb, List, [], ◌∷◌, ◌++◌, drop, Some, None}
 use Rattle.std.proofs.Common.{refl, sym, ap, ◌∙◌, subst, append_assoc, append-nil, rules}
 use Rattle.std.proofs.lemmas.Bool.{false≢true, eqb-true, and_parts, cases_Bool, not-true}
-use Rattle.yq_core.{specs.Block.is_tail, specs.Lines.{is_blank, is_hash}}
+use Rattle.yq_core.{specs.Block.is_tail, specs.Lines.is_hash}
 use Rattle.yq_core.specs.Text.{front, is_white, is_line, is_empty, ends_line, no_white, past_white}
 use Rattle.yq_outline.specs.Comments.{line_comment as comment_in}
 use Rattle.yq_row_table.{specs.Gap.{IsWhite, IsBreak, IsComment}, specs.Grammar.{IsTail, IsContent}}
@@ -105,16 +105,7 @@ module _ (text tail more : List ℕ) (h : IsTail tail more) (no_breaks : Rattle.
       let parts = behind_comment (new_comment text) h.line.break [] as_comment (alone h.line.ends) in
       let no_front : no_white (new_comment text ++ h.line.break) ≡ true = ap (λ x. no_white (new_comment text ++ x)) (sym (append-nil h.line.break)) ∙ parts.0 in
       let past : past_white tail_then ≡ new_comment text ++ h.line.break = ap (λ (x : List ℕ × List ℕ). x.1) (white_again (new_white text h.white h.comment) (new_comment text ++ h.line.break) blank no_front) in
-      let ends : ends_line (new_comment text ++ h.line.break) ≡ is_empty (new_comment text) = ap (λ x. ends_line (new_comment text ++ x)) (sym (append-nil h.line.break)) ∙ parts.2 in
-      ⊎_elim {0, 0, 0}
-      (λ (e : is_empty (new_comment text) ≡ true). let k : is_blank tail_then ≡ true = ap ends_line past ∙ (ends ∙ e) in rw (new_line, k) refl)
-      (λ (e : is_empty (new_comment text) ≡ false).
-      let some : is_empty (new_white text h.white h.comment) ≡ false = not-true (is_empty (new_white text h.white h.comment)) (ap (λ x. x || not (is_empty (new_white text h.white h.comment))) (sym e) ∙ apart) in
-      let k : (front is_white tail_then && is_hash (past_white tail_then)) ≡ true =
-      rw (white_front (new_white text h.white h.comment) (new_comment text ++ h.line.break) blank some)
-      (ap is_hash past ∙ hash_front (new_comment text) as_comment e) in
-      rw (new_line, k) (Rattle.std.proofs.lemmas.Bool.or_right (is_blank tail_then) true refl))
-      (cases_Bool (is_empty (new_comment text)))
+      search (rules, append-nil, ⊎_elim, not-true, apart, white_front, blank, hash_front, as_comment, cases_Bool)
 
 -- a content with that end of its line
 pub line_tail_is : (n : Rattle.std.proofs.Common.ℤ) (text : List ℕ) (c : Content) (rest : List ℕ)

@@ -3,8 +3,8 @@ use Rattle.std.proofs.Common.{◌≡◌, ◌⊎◌, inl, inr, ℕ, zero, suc, �
 use Rattle.std.proofs.Common.{Bool, true, false, refl, sym, ap, ◌∙◌, subst, arith, append-nil, eqb-true, rules}
 use Rattle.std.{proofs.lemmas.Bool.{false≢true, and_parts, cases_Bool}, proofs.lemmas.List.Folds.list_all-append}
 use Rattle.std.{specs.List.{list_all, list_any}, specs.Str.{IsUtf8, chars}}
-use Rattle.yq_core.specs.Block.{BlockText, RawLines, AreRaw, IsDetected, IsDigit, IsRawLine, IsTextIndent, ends_block}
-use Rattle.yq_core.specs.BlockContent.{block_content, optional_break, folded, literal, text_of_line, part_of}
+use Rattle.yq_core.specs.Block.{BlockText, RawLines, AreRaw, IsDetected, IsDigit, IsTextIndent, ends_block}
+use Rattle.yq_core.specs.BlockContent.{block_content, optional_break, folded, literal, text_of_line}
 use Rattle.yq_core.{specs.BlockWritten.{break_text, header_text, indented_text, raw_written, written_line}, specs.Characters.is_text_char}
 use Rattle.yq_core.{specs.Scalar.ScalarText, specs.Text.{ends_line, is_feed, is_line, joined, text_lines, upto}}
 use Rattle.yq_core.specs.Writable.{can_write, is_literal_char, is_literal_text, is_string}
@@ -24,9 +24,6 @@ no_part : (t : List ℕ) → ends_line t ≡ true → text_of_line t ≡ []
 unfolding upto
 no_part t h = search rules
 
-part_none : (f : TextIndent) (l : List ℕ) → f.known ≡ false → IsRawLine f l → part_of f l ≡ []
-part_none f l known raw = search (rules, no_part, and_parts, false≢true)
-
 feeds : (k : ℕ) → list_all is_feed (replicate k 10) ≡ true
 feeds zero = refl
 feeds (suc k) = feeds k
@@ -37,12 +34,12 @@ broken_feeds b = search rules
 literal_feeds : (strip : Bool) (f : TextIndent) (ls : RawLines) → f.known ≡ false → AreRaw f ls → list_all is_feed (literal strip f ls) ≡ true
 unfolding literal
 literal_feeds strip f [] known raw = refl
-literal_feeds strip f (l ∷ ls) known raw = search (rules, part_none, list_all-append, broken_feeds, literal_feeds strip f ls known raw.1)
+literal_feeds strip f (l ∷ ls) known raw = search (rules, no_part, and_parts, false≢true, list_all-append, broken_feeds, literal_feeds strip f ls known raw.1)
 
 folded_feeds : (c : Chomping) (f : TextIndent) (b : LineBefore) (k : ℕ) (ls : RawLines) → f.known ≡ false → AreRaw f ls → list_all is_feed (folded c f b k ls) ≡ true
 unfolding folded
 folded_feeds c f b k [] known raw = search (rules, feeds)
-folded_feeds c f b k (l ∷ ls) known raw = search (rules, part_none, folded_feeds c f b (k + 1) ls known raw.1)
+folded_feeds c f b k (l ∷ ls) known raw = search (rules, no_part, and_parts, false≢true, folded_feeds c f b (k + 1) ls known raw.1)
 
 no_others : (t : List ℕ) → list_all is_feed t ≡ true → list_any (λ b. not (is_feed b)) t ≡ false
 no_others [] h = refl

@@ -9,10 +9,9 @@ use Rattle.yq_outline.specs.Lines.{lines_of_rows, mark_line, line_mark}
 use Rattle.yq_row_table.specs.Exchange.{allows_first, asked_behind, row_front, with_content}
 use Rattle.yq_row_table.specs.Grammar.{Limit, unlimited, AreRows, IsContent, IsMark, IsRow, limit_after, may_be_alone, no_rows}
 use Rattle.yq_row_table.specs.Rows.{Bare, Content, Row, behind_gap, content_text, dashes_text, mark_column, mark_text, parent_indent}
-use Rattle.yq_row_table.{specs.Rows.{print_row, rows_text, Part, part_text, Cut, cut_text}, specs.View.content_cut}
-use Rattle.yq_row_table.{proofs.NothingLaws.gap_other, proofs.PlaceLaws.row_front-append, proofs.seams.FrontSeams.behind_row_some}
-use Rattle.yq_row_table.{proofs.seams.SeamLaws.rows_text-append, proofs.splices.PartPlaces.part_ends}
-use Rattle.yq_row_table.proofs.splices.SpliceTexts.{own_gap, own_end}
+use Rattle.yq_row_table.{specs.Rows.{rows_text, Part, part_text, Cut, cut_text}, specs.View.content_cut, proofs.NothingLaws.gap_other}
+use Rattle.yq_row_table.{proofs.PlaceLaws.row_front-append, proofs.seams.FrontSeams.behind_row_some, proofs.seams.SeamLaws.rows_text-append}
+use Rattle.yq_row_table.{proofs.splices.PartPlaces.part_ends, proofs.splices.SpliceTexts.{own_gap, own_end}}
 use Rattle.yq_documents.{specs.Documents.{document_parts, lead_of}, specs.Reading.{part_outline, read_at, root_of}}
 use Rattle.yq_documents.{specs.Ready.begins_no_node, specs.TreeEdits.replaced_node, proofs.PartRows.each, proofs.ReadLaws.text_takes}
 use Rattle.yq_documents.specs.PartNumbers.{part_number}
@@ -88,16 +87,7 @@ module _ (c : Cut) (n : ℕ) (p : Part) (old : IsDocumentPart (cut_text c) c n p
 
   pub text : (start : List ℕ) → ((x : Part) → cut_text (put_document n x c) ≡ start ++ part_text x (behind_document n c)) →
       cut_text (put_document n q c) ≡ ((start ++ rows_text front []) ++ (row_front r ++ before_head r.content)) ++ node_text node ((content_cut r.content).4 ++ rest)
-  text start put =
-      let b : List ℕ = start ++ rows_text front [] in
-      let t : List ℕ = content_text new rest in
-      let parts : start ++ (rows_text front [] ++ (row_front r ++ t)) ≡ ((start ++ rows_text front []) ++ row_front r) ++ t = simp append_assoc refl in
-      put q
-      ∙ ((λ i. start ++ rows_text (there i) (same_end i ++ behind_document n c))
-      ∙ (ap (λ x. start ++ x)
-      (rows_text-append front (with_content new r ∷ back) (p.end ++ behind_document n c)
-      ∙ (rows_then front (print_row (with_content new r) rest) ∙ ap (λ x. rows_text front [] ++ x) (row_front-append (with_content new r) rest)))
-      ∙ (parts ∙ (head.text (b ++ row_front r) node rest ∙ ap (λ x. x ++ node_text node ((content_cut r.content).4 ++ rest)) (append_assoc b (row_front r) (before_head r.content))))))
+  text start put = search (rules, append_assoc, there, same_end, rows_text-append, rows_then, row_front-append, head, before_head)
 
   -- ---- the document
 

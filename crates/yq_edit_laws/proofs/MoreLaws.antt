@@ -12,9 +12,9 @@ use Rattle.yq_semantics.specs.Operations.{append}
 use Rattle.yq_text.specs.Script.{Segment}
 use Rattle.yq_places.{specs.CollectionEnds.{CollectionEnd, is_broken}, specs.CommentPlaces.text_to_line_end}
 use Rattle.yq_places.{specs.RowPieces.{past_dash, upto_dash}, specs.PlacedRows.{PlacedPart, placed_document}, specs.PrintedLines.last_break}
-use Rattle.yq_places.specs.Standings.{Held, LinesIn, RowsOfEntry, alone, beside, root, under, before_entry, behind_entry, behind_mark}
-use Rattle.yq_places.specs.Standings.{below, compact_in, compact_lines, dash_text, entry_standing, held, is_alone, Standing, lone}
-use Rattle.yq_places.{specs.Standings.{rows_of_entry, root_lines, root_standing, standing_at}, proofs.CommentEndLaws.row_text_parts}
+use Rattle.yq_places.specs.Standings.{Held, LinesIn, RowsOfEntry, alone, root, under, before_entry, behind_entry, behind_mark, below}
+use Rattle.yq_places.specs.Standings.{compact_in, compact_lines, dash_text, entry_standing, held, is_alone, Standing, lone, rows_of_entry}
+use Rattle.yq_places.{specs.Standings.{root_lines, root_standing, standing_at}, proofs.CommentEndLaws.row_text_parts}
 use Rattle.yq_places.{proofs.DashLaws.{line_within, row_cut}, proofs.PrintedTexts.{less_is, map_some}}
 use Rattle.yq_edit_rules.{specs.CollectionPlaces.IsCollectionEnd, specs.DocumentRows.{IsDocumentPart, behind_document}}
 use Rattle.yq_edit_rules.{specs.PlacedParts.StandsAt, specs.StandingLaws.StandsThere, proofs.EndedRowLaws.row_there}
@@ -146,11 +146,7 @@ module _ (n : ℕ) (s : Step) (ss : List Step) (key : Option (List ℕ)) (v : No
 
       mark_by : (x : Content) → e.row.content ≡ x → e.line ≡ length e.row.dashes → block_more (layout_of n c) key v (behind_mark e x) ≡ Some us → IsMore n (s ∷ ss) key v c us
       mark_by (Nothing tail) at last h = under_by e.under refl last (ap (λ (y : Content). is_empty (content_cut y).3) at) h
-      mark_by (Inline space node tail) at last h = by (is_empty (slices e.row).head) refl h
-        where
-          by : (b : Bool) → is_empty (slices e.row).head ≡ b → block_more (layout_of n c) key v (cond b (below e e.under) (beside (held e))) ≡ Some us → IsMore n (s ∷ ss) key v c us
-          by true a h = under_by e.under refl last a h
-          by false a h = absurd (none-some _ h)
+      mark_by (Inline space node tail) at last h = search (rules, under_by, none-some)
       mark_by (Block space anchor b) at last h = absurd (none-some _ h)
 
       go : (b : Bool) → eqb e.line (length e.row.dashes) ≡ b → block_more (layout_of n c) key v (cond b (behind_mark e e.row.content) (compact_in e)) ≡ Some us → IsMore n (s ∷ ss) key v c us

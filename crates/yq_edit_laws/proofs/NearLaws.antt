@@ -7,23 +7,22 @@ use Rattle.yq_core.{specs.Written.double, specs.declared.style.Place.TheVariants
 use Rattle.yq_core.{specs.declared.style.Style.TheVariants.Literal, proofs.Bools.bind_some, specs.Collections.CollPieces}
 use Rattle.yq_core.specs.NodesWritten.{flow_key, flow_of}
 use Rattle.yq_text.{specs.Limit.text_limit, specs.Script.{Segment, from_first, keep, new_text}}
-use Rattle.yq_row_table.specs.Rows.{Content, Cut, Row, cut_text}
+use Rattle.yq_row_table.specs.Rows.{Cut, Row, cut_text}
 use Rattle.yq_documents.specs.Reading.{documents, read_at}
 use Rattle.yq_flow_edits.{specs.FlowEdits.{FlowEdit, appending}, specs.Removals.removing, proofs.RemoveTexts.either}
 use Rattle.yq_places.{specs.FirstPlaces.first_removal, specs.FlowNodes.flow_collection, specs.NodesAt.node_in}
 use Rattle.yq_places.{specs.PlacedRows.{PlacedPart, placed_document}, specs.RemovalPlaces.{has_others_at, removal_place}}
-use Rattle.yq_places.specs.Standings.{Held, LinesIn, RowsOfEntry, Standing, alone, behind_mark, below, beside, block, compact}
-use Rattle.yq_places.specs.Standings.{entry_standing, flow_standing, held, last_step, no_rows, rows_of_entry, root, root_standing}
-use Rattle.yq_places.{specs.Standings.{standing_at, under}, proofs.PrintedTexts.map_some}
+use Rattle.yq_places.specs.Standings.{Held, RowsOfEntry, Standing, alone, below, beside, block, compact, entry_standing, flow_standing}
+use Rattle.yq_places.specs.Standings.{held, last_step, no_rows, rows_of_entry, root, root_standing, standing_at, under}
+use Rattle.yq_places.proofs.PrintedTexts.{map_some}
 use Rattle.yq_semantics.{specs.Fits.Fits, specs.Operations.{replace, append, remove, line_comment, head_comment}, specs.Rooms.room_of}
 use Rattle.yq_edit_rules.{specs.declared.layout.Layout.Layout, specs.CommentEdits.{comment_put, head_comment_put, line_comment_put}}
 use Rattle.yq_edit_rules.specs.Edits.{part_removed, replace_segments, rows_or_sole, sole_removed}
 use Rattle.yq_edit_rules.specs.EntryEdits.{block_more, one_removed}
 use Rattle.yq_edit_rules.{specs.FlowParts.{flow_more, flow_put, flow_removed, flow_segments, takes_key}, specs.Layouts.layout_of}
 use Rattle.yq_edit_rules.specs.Removing.{first_removed, rows_removed}
-use Rattle.yq_edit_rules.specs.ReplaceEdits.{block_put, compact_put, has_text, held_put, literal_put, block_scalar_put, string_put}
-use Rattle.yq_edit_rules.{specs.ReplaceEdits.value_put, specs.Replacing.keeps_scalar}
-use Rattle.yq_edit_rules.specs.WrittenValues.{Written, compact_text, inline, lines}
+use Rattle.yq_edit_rules.specs.ReplaceEdits.{block_put, has_text, held_put, literal_put, block_scalar_put, string_put, value_put}
+use Rattle.yq_edit_rules.{specs.Replacing.keeps_scalar, specs.WrittenValues.{Written, compact_text, inline, lines}}
 use Rattle.yq_edit_laws.specs.TouchedRanges.{AreInLines, EditsAreNear, IsLocalEdit}
 use Rattle.yq_edit_laws.{proofs.HeldRanges.{IsInLine, held_in_line, nothing_line}, proofs.RemovingLaws.rows_near}
 
@@ -53,11 +52,6 @@ block_near br h (lines t) k = (nothing_line, (nothing_line, (k.broken, (nothing_
 scalar_near : (text : Bool) (br : List ℕ) (h : Held) (indent : ℕ) (w : Written) (s : Option ScalarText) → IsInLine h → InLines (block_scalar_put text br h indent w s)
 scalar_near text br h indent w s k = search (rules, block_near, string_near)
 
-dash_near : (br : List ℕ) (p : LinesIn) (w : Written) → InLines (compact_put br p w)
-dash_near br p (inline t) = (nothing_line, tt)
-dash_near br p (compact_text t) = (nothing_line, tt)
-dash_near br p (lines t) = (nothing_line, tt)
-
 -- what is somewhere, if it is after a key or dash, has its line
 abbrev StandsInLine : Standing → Type 0
 StandsInLine (alone w) = ⊤
@@ -69,16 +63,13 @@ StandsInLine (root column w) = ⊤
 StandsInLine (no_rows w) = ⊤
 
 value_near : (text : Bool) (l : Layout) (v : Node) (t : Standing) → StandsInLine t → InLines (value_put text l v t)
-value_near text l v t k = search (rules, nothing_line, held_near, dash_near, scalar_near)
+value_near text l v t k = search (rules, nothing_line, held_near, scalar_near)
 
 below_in_line : (e : RowsOfEntry) → IsInLine (held e) → (rs : List Row) → StandsInLine (below e rs)
 below_in_line e k rs = search rules
 
-mark_in_line : (e : RowsOfEntry) → IsInLine (held e) → (x : Content) → StandsInLine (behind_mark e x)
-mark_in_line e k x = search (rules, below_in_line)
-
 entry_in_line : (e : RowsOfEntry) → IsInLine (held e) → StandsInLine (entry_standing e)
-entry_in_line e k = search (rules, mark_in_line)
+entry_in_line e k = search (rules, below_in_line)
 
 root_in_line : (d : PlacedPart) (rs : List Row) → StandsInLine (root_standing d rs)
 root_in_line d rs = search rules
@@ -105,14 +96,11 @@ flow_more_near t key v w ss = go (appending (flow_key key) (flow_of v) w) (takes
 more_near : (l : Layout) (key : Option (List ℕ)) (v : Node) (t : Standing) (ss : List Segment) → block_more l key v t ≡ Some ss → InLines ss
 more_near l key v t ss is = search (rules, none-some, same_Some, nothing_line)
 
-comment_near : (text : List ℕ) (h : Held) → InLines (comment_put text h)
-comment_near text h = search (rules, nothing_line)
-
 line_near : (text : List ℕ) (e : RowsOfEntry) (ss : List Segment) → line_comment_put text e ≡ Some ss → InLines ss
 line_near text e ss = go (eqb e.line (length e.row.dashes))
   where
     go : (b : Bool) → cond b (Some (comment_put text (held e))) None ≡ Some ss → InLines ss
-    go true is = subst InLines (same_Some _ _ is) (comment_near text (held e))
+    go true is = subst InLines (same_Some _ _ is) (search (rules, nothing_line))
     go false is = absurd (none-some _ is)
 
 head_near : (br text : List ℕ) (e : RowsOfEntry) (ss : List Segment) → head_comment_put br text e ≡ Some ss → InLines ss

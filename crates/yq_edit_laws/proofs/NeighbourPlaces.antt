@@ -1,6 +1,6 @@
 -- Where an item or entry of a flow collection is that is taken out, by the places of it and of those next to it; and where one more comes.
-use Rattle.std.proofs.Common.{◌≡◌, ℕ, ◌-◌, Bool, true, false, cond, List, length, Option, Some, None, option_map, refl, sym, ap, ◌∙◌, subst}
-use Rattle.std.{specs.Option.option_or, specs.Prelude.is_some}
+use Rattle.std.proofs.Common.{rules, ◌≡◌, ℕ, ◌-◌, Bool, true, false, cond, List, length, Option, Some, None, option_map, refl, sym, ap, ◌∙◌}
+use Rattle.std.{proofs.Common.subst, specs.Option.option_or, specs.Prelude.is_some}
 use Rattle.yq_core.{specs.Answers.◌>>=◌, specs.Collections.{CollAt, CollPieces, IsCollAt}, specs.Entries.entry_start}
 use Rattle.yq_core.specs.Nodes.{FlowNode, Items, Key, Sep, coll, flow_items_text, item, key_text, node_text, none, sep_text}
 use Rattle.yq_core.{specs.Paths.{Step, further, is_here}, specs.Places.{Parts, key_placed, locate, locate_items}, specs.Tree.key_label}
@@ -59,16 +59,7 @@ module _ (t : List ℕ) (k : ℕ) where
       option_or (last_gone s e (locate_items total k is rest)) (remove_part t s (locate_items total k is rest)) ≡ (around_part k s (Some e) is rest >>= gone)
   unfolding locate_items
   after_one s e none rest = refl
-  after_one s e (item key n sep none) rest =
-      let a : PartTexts = first_ends k key n sep none rest in
-      let o : Option ℕ → Option PlacedEdit = option_map (remove_end t (total - length e.0) (total - length e.1)) in
-      (λ i. option_or (o (cond (is_here s (key_label (key_tree total a.0 key i))) (Some (end_placed total n a.1 i)) None)) (at_first s key n sep none rest i))
-      ∙ go (is_here s (key_label (key_content key)))
-    where
-      go : (b : Bool) → option_or (option_map (remove_end t (total - length e.0) (total - length e.1)) (cond b (Some (total - length (first_ends k key n sep none rest).1)) None)) (cond b None None)
-          ≡ (cond b (Some (record { before = Some e; here = first_ends k key n sep none rest; next = None })) None >>= gone)
-      go true = refl
-      go false = refl
+  after_one s e (item key n sep none) rest = search (rules, key_tree, end_placed, at_first)
   after_one s e (item key n sep (item key2 n2 sep2 is)) rest =
       at_first s key n sep (item key2 n2 sep2 is) rest
       ∙ go (is_here s (key_label (key_content key))) (after_one (further s) (first_ends k key n sep (item key2 n2 sep2 is) rest) (item key2 n2 sep2 is) rest) where
@@ -123,11 +114,4 @@ some_ends k e (item key n sep is) rest = some_ends k (first_ends k key n sep is 
 
 -- the place where one more comes after the end of a collection
 pub end_is_there : (total : ℕ) (key : Key) (m : FlowNode) (w : CollPieces) → end_place (placed_end total w).1 (placed_end total w).2 ≡ place_edit total (appending key m w)
-end_is_there total key m w = go w.items
-  where
-    go : (is : Items) → end_place (is_some (last_ends w.close None is w.rest))
-        (total - length (past_last w (last_ends w.close None is w.rest))) ≡ place_edit total
-        (appending key m (record { close = w.close; gap = w.gap; items = is; rest = w.rest }))
-    go none = refl
-    go (item j n sep is) =
-        (λ i. end_place (some_ends w.close (first_ends w.close j n sep is w.rest) is w.rest i) (total - length (behind_part w.close w.gap j n sep is w.rest w i)))
+end_is_there total key m w = search (rules, some_ends, behind_part)

@@ -84,6 +84,7 @@ module _ (doc : ℕ) (s : Step) (ss : List Step) (c : Cut) (h : NodeRows doc s s
   pub near : allows_first (record { column = Some (suc (mark_column h.mark)) }) h.back ≡ true
   unfolding level
   near =
+      let begins : (ls : List Line) → StartsAt (level h.found.line) ls → Begins (level h.found.line) ls = λ ls s. search rules in
       let starts : Begins (level h.found.line) (lines_of_rows h.back) = subst (Begins (level h.found.line)) (sym parts.2) (begins _ (found_starts (lines_of_rows h.p.rows) s ss [] h.found h.is fine)) in
       next_by (level h.found.line) (suc (mark_column h.mark)) h.back starts (omega (arith, ap level line_is, rank_high (line_mark h.mark.mark)))
     where
@@ -91,9 +92,6 @@ module _ (doc : ℕ) (s : Step) (ss : List Step) (c : Cut) (h : NodeRows doc s s
       rank_high outline.Bare = omega arith
       rank_high (outline.Key j) = omega arith
       rank_high outline.Dash = omega arith
-
-      begins : (ls : List Line) → StartsAt (level h.found.line) ls → Begins (level h.found.line) ls
-      begins ls s = search rules
 
   pub rows_there : AreRows (asked_behind unlimited h.front) (h.row ∷ (h.under ++ h.back)) h.p.end (behind_document doc c)
   rows_there = own_rows (cut_text c) c doc h.p h.front h.row (h.under ++ h.back) h.old h.rows_are

@@ -1,8 +1,9 @@
 -- Segments that put one text in the place of another: a value on one line, a line comment or a head comment.
-use Rattle.std.proofs.Common.{◌≡◌, ℕ, ◌+◌, Bool, true, false, cond, List, [], ◌∷◌, ◌++◌, length, refl, sym, ap, ◌∙◌, arith, append-nil}
-use Rattle.std.{proofs.Common.{append_assoc, length-append}, specs.Prelude.⊤}
+use Rattle.std.proofs.Common.{rules, ◌≡◌, ℕ, ◌+◌, Bool, true, false, cond, List, [], ◌∷◌, ◌++◌, length, refl, sym, ap, ◌∙◌, arith}
+use Rattle.std.{proofs.Common.{append-nil, append_assoc, length-append}, specs.Prelude.⊤}
 use Rattle.yq_core.{specs.Text.is_empty, specs.Tree.Node, specs.declared.style.Place.TheVariants.Block as InBlock}
 use Rattle.yq_places.specs.Standings.{Held}
+use Rattle.yq_text.proofs.BetweenLaws.{behind_nothing}
 use Rattle.yq_text.{specs.Script.{Segment, changes, keep, keep_before, merged, put, put_before, splice_at, splices_at}, specs.Splice.Splice}
 use Rattle.yq_text.proofs.TouchLaws.{put_twice}
 use Rattle.yq_edit_rules.{specs.CommentEdits.comment_written, specs.EntryEdits.behind_held, specs.ReplaceEdits.spaced_text}
@@ -25,15 +26,10 @@ after_keep n (b ∷ t) (put o w ∷ ss) = refl
 first_keep : (t : List ℕ) (ss : List Segment) → splices_at 0 (keep_before t ss) ≡ splices_at (length t) ss
 first_keep t ss = let same : 0 + length t ≡ length t = omega arith in after_keep 0 t ss ∙ ap (λ (m : ℕ). splices_at m ss) same
 
-put_nothing : (n : ℕ) (ss : List Segment) → splices_at n (put_before [] [] ss) ≡ splices_at n ss
-put_nothing n [] = refl
-put_nothing n (keep t ∷ ss) = let same : n + 0 ≡ n = omega arith in ap (λ (m : ℕ). splices_at m (keep t ∷ ss)) same
-put_nothing n (put o w ∷ ss) = refl
-
 quiet_splices : (n : ℕ) (ss : List Segment) → AreQuiet ss → splices_at n (merged ss) ≡ []
 quiet_splices n [] h = refl
 quiet_splices n (keep t ∷ ss) h = after_keep n t (merged ss) ∙ quiet_splices (n + length t) ss h
-quiet_splices n (put o w ∷ ss) h = (λ i. splices_at n (put_before (h.0 i) (h.1 i) (merged ss))) ∙ (put_nothing n (merged ss) ∙ quiet_splices n ss h.2)
+quiet_splices n (put o w ∷ ss) h = (λ i. splices_at n (put_before (h.0 i) (h.1 i) (merged ss))) ∙ (behind_nothing n (merged ss) ∙ quiet_splices n ss h.2)
 
 put_keep : (o w : List ℕ) (b : ℕ) (t : List ℕ) (ss : List Segment) → put_before o w (keep_before (b ∷ t) ss) ≡ put o w ∷ keep_before (b ∷ t) ss
 put_keep o w b t [] = refl
@@ -162,8 +158,4 @@ comment_puts text h = by_white h text (takes_white text h)
 
 pub piece_puts : PiecePutsOne
 unfolding changes
-piece_puts w t = record {
-  old_is = ap (λ (u : List ℕ). w.before ++ (w.text ++ u)) (append-nil w.behind);
-  new_is = ap (λ (u : List ℕ). w.before ++ (t ++ u)) (append-nil w.behind);
-  changes_are = first_keep w.before (merged (put w.text t ∷ (keep w.behind ∷ []))) ∙ put_quiet (length w.before) w.text t (keep w.behind ∷ []) tt;
-}
+piece_puts w t = search (rules, append-nil, first_keep, put_quiet)

@@ -1,18 +1,11 @@
 -- Operations of a plan, the first of them apart.
-use Rattle.std.proofs.Common.{rules, ◌≡◌, ℕ, ◌-◌, ◌≤◌, List, [], ◌∷◌, ◌++◌, length, take, drop, slice_index_or, refl, sym, ap, subst}
-use Rattle.std.proofs.Common.{take_all, append-nil, arith}
+use Rattle.std.proofs.Common.{rules, ◌≡◌, ℕ, ◌-◌, ◌≤◌, List, [], ◌∷◌, ◌++◌, length, take, drop, slice_index_or, sym, ap, subst, take_all}
+use Rattle.std.proofs.Common.{append-nil, arith}
 use Rattle.yq_semantics.{specs.Operations.{operation_of, operations_of}, specs.declared.op.Op.Op, specs.Judgement.ExprError}
 use Rattle.yq_text.specs.Splice.{Splice}
-use Rattle.yq_edit_laws.{specs.Answers.EditFails, specs.Carried.{carried, carry_all}}
-use Rattle.yq_edit_laws.{specs.Edit.{Edit, unreadable, refuses, gives, edit_after, edit_then}, specs.Theorems.{IsApplied, IsFitting}}
-use Rattle.yq_edit_laws.{specs.Valid.AreServed, proofs.OrderLaws.{behind_both, fails_behind, fails_on}}
-use Rattle.yq_edit_laws.proofs.ServeLaws.{fits, others_serve}
-
--- an edit, and then nothing more
-then_nothing : (e : Edit) → edit_then (carry_all []) e ≡ e
-then_nothing unreadable = refl
-then_nothing (refuses why) = refl
-then_nothing (gives t cs) = ap (gives t) (append-nil cs)
+use Rattle.yq_edit_laws.{specs.Answers.EditFails, specs.Carried.{carried, carry_all}, specs.Edit.{gives, edit_after}}
+use Rattle.yq_edit_laws.{specs.Theorems.{IsApplied, IsFitting}, specs.Valid.AreServed}
+use Rattle.yq_edit_laws.{proofs.OrderLaws.{behind_both, fails_behind, fails_on}, proofs.ServeLaws.{fits, others_serve}}
 
 abbrev later : List Op → List Op
 later os = take (length os - 1) (drop 1 os)
@@ -23,7 +16,7 @@ first_apart (x ∷ os) op some at = (λ i. sym at i ∷ sym (take_all (length (x
 
 -- one that is the last one
 pub last_comes : (os : List Op) (op : Op) (t : List ℕ) → 1 ≤ length os → op ≡ slice_index_or os 0 op → length (later os) ≡ 0 → carried (operation_of op) t ≡ carry_all (operations_of os) t
-last_comes os op t some at h5 = search (rules, arith, first_apart, then_nothing)
+last_comes os op t some at h5 = search (rules, arith, first_apart)
 
 -- one that others follow
 pub others_come : (os : List Op) (op : Op) (t m : List ℕ) (bs cs all : List Splice) → 1 ≤ length os → op ≡ slice_index_or os 0 op → carried (operation_of op) t ≡ gives m cs → all ≡ bs ++ cs →

@@ -1,6 +1,6 @@
 -- What putting a value at an item or entry of a flow collection comes to, where that is read alone.
-use Rattle.std.proofs.Common.{◌≡◌, ℕ, ◌≤◌, true, List, [], ◌++◌, length, take, drop, Option, Some, None, option_map, refl, sym, ap, ◌∙◌}
-use Rattle.std.proofs.Common.{subst, arith, length-append}
+use Rattle.std.proofs.Common.{rules, ◌≡◌, ℕ, true, List, [], ◌++◌, length, take, drop, Option, Some, None, option_map, sym, ap, ◌∙◌}
+use Rattle.std.proofs.Common.{length-append}
 use Rattle.yq_core.{specs.Answers.◌>>=◌, specs.Paths.Step, specs.declared.style.Place.TheVariants.Flow as InFlow}
 use Rattle.yq_core.{specs.Collections.CollPieces, specs.Entries.EntryPieces, specs.Nodes.{FlowNode, node_text, without_anchor}}
 use Rattle.yq_core.{specs.Trees.placed_tree, specs.View.inline_view, proofs.Bools.bind_some, proofs.NodesWrittenLaws.node_then}
@@ -12,13 +12,12 @@ use Rattle.yq_documents.specs.Reading.{cut_of, read_at}
 use Rattle.yq_places.{specs.FlowNodes.flow_collection, specs.NodesAt.node_in}
 use Rattle.yq_places.specs.Standings.{FlowPart, flow_part, flow_standing, last_step}
 use Rattle.yq_inline.specs.declared.along.NodeAlong.{NodeAlong}
-use Rattle.yq_lookup.specs.PartNodes.{IsPartNode, PartAgrees, part_at, coll_part}
+use Rattle.yq_lookup.specs.PartNodes.{IsPartNode, PartAgrees, part_at}
 use Rattle.yq_edit_rules.{specs.Replacing.keeps_scalar, specs.WrittenValues.value_text}
-use Rattle.yq_edit_laws.{specs.EditPlaces.moved_on, specs.PartPuts.{ArePuts, IsPlaceOf, PutsInNode, place_after, put_edit}}
-use Rattle.yq_edit_laws.{specs.declared.put.PartPut.PartPut, proofs.CutLaws.text_read, proofs.FlowAnswers.bounds_lie}
-use Rattle.yq_edit_laws.{proofs.FlowLonger.{edit_more, place_moved}, proofs.FlowPartNodes.part_node}
-use Rattle.yq_edit_laws.{proofs.FlowPutLaws.{bounds, e, m, there}, proofs.FlowStandings.EntryAt, proofs.FlowWholeLaws.content_split}
-use Rattle.yq_edit_laws.proofs.PutAnswers.{old_at, value_is, written_found}
+use Rattle.yq_edit_laws.{specs.PartPuts.{ArePuts, IsPlaceOf, PutsInNode, place_after, put_edit}, specs.declared.put.PartPut.PartPut}
+use Rattle.yq_edit_laws.{proofs.CutLaws.text_read, proofs.FlowAnswers.bounds_lie, proofs.FlowLonger.{edit_more, place_moved}}
+use Rattle.yq_edit_laws.{proofs.FlowPartNodes.part_node, proofs.FlowPutLaws.{bounds, e, m, there}, proofs.FlowStandings.EntryAt}
+use Rattle.yq_edit_laws.{proofs.FlowWholeLaws.content_split, proofs.PutAnswers.{old_at, value_is, written_found}}
 use Rattle.yq_core.specs.Tree as tree
 
 -- The code finds the item or entry to which a step leads in the flow collection at a path.
@@ -30,29 +29,14 @@ pub record PartFound (c : Cut) (n : ℕ) (init : List Step) (s : Step) (x : Node
 
 -- by what it tells
 pub part_found : (t : List ℕ) (n : ℕ) (init : List Step) (s : Step) (o : Option (NodeAlong × ℕ)) (x : NodeAlong × ℕ) → read_at t ≡ Some (cut_of t) → PartAgrees t (part_at n init s (cut_of t)) o → o ≡ Some x → PartFound (cut_of t) n init s x
-part_found t n init s o x read agrees is = go (cut_of t) read (subst (PartAgrees t (part_at n init s (cut_of t))) is agrees)
-  where
-    here : (c : Cut) (u : List ℕ) → read_at u ≡ Some c → u ≡ cut_text c → (p : Option EntryPieces) → part_at n init s c ≡ p → PartAgrees u p (Some x) → PartFound c n init s x
-    here c u read same None found h = absurd h
-    here c u read same (Some y) found h = record { read = subst (λ (l : List ℕ). read_at l ≡ Some c) same read; item = y; there = found; stands = subst (λ (l : List ℕ). IsPartNode l y x) same h }
-
-    go : (c : Cut) → read_at t ≡ Some c → PartAgrees t (part_at n init s c) (Some x) → PartFound c n init s x
-    go c read h = here c t read (sym (text_read t c read)) (part_at n init s c) refl h
+part_found t n init s o x read agrees is = search (rules, there, text_read)
 
 part_standing : (c : Cut) (n : ℕ) (path init : List Step) (s : Step) → Some (init, s) ≡ last_step path → flow_standing n c (last_step path) ≡ (flow_collection n init c >>= flow_part s)
 part_standing c n path init s last = ap (flow_standing n c) (sym last)
 
 -- none is there
 pub content_missing : (t : List ℕ) (c : Cut) (n : ℕ) (path init : List Step) (s : Step) → Some (init, s) ≡ last_step path → PartAgrees t (part_at n init s c) None → flow_standing n c (last_step path) ≡ None
-content_missing t c n path init s last h = part_standing c n path init s last ∙ go (flow_collection n init c) h
-  where
-    none : (w : CollPieces) (o : Option EntryPieces) → PartAgrees t o None → option_map {U = FlowPart} (λ (y : EntryPieces). record { step = s; collection = w; part = y }) o ≡ None
-    none w None h = refl
-    none w (Some y) h = absurd h
-
-    go : (o : Option CollPieces) → PartAgrees t (o >>= coll_part s) None → (o >>= flow_part s) ≡ None
-    go None h = refl
-    go (Some w) h = none w (coll_part s w) h
+content_missing t c n path init s last h = search (rules, part_standing)
 
 -- a content with what comes after it, in its node
 core_stands : (node : FlowNode) (rest : List ℕ) → (p : List ℕ) × (node_text node rest ≡ p ++ (node_text (without_anchor node) [] ++ rest))
@@ -98,10 +82,7 @@ module _ (c : Cut) (n : ℕ) (path init : List Step) (s : Step) (x : NodeAlong �
     own_place = place ∙ (ap replace_place h.view ∙ replace_placed true (Some 0) h.depth (length row) s (record f.item { rest = h.rest }) new a.coll h.valid)
 
     moved : place_after x.1 r ≡ place_edit (length (cut_text c)) edit
-    moved =
-        let within : length (alone.old ++ alone.behind) ≤ length row = omega (arith, ap length own_text.1, length-append own_text.0 (alone.old ++ alone.behind)) in
-        let same : edit ≡ edit_more h.behind alone = ap (λ (l : List ℕ). replacing s (record f.item { rest = l }) new a.coll) h.rest_is in
-        (λ i. moved_on (h.before i) (own_place i)) ∙ (sym (place_moved h.front row h.behind alone within) ∙ (λ i. place_edit (length (sym h.text i)) (sym same i)))
+    moved = search (rules, own_text, length-append, edit_more, own_place, place_moved)
 
     place_found : IsPlaceOf (cut_text c) v z (place_after x.1 r)
     place_found =

@@ -1,5 +1,5 @@
 -- Where edits of a flow collection are in a text, by their places in a piece of that.
-use Rattle.std.proofs.Common.{◌≡◌, ℕ, ◌≤◌, List, ◌++◌, length, Some, sym, ap, ◌∙◌, subst}
+use Rattle.std.proofs.Common.{rules, ◌≡◌, ℕ, ◌≤◌, List, ◌++◌, length, Some, sym, ap, ◌∙◌, subst}
 use Rattle.yq_core.{specs.Collections.CollPieces, specs.Nodes.node_text}
 use Rattle.yq_flow_edits.{specs.FlowEdits.FlowEdit, specs.FlowPlaces.{PlacedEdit, place_edit}}
 use Rattle.yq_row_table.specs.Rows.{Cut, cut_text}
@@ -20,10 +20,7 @@ module _ (t : List ℕ) (w : CollPieces) (row : List ℕ) (n : ℕ) (h : IsInPie
 
   -- an edit has its place in the text where it has one in the piece
   pub place_of : (e f : FlowEdit) → e ≡ edit_more h.behind f → length (f.old ++ f.behind) ≤ length (node_text h.at.node h.at.rest) → place_edit (length t) e ≡ moved_on n (place_edit (length row) f)
-  place_of e f same within =
-      (λ i. place_edit (length (h.text i)) (same i))
-      ∙ (place_moved h.front row h.behind f (subst (λ (l : List ℕ). length (f.old ++ f.behind) ≤ length l) (sym h.node_is) within)
-      ∙ ap (λ (m : ℕ). moved_on m (place_edit (length row) f)) (sym h.before))
+  place_of e f same within = search (rules, place_moved)
 
 -- The same of the text of a cut.
 module _ (c : Cut) (w : CollPieces) (row : List ℕ) (n : ℕ) (read : read_at (cut_text c) ≡ Some c) (h : IsInPiece (cut_text c) w row n) where

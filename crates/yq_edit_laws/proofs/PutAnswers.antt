@@ -10,7 +10,7 @@ use Rattle.yq_core.{specs.NodesWritten.flow_of, proofs.PathLaws.path_places, pro
 use Rattle.yq_flow_edits.{specs.FlowEdits.{FlowEdit, replacing}, specs.FlowPlaces.{edit_view, place_edit, replace_place}}
 use Rattle.yq_flow_edits.specs.declared.flow_place.EditPlace.{EditPlace}
 use Rattle.yq_row_table.specs.Rows.{Cut, cut_text}
-use Rattle.yq_places.{specs.FlowViews.{FlowAgrees, behind_anchor, collection_view, placed_collection}, specs.NodesAt.node_in}
+use Rattle.yq_places.{specs.FlowViews.{behind_anchor, placed_collection}, specs.NodesAt.node_in}
 use Rattle.yq_places.{specs.Standings.{FlowPart, flow_standing, last_step}, specs.declared.places.flow_node.FlowHead.FlowHead}
 use Rattle.yq_edit_rules.{specs.FlowParts.flow_value, specs.Replacing.keeps_scalar, specs.WrittenValues.value_text}
 use Rattle.yq_text.specs.Script.{keep}
@@ -78,13 +78,6 @@ module _ (c : Cut) (n : ℕ) (path init : List Step) (s : Step) (x : FlowHead) (
   part_is : o ≡ option_map (locate_entry (length row)) (item_at own.close s own.items own.rest)
   part_is = is ∙ (ap (flow_part_at s) (sym (core_parts q) ∙ ap parts_of f.node) ∙ part_placed (length row) s own)
 
-  pub content_missing : o ≡ None → flow_standing n c (last_step path) ≡ None
-  content_missing none = go (item_at own.close s own.items own.rest) refl (sym none ∙ part_is)
-    where
-      go : (y : Option EntryPieces) → item_at own.close s own.items own.rest ≡ y → None ≡ option_map (locate_entry (length row)) y → flow_standing n c (last_step path) ≡ None
-      go None at is = stands None at
-      go (Some y) at is = absurd (none-some _ is)
-
   -- The item or entry is one of the row alone.
   pub record PartFound (p : PlacedEntry) : Type 0 where
     pub item : EntryPieces
@@ -147,10 +140,6 @@ module _ (c : Cut) (n : ℕ) (path init : List Step) (s : Step) (x : FlowHead) (
         (z, standing_there, place_found v r.place h.place, written_found (node_in n path c) v z _ _ (ap (λ (m : Option tree.Node). keeps_scalar m v) node_there) (text_found v r.place h.place) r.written h.written)
 
 -- ---- no collection
-
-pub no_collection : (t : List ℕ) (o : Option CollPieces) (x : FlowHead) → FlowAgrees t o (Some x) → None ≡ collection_view x → o ≡ None
-no_collection t None x agrees none = refl
-no_collection t (Some w) x agrees none = absurd (none-some _ (none ∙ agrees.found))
 
 -- ---- the segments
 

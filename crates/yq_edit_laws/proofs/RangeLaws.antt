@@ -70,14 +70,12 @@ module _ (before behind : List ℕ) (to : ℕ) (ended : is_empty behind ≡ fals
       subst (λ (n : ℕ). IsTouched (length before) to (extents n (swapped_segments ss))) (let same : length lead + length (run ++ t) ≡ (length lead + length run) + length t = omega (arith, length-append run t) in same)
       (behind_range lead (run ++ t) ss (ap (λ x. lead ++ x) (append_assoc run t (new_text ss)) ∙ text) first lines kept (subst (λ (x : List ℕ). length x ≤ length behind) (one_kept t ss false kept) back) within)
   behind_range lead run (put o w ∷ ss) text first lines kept back within =
+      let at : length (lead ++ run) ≡ length lead + length run = length-append lead run in
       go (λ k more. behind_range ((lead ++ run) ++ w) [] ss (append_assoc (lead ++ run) w (new_text ss) ∙ whole) (omega (arith, k, length-append (lead ++ run) w)) lines.1 more back within)
       (cases_lt to (length lead + length run))
     where
       whole : (lead ++ run) ++ (w ++ new_text ss) ≡ before ++ behind
       whole = append_assoc lead run (w ++ new_text ss) ∙ text
-
-      at : length (lead ++ run) ≡ length lead + length run
-      at = length-append lead run
 
       go : (length (lead ++ run) + length w < length before → are_kept ss ≡ false → IsTouched (length before) to (extents (length ((lead ++ run) ++ w) + 0) (swapped_segments ss))) →
           (to < length lead + length run) ⊎ (length lead + length run ≤ to) → IsTouched (length before) to (extents (length lead + length run) (swapped_segments (put o w ∷ ss)))
@@ -112,11 +110,4 @@ at_last n from to [] kept a b less = absurd (false≢true (sym kept))
 at_last n from to (keep t ∷ ss) kept a b less =
     let back : length (kept_back (keep t ∷ ss)) ≡ length (kept_back ss) = ap length (one_kept t ss false kept) in
     at_last (n + length t) from to ss kept (omega (arith, a, back, length-append t (new_text ss))) (omega (arith, b, back, length-append t (new_text ss))) less
-at_last n from to (put o w ∷ ss) kept a b less = go (λ more. at_last (n + length w) from to ss more (omega (arith, a, size)) (omega (arith, b, size)) less) (are_kept ss) refl
-  where
-    size : length (w ++ new_text ss) ≡ length w + length (new_text ss)
-    size = length-append w (new_text ss)
-
-    go : (are_kept ss ≡ false → IsTouched from to (extents (n + length w) (swapped_segments ss))) → (x : Bool) → are_kept ss ≡ x → IsTouched from to (extents n (swapped_segments (put o w ∷ ss)))
-    go again true all = let own = ap length (new_kept ss all) in inl (omega (arith, a, b, less, size, own), omega (arith, a, size, own))
-    go again false more = inr (again more)
+at_last n from to (put o w ∷ ss) kept a b less = search (rules, length-append, new_kept, at_last (n + length w) from to ss)

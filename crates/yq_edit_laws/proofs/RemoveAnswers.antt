@@ -1,11 +1,11 @@
 -- What removing from a flow collection comes to, by what the code finds.
-use Rattle.std.proofs.Common.{rules, ◌≡◌, ℕ, Bool, true, false, cond, List, [], length, Option, Some, None, option_map, sym, ap, ◌∙◌, subst}
-use Rattle.std.{proofs.Common.refl, proofs.lemmas.Option.{none-some, same_Some}, specs.Option.option_or}
-use Rattle.yq_core.{specs.Answers.◌>>=◌, specs.Paths.{Step, further, is_here}, specs.Collections.CollPieces, specs.Tree.key_label}
-use Rattle.yq_core.{specs.Nodes.{FlowNode, Items, Key, Sep, item, none}, specs.Trees.key_content}
+use Rattle.std.proofs.Common.{rules, ◌≡◌, ℕ, List, [], length, Option, Some, None, option_map, sym, ap, ◌∙◌, subst, refl}
+use Rattle.std.proofs.lemmas.Option.{none-some, same_Some}
+use Rattle.yq_core.{specs.Answers.◌>>=◌, specs.Paths.{Step, further}, specs.Collections.CollPieces}
+use Rattle.yq_core.specs.Nodes.{FlowNode, Items, Key, Sep, item, none}
 use Rattle.yq_flow_edits.{specs.FlowEdits.FlowEdit, specs.FlowPlaces.{PlacedEdit, place_edit, remove_between}}
-use Rattle.yq_flow_edits.specs.Removals.{before_next, edit_from_item, gap_of, last_out, last_removed, removing, removing_from}
-use Rattle.yq_inline.specs.Neighbours.{PartTexts, PartsAround, around_part, first_ends, first_text}
+use Rattle.yq_flow_edits.specs.Removals.{gap_of, last_out, removing, removing_from}
+use Rattle.yq_inline.specs.Neighbours.{PartTexts, around_part, first_ends}
 use Rattle.yq_row_table.specs.Rows.{Cut, cut_text}
 use Rattle.yq_documents.specs.Reading.{cut_of, read_at}
 use Rattle.yq_places.{specs.FlowNodes.flow_collection, specs.Standings.last_step}
@@ -35,31 +35,15 @@ part_found t n steps s x read agrees =
 
 -- nothing goes where no item or entry is
 last_kept : (k : ℕ) (s : Step) (o : Option PartTexts) (g : List ℕ) (key : Key) (n : FlowNode) (sep : Sep) (is : Items) (rest : List ℕ) → around_part k s o is rest ≡ None → last_out k rest s g key n sep is ≡ None
-last_kept k s o g key n sep none rest e = refl
-last_kept k s o g key n sep (item key3 n3 sep3 (item key2 n2 sep2 js)) rest e = refl
-last_kept k s o g key n sep (item key2 n2 sep2 none) rest e = go (is_here s (key_label (key_content key2))) e
-  where
-    go : (b : Bool) → cond {A = Option PartsAround} b (Some (record { before = o; here = first_ends k key2 n2 sep2 none rest; next = None })) None ≡ None → cond b (Some (last_removed k rest g key n sep key2 n2 sep2)) None ≡ None
-    go true e = cc
-    go false e = refl
+last_kept k s o g key n sep is rest e = search rules
 
 none_gone : (k : ℕ) (s : Step) (o : Option PartTexts) (g : List ℕ) (is : Items) (rest : List ℕ) → around_part k s o is rest ≡ None → removing_from k rest s g is ≡ None
 none_gone k s o g none rest absent = refl
 none_gone k s o g (item key n sep is) rest absent =
-    go (is_here s (key_label (key_content key))) absent (none_gone k (further s) (Some (first_ends k key n sep is rest)) (gap_of sep) is rest)
-  where
-    go : (b : Bool) → cond b (Some (record { before = o; here = first_ends k key n sep is rest; next = first_text k is rest })) (around_part k (further s) (Some (first_ends k key n sep is rest)) is rest) ≡ None →
-        (around_part k (further s) (Some (first_ends k key n sep is rest)) is rest ≡ None → removing_from k rest (further s) (gap_of sep) is ≡ None) →
-        cond b (before_next k rest g key n sep is) (option_or (last_out k rest (further s) g key n sep is) (option_map (edit_from_item g key n sep) (removing_from k rest (further s) (gap_of sep) is))) ≡ None
-    go true e again = cc
-    go false e again = λ i. option_or (last_kept k (further s) (Some (first_ends k key n sep is rest)) g key n sep is rest e i) (option_map (edit_from_item g key n sep) (again e i))
+    search (rules, last_kept, none_gone k (further s) (Some (first_ends k key n sep is rest)) (gap_of sep) is rest)
 
 pub no_part : (t : List ℕ) (n : ℕ) (c : Cut) (path init : List Step) (s : Step) → Some (init, s) ≡ last_step path → NeighboursAgree t s (flow_collection n init c) None → part_removed n c (last_step path) ≡ None
-no_part t n c path init s last agrees = ap (part_removed n c) (sym last) ∙ go (flow_collection n init c) agrees
-  where
-    go : (o : Option CollPieces) → NeighboursAgree t s o None → (o >>= flow_removed (cut_text c) s) ≡ None
-    go None agrees = refl
-    go (Some w) agrees = ap (option_map (flow_segments (cut_text c))) (none_gone w.close s None w.gap w.items w.rest agrees)
+no_part t n c path init s last agrees = search (rules, none_gone)
 
 -- The collection in which a path ends is found.
 module _ (c : Cut) (n : ℕ) (path init : List Step) (s : Step) (x : FlowNeighbours) (last : Some (init, s) ≡ last_step path) (f : PartFound c n init s x) where

@@ -1,7 +1,7 @@
 -- An item or entry that is in rows can be taken out.
-use Rattle.std.proofs.Common.{rules, ◌≡◌, ◌-◌, Bool, true, false, cond, eqb, ℕ, List, [], ◌∷◌, ◌++◌, length, drop, map, Option, Some, None}
-use Rattle.std.{proofs.Common.{option_map, option_and_then, refl, ap, ◌∙◌}, proofs.lemmas.Bool.{cond-true, cond-false}}
-use Rattle.std.{specs.List.slice_get, specs.Option.option_or}
+use Rattle.std.proofs.Common.{rules, ◌≡◌, ◌-◌, Bool, true, false, eqb, ℕ, List, [], ◌∷◌, ◌++◌, length, drop, map, Option, Some, None}
+use Rattle.std.{proofs.Common.{option_map, option_and_then, refl, ap, ◌∙◌}, proofs.lemmas.Bool.cond-false, specs.List.slice_get}
+use Rattle.std.specs.Option.{option_or}
 use Rattle.yq_core.{specs.Answers.◌>>=◌, specs.Paths.Step}
 use Rattle.yq_outline.{specs.Ends.{found_line, line_at_steps, lines_end}, specs.Group.group, specs.Outline.{Line, flatten}}
 use Rattle.yq_outline.{specs.Places.{FoundLine, find, lines_after, lines_before}, specs.Lines.lines_of_rows}
@@ -10,7 +10,7 @@ use Rattle.yq_documents.{specs.declared.path.Part.TheVariants.Entry, specs.Piece
 use Rattle.yq_documents.specs.LinesInRows.{RowLine, row_line, row_line_of}
 use Rattle.yq_places.specs.FirstPlaces.{first_entry, first_out, first_removal}
 use Rattle.yq_places.specs.PathPieces.{BlockEntry, PrintedDocument, entry_piece, found_entry, piece_in, piece_in_entry, printed_document}
-use Rattle.yq_places.{specs.PrintedLines.line_in, specs.RemovalPlaces.{OwnRows, in_three, own_rows, removal_place, row_count, rows_out}}
+use Rattle.yq_places.{specs.PrintedLines.line_in, specs.RemovalPlaces.{OwnRows, in_three, removal_place, row_count, rows_out}}
 use Rattle.yq_places.{specs.Standings.{RowsOfEntry, rows_of_entry}, proofs.FoundEntries.{entry_there, middle}, proofs.PrintedLaws.lines_are}
 use Rattle.yq_places.{proofs.RowPathLaws.found_lines, proofs.DashLineLaws.row_line_found}
 use Rattle.yq_edit_rules.{specs.StandingLaws.StandsThere, proofs.StandingRows.rows_stand, specs.EntryEdits.one_removed}
@@ -44,9 +44,6 @@ module _ (n : ℕ) (s : Step) (ss : List Step) (c : Cut) (e : RowsOfEntry) (read
   by_rows w is first =
       let d = placed_there c n p x.old.there in
       let own : OwnRows = in_three w.before (row_count (lines_end at ls - at) (drop w.before p.rows)) p.rows in
-      let rows : own_rows (s ∷ ss) p.rows ≡ Some own =
-      ap (λ (o : Option ℕ). o >>= λ k. row_line k p.rows >>= λ y. cond (eqb y.line 0) (Some (in_three y.before (row_count (lines_end k ls - k) (drop y.before p.rows)) p.rows)) None) number
-      ∙ (ap (λ (o : Option RowLine). o >>= λ y. cond (eqb y.line 0) (Some (in_three y.before (row_count (lines_end at ls - at) (drop y.before p.rows)) p.rows)) None) is ∙ cond-true _ _ _ first) in
       let place : removal_place n (s ∷ ss) c ≡ Some (rows_out d.0 own) = search rules in
       (rows_removed (rows_out d.0 own), ap (option_map rows_removed) place)
 

@@ -1,10 +1,10 @@
 -- A value put in the place of a root that is a block collection, or where none is written, carries out its operation.
-use Rattle.std.proofs.Common.{arith, length-append, ◌≡◌, ◌⊎◌, inl, inr, ℕ, ◌≤◌, Bool, true, false, List, [], ◌∷◌, ◌++◌, length, replicate}
-use Rattle.std.proofs.Common.{Some, refl, sym, ap, ◌∙◌, subst, append_assoc, append-nil, rules}
+use Rattle.std.proofs.Common.{length-append, ◌≡◌, ◌⊎◌, inl, inr, ℕ, ◌≤◌, Bool, true, false, List, [], ◌∷◌, ◌++◌, length, replicate, Some}
+use Rattle.std.proofs.Common.{refl, sym, ap, ◌∙◌, subst, append_assoc, append-nil, rules}
 use Rattle.yq_core.{specs.BlockWritten.break_text, specs.Paths.Step, specs.Tree.Node}
 use Rattle.yq_text.{specs.Limit.text_limit, specs.Script.{old_text, new_text}}
 use Rattle.yq_flow_edits.specs.Valued.{IsValueTree}
-use Rattle.yq_row_table.specs.Rows.{behind_gap, behind_indent, print_row, part_text, Cut, cut_text}
+use Rattle.yq_row_table.specs.Rows.{print_row, part_text, Cut, cut_text}
 use Rattle.yq_documents.{specs.Reading.{documents, read_at}, specs.Pieces.TextPiece}
 use Rattle.yq_places.{specs.RowPaths.IsReadable, specs.Standings.LinesIn}
 use Rattle.yq_edit_rules.{specs.Replaces.rooted, specs.TextPieces.IsPiece, proofs.FirstBreakLaws.IsOneBreak}
@@ -66,14 +66,7 @@ module _ (n : ℕ) (v : Node) (c : Cut) (column : ℕ) (w : LinesIn) (read : rea
         one (inr e) = ap is_one_line e.0
 
         begins : length (h.row.gap ++ replicate column 32) ≤ length (print_row h.row [])
-        begins =
-            omega (
-              arith,
-              ap (λ (k : ℕ). length (replicate {A = ℕ} k 32)) h.column_is,
-              length-append h.row.gap (replicate {A = ℕ} column 32),
-              length-append h.row.gap (behind_gap h.row []),
-              length-append (replicate h.row.column 32) (behind_indent h.row []),
-            )
+        begins = search (rules, length-append)
 
     carried : length (new_text (root_put l v column w)) ≤ text_limit → CarriedOut (replace n [] v) c (root_put l v column w)
     carried size =

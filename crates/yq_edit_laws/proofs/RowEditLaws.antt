@@ -1,12 +1,10 @@
 -- What operations exchange that change one row.
-use Rattle.std.proofs.Common.{◌≡◌, Bool, true, cond, eqb, eq-eqb, ℕ, List, [], ◌∷◌, length, Option, Some, None, option_map, refl, sym, ap}
-use Rattle.std.{proofs.Common.◌∙◌, proofs.lemmas.Bool.false≢true, specs.Option.option_or}
-use Rattle.yq_core.{specs.Answers.◌>>=◌, specs.Text.is_empty, specs.declared.style.Place.TheVariants.Block as InBlock}
-use Rattle.yq_core.specs.BlockWritten.{break_text}
-use Rattle.yq_row_table.{specs.Rows.{Content, Nothing, Inline, Block, cut_text}, specs.Seams.is_block, specs.View.content_cut}
+use Rattle.std.proofs.Common.{rules, ◌≡◌, Bool, cond, eq-eqb, ℕ, List, [], ◌∷◌, length, Option, Some, None, option_map, ap, ◌∙◌}
+use Rattle.std.{proofs.lemmas.Bool.false≢true, specs.Option.option_or}
+use Rattle.yq_core.{specs.Answers.◌>>=◌, specs.declared.style.Place.TheVariants.Block as InBlock, specs.BlockWritten.break_text}
+use Rattle.yq_row_table.specs.Rows.{cut_text}
 use Rattle.yq_places.{specs.FirstBreak.first_break, specs.NodesAt.node_in}
-use Rattle.yq_places.specs.Standings.{RowsOfEntry, behind_mark, below, beside, compact_in, entry_standing, flow_standing, held, last_step}
-use Rattle.yq_places.specs.Standings.{standing_at}
+use Rattle.yq_places.specs.Standings.{RowsOfEntry, beside, entry_standing, flow_standing, held, last_step, standing_at}
 use Rattle.yq_text.specs.Script.{Segment, keep}
 use Rattle.yq_edit_rules.specs.CommentEdits.{above_rows, comment_put, head_comment_put, head_comment_segments, line_comment_put}
 use Rattle.yq_edit_rules.{specs.FlowParts.flow_put, specs.Layouts.layout_of}
@@ -17,15 +15,7 @@ use Rattle.yq_edit_laws.proofs.OnePutLaws.{comment_puts, inline_puts, piece_puts
 
 -- an inline node is beside its key or dash
 beside_there : (e : RowsOfEntry) → HoldsInline e → entry_standing e ≡ beside (held e)
-beside_there e h = ap (λ (b : Bool). cond b (behind_mark e e.row.content) (compact_in e)) at_mark ∙ go e.row.content refl
-  where
-    at_mark : eqb e.line (length e.row.dashes) ≡ true
-    at_mark = eq-eqb e.line (length e.row.dashes) h.last
-
-    go : (x : Content) → e.row.content ≡ x → behind_mark e x ≡ beside (held e)
-    go (Nothing tail) is = absurd (false≢true (sym h.some ∙ ap (λ (y : Content). is_empty (content_cut y).3) is))
-    go (Inline space node tail) is = ap (λ (b : Bool). cond b (below e e.under) (beside (held e))) h.some
-    go (Block space anchor b) is = absurd (false≢true (sym h.block ∙ ap is_block is))
+beside_there e h = search (rules, false≢true)
 
 inline_edits : InlineEdits
 inline_edits n s ss v c e at h plain =
@@ -47,11 +37,4 @@ head_comment_edits n steps text c e at first =
     ∙ ap (λ (b : Bool). cond b (Some (head_comment_segments br text (above_rows e))) None) (eq-eqb e.line 0 first)
 
 pub row_edits : RowEdits
-row_edits = record {
-  inline = inline_edits;
-  comment = comment_edits;
-  head_comment = head_comment_edits;
-  inline_puts = inline_puts;
-  comment_puts = comment_puts;
-  piece_puts = piece_puts;
-}
+row_edits = search (rules, inline_edits, comment_edits, head_comment_edits, inline_puts, comment_puts, piece_puts)

@@ -4,7 +4,7 @@ use Rattle.std.{proofs.Common.{None, refl, sym, ap, ◌∙◌, subst, append_ass
 use Rattle.std.{proofs.lemmas.Option.{none-some, same_Some}, specs.Prelude.nat_lt}
 use Rattle.yq_core.{specs.Paths.Step, specs.Collections.{CollPieces, coll_along, coll_in}, specs.Entries.{EntryPieces, item_at}}
 use Rattle.yq_core.specs.Nodes.{FlowNode, IsFlowNode, Items, alias, anchored, coll, empty, flow_items_text, node_text, scalar, takes_anchor}
-use Rattle.yq_core.{specs.Nodes.without_anchor, specs.NodesWritten.flow_of, specs.Tree.{Node, children_of}}
+use Rattle.yq_core.{specs.Nodes.without_anchor, specs.NodesWritten.flow_of, specs.Tree.Node}
 use Rattle.yq_core.{specs.Trees.{items_tree, tree_collection, tree_of, with_name}, proofs.Bools.bind_some}
 use Rattle.yq_core.proofs.PathLaws.{items_hold, then_some}
 use Rattle.yq_flow_edits.{specs.FlowEdits.FlowEdit, proofs.EditLaws.around_is}
@@ -15,7 +15,8 @@ use Rattle.yq_places.{specs.FlowNodes.flow_collection, specs.FlowViews.LeadsToHe
 use Rattle.yq_places.specs.Standings.{last_step}
 use Rattle.yq_edit_rules.{specs.Edits.empty_collection, specs.FlowRows.{FlowAt, behind_node}, specs.Replacing.keeps_scalar}
 use Rattle.yq_lookup.proofs.RowParts.{node_entry}
-use Rattle.yq_edit_laws.{proofs.FlowSoundLaws.last_is, proofs.FlowStandings.EntryAt, proofs.SoleParts.{IsEmptiedBy, last_of}}
+use Rattle.yq_edit_laws.{proofs.LaterEnds.rest_in, proofs.FlowSoundLaws.last_is, proofs.FlowStandings.EntryAt}
+use Rattle.yq_edit_laws.proofs.SoleParts.{IsEmptiedBy, last_of}
 use Rattle.yq_core.specs.Tree as tree
 use Rattle.yq_edit_laws.proofs.FlowPutLaws as put
 use Rattle.yq_edit_laws.proofs.FlowStandings as standing
@@ -125,13 +126,6 @@ only_coll flow spaces d (anchored n gap node) rest z h e = go node h.3 e
     go (coll k gap is) takes e = ap (λ (w : CollPieces). coll w.close w.gap w.items) (same_Some _ _ e)
     go (anchored n gap node) takes e = absurd (false≢true takes)
 
-coll_rest : (node : FlowNode) (rest : List ℕ) (z : CollPieces) → coll_in node rest ≡ Some z → rest ≡ z.rest
-coll_rest empty rest z e = absurd (none-some _ e)
-coll_rest (alias n) rest z e = absurd (none-some _ e)
-coll_rest (scalar p) rest z e = absurd (none-some _ e)
-coll_rest (coll k gap is) rest z e = ap (λ (w : CollPieces). w.rest) (same_Some _ _ e)
-coll_rest (anchored n gap node) rest z e = coll_rest node rest z e
-
 no_scalar : (old : Option Node) (k : ℕ) → keeps_scalar old (empty_tree k) ≡ false
 no_scalar old k = go old (eqb k 125)
   where
@@ -174,7 +168,7 @@ module _ (c : Cut) (n : ℕ) (path : List Step) (z : CollPieces) (read : read_at
   sole_old = ap (λ (m : FlowNode). node_text m []) node_is
 
   pub sole_behind : g.behind ≡ z.rest
-  sole_behind = coll_rest a.item.node a.item.rest z inside
+  sole_behind = sym (rest_in a.item.node a.item.rest z inside)
 
   pub sole_written : g.lead ++ g.written ≡ empty_bytes z.close
   sole_written = (λ i. Rattle.yq_flow_edits.specs.FlowEdits.space_for (node_is i) ++ g.written) ∙ written_empty (Rattle.yq_edit_rules.specs.FlowParts.content_written a.item.node) z.close

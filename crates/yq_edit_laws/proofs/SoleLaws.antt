@@ -36,14 +36,8 @@ record IsEmptied (o v : Node) : Type 0 where
 first_none : (a : Option (List ℕ)) → Rattle.yq_outline.specs.Outline.first_anchor a None ≡ a
 first_none a = search rules
 
-led_list : (block : Bool) (lead : List (List ℕ)) (path : List Step) → led block lead path (tree.list None none) ≡ tree.list None none
-led_list block lead path = search rules
-
-led_map : (block : Bool) (lead : List (List ℕ)) (path : List Step) → led block lead path (tree.map None none) ≡ tree.map None none
-led_map block lead path = search rules
-
 is_emptied : (o v : Node) → empty_collection o ≡ Some v → IsEmptied o v
-is_emptied o v e = search (rules, arith, none-some, same_Some, led_list, first_none, led_map)
+is_emptied o v e = search (rules, arith, none-some, same_Some, first_none)
 
 -- ---- a sole item or entry
 

@@ -1,9 +1,8 @@
 -- A sole item or entry of a flow collection that is an item or entry itself: that it is removed is that an empty collection replaces its own.
-use Rattle.std.proofs.Common.{◌≡◌, ℕ, ◌+◌, Bool, true, false, cond, eqb, List, [], ◌∷◌, ◌++◌, length, Option, Some, None, option_map, refl}
-use Rattle.std.{proofs.Common.{sym, ap, ◌∙◌, subst, arith}, proofs.lemmas.Bool.ltb-false, proofs.lemmas.Option.{none-some, same_Some}}
+use Rattle.std.proofs.Common.{rules, ◌≡◌, ℕ, ◌+◌, Bool, true, false, cond, eqb, List, [], ◌∷◌, ◌++◌, length, Option, Some, None, option_map}
+use Rattle.std.{proofs.Common.{refl, sym, ap, ◌∙◌, subst, arith}, proofs.lemmas.Bool.ltb-false, proofs.lemmas.Option.{none-some, same_Some}}
 use Rattle.std.{specs.Option.option_or, specs.Prelude.{nat_lt, option_and_then}}
-use Rattle.yq_core.{specs.Answers.◌>>=◌, specs.Collections.{CollPieces, coll_along, coll_in}}
-use Rattle.yq_core.specs.Entries.{EntryPieces, path_inside, item_at}
+use Rattle.yq_core.{specs.Answers.◌>>=◌, specs.Collections.{CollPieces, coll_along, coll_in}, specs.Entries.{EntryPieces, item_at}}
 use Rattle.yq_core.{specs.Nodes.{FlowNode, Items, none, item, empty, alias, scalar, coll, anchored}, specs.Paths.{Step, further, is_here}}
 use Rattle.yq_core.{specs.Tree.{Children, Node, children_of, key_label}, specs.Trees.{items_tree, key_content, tree_of, with_name}}
 use Rattle.yq_flow_edits.specs.Removals.{before_next, edit_from_item, gap_of, last_out, removing, removing_from}
@@ -27,13 +26,7 @@ use Rattle.yq_core.specs.Tree as tree
 along_on : (ss : List Step) (s : Step) (node : FlowNode) (rest : List ℕ) (w : CollPieces) (y : EntryPieces) → coll_along ss node rest ≡ Some w →
     item_at w.close s w.items w.rest ≡ Some y → coll_along (ss ++ (s ∷ [])) node rest ≡ coll_in y.node y.rest
 along_on [] s node rest w y found at = ap (option_and_then (λ (z : EntryPieces). coll_in z.node z.rest)) (coll_entry s node rest w found ∙ at)
-along_on (t ∷ ss) s node rest w y found at = go (path_inside t node rest) found (λ z own. along_on ss s z.node z.rest w y own at)
-  where
-    go : (o : Option EntryPieces) → option_and_then (λ (z : EntryPieces). coll_along ss z.node z.rest) o ≡ Some w →
-        ((z : EntryPieces) → coll_along ss z.node z.rest ≡ Some w → coll_along (ss ++ (s ∷ [])) z.node z.rest ≡ coll_in y.node y.rest) →
-        option_and_then (λ (z : EntryPieces). coll_along (ss ++ (s ∷ [])) z.node z.rest) o ≡ coll_in y.node y.rest
-    go None e again = absurd (none-some _ e)
-    go (Some z) e again = again z e
+along_on (t ∷ ss) s node rest w y found at = search (rules, none-some, along_on ss s)
 
 content_on : (x : Content) (ss : List Step) (s : Step) (behind : List ℕ) (w : CollPieces) (y : EntryPieces) → content_flow ss x behind ≡ Some w →
     item_at w.close s w.items w.rest ≡ Some y → content_flow (ss ++ (s ∷ [])) x behind ≡ coll_in y.node y.rest

@@ -121,19 +121,7 @@ entries_stand n s ss c v read at = let d = bind_some (slice_get (documents c) n)
         let l = last_there s ss in
         let there : node_at (l.0.0 ++ (l.0.1 ∷ [])) (root_of p.part) ≡ Some v = ap (λ (x : List Step). node_at x (root_of p.part)) (sym (last_is (s ∷ ss) l.0.0 l.0.1 l.1)) ∙ (ap (node_at (s ∷ ss)) (sym p.root) ∙ is) in
         let a = above_is l.0.0 l.0.1 (root_of p.part) v there in
-        record {
-          read = read;
-          part = p.part;
-          there = p.there;
-          init = l.0.0;
-          step = l.0.1;
-          last = l.1;
-          old = a.0;
-          above = a.1;
-          node =
-              ap (λ (o : Option Document). o >>= λ e. node_at l.0.0 e.root) here ∙ (ap (node_at l.0.0) p.root ∙ a.1);
-          child = a.2;
-        }
+        search rules
 
     cases : (h : NodeIn c n (s ∷ ss) v) → ((y : FoundLine × List Step) × (find_head h.init (part_outline h.part) ≡ Some y)) ⊎ ((b : NodeLines) × IsCollectionAt h.init (part_outline h.part) b) → HasPlacedRows n s ss c ⊎ HasPart n (s ∷ ss) c
     cases h (inl y) = inr (part_there c n (s ∷ ss) v h y.0 y.1)

@@ -90,7 +90,4 @@ module _ (ss : List Segment) (new : Cut) (near : IsLocalEdit ss) (kept : are_kep
       )
 
 pub near_touched : NearAreTouched
-near_touched ss c new near kept read front back is behind t =
-    all_touched ss new near kept read (in_front front (items_of_cut c)) (in_back back (items_of_cut c))
-    (sym t.front_same ∙ ap (λ n. in_front n (items_of_cut new)) is) (sym t.back_same ∙ ap (λ n. in_back n (items_of_cut new)) behind) t.written
-    t.new_are
+near_touched ss c new near kept read front back is behind t = search (rules, all_touched)

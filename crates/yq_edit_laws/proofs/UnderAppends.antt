@@ -1,22 +1,19 @@
 -- One entry more on a line after those under a key or dash: what is exchanged, the row that comes, and the next cut.
-use Rattle.std.proofs.Common.{◌≡◌, ℕ, ◌≤◌, Bool, true, false, cond, eq-eqb, not, List, [], ◌∷◌, ◌++◌, length, Option, Some, None}
-use Rattle.std.proofs.Common.{option_map, refl, rules, sym, ap, ◌∙◌, subst, append_assoc, append-nil}
-use Rattle.std.{proofs.lemmas.Bool.{cond-false, false≢true}, specs.Option.option_or}
+use Rattle.std.proofs.Common.{◌≡◌, ℕ, ◌≤◌, Bool, true, false, not, List, [], ◌∷◌, ◌++◌, length, Some, None, refl, rules, sym, ap, ◌∙◌}
+use Rattle.std.{proofs.Common.{subst, append_assoc, append-nil}, proofs.lemmas.Bool.{cond-false, false≢true}}
 use Rattle.yq_text.{specs.Limit.text_limit, specs.Script.{Segment, new_text}}
-use Rattle.yq_core.{specs.Answers.◌>>=◌, specs.BlockWritten.break_text, specs.Nodes.FlowNode, specs.Paths.Step, specs.Text.is_empty}
+use Rattle.yq_core.{specs.BlockWritten.break_text, specs.Nodes.FlowNode, specs.Paths.Step, specs.Text.is_empty}
 use Rattle.yq_outline.specs.Outline.{null_node}
-use Rattle.yq_row_table.{specs.Rows.{Block, Content, Cut, Inline, Nothing, Row, cut_text, print_row, rows_text}, specs.Seams.is_block}
-use Rattle.yq_row_table.specs.View.{slices}
+use Rattle.yq_row_table.{specs.Rows.{Cut, Inline, Row, cut_text, print_row, rows_text}, specs.Seams.is_block, specs.View.slices}
 use Rattle.yq_documents.specs.Reading.{documents, read_at}
 use Rattle.yq_semantics.{specs.Fits.Fits, specs.Operations.{Operation, append}, specs.Rooms.room_of}
-use Rattle.yq_places.{specs.CollectionEnds.CollectionEnd, specs.CommentPlaces.text_to_line_end, specs.FlowNodes.flow_collection}
-use Rattle.yq_places.{specs.PrintedLines.last_break, proofs.CommentEndLaws.row_text_parts}
-use Rattle.yq_places.specs.Standings.{RowsOfEntry, Standing, alone, before_entry, behind_entry, behind_mark, below, beside, compact_in}
-use Rattle.yq_places.specs.Standings.{entry_standing, held, is_alone, lone, rows_of_entry, under}
+use Rattle.yq_places.{specs.CollectionEnds.CollectionEnd, specs.CommentPlaces.text_to_line_end, specs.PrintedLines.last_break}
+use Rattle.yq_places.proofs.CommentEndLaws.{row_text_parts}
+use Rattle.yq_places.specs.Standings.{RowsOfEntry, before_entry, behind_entry, entry_standing, held, is_alone, rows_of_entry, under}
 use Rattle.yq_edit_rules.{specs.declared.layout.Layout.Layout, specs.Alone.singleton, specs.Appends.inserted, specs.BlockReading.is_filled}
 use Rattle.yq_edit_rules.{specs.BlockRows.{children_rows, key_row, node_rows}, specs.Changed.put_document}
-use Rattle.yq_edit_rules.{specs.CollectionPlaces.IsCollectionEnd, specs.Edits.op_edits, specs.FlowParts.flow_more}
-use Rattle.yq_edit_rules.specs.EntryEdits.{behind_held, block_more, entry_lines, more_lines}
+use Rattle.yq_edit_rules.{specs.CollectionPlaces.IsCollectionEnd, specs.Edits.op_edits}
+use Rattle.yq_edit_rules.specs.EntryEdits.{behind_held, entry_lines, more_lines}
 use Rattle.yq_edit_rules.{specs.Layouts.{LooksLike, children_ask, layout_of, node_asks}, specs.Operands.HasOperand}
 use Rattle.yq_edit_rules.{specs.RowChanges.PutsOne, specs.StandingLaws.StandsThere}
 use Rattle.yq_edit_rules.proofs.AppendPlaces.{IsAppendPlace, IsAsked, put_segments}
@@ -32,24 +29,14 @@ use Rattle.yq_edit_laws.proofs.AppendInside as inside
 entry_row_is : (l : Layout) (column : ℕ) (end key : List ℕ) (v : tree.Node) → is_filled v ≡ false → (node : FlowNode) × (node_rows l column end (singleton (Some key) v) ≡ key_row column key (Inline (32 ∷ []) node end) ∷ [])
 unfolding node_rows children_rows
 entry_row_is l column end key (tree.alias name) h = (_, refl)
-entry_row_is l column end key (tree.scalar a kind text) h = (_, refl)
-entry_row_is l column end key (tree.list a tree.none) h = (_, refl)
 entry_row_is l column end key (tree.list a (tree.child label n cs)) h = absurd (false≢true (sym h))
-entry_row_is l column end key (tree.map a tree.none) h = (_, refl)
 entry_row_is l column end key (tree.map a (tree.child label n cs)) h = absurd (false≢true (sym h))
+entry_row_is l column end key _ h = (_, refl)
 
 -- rows under a key or dash after which nothing is written are its collection
 pub under_there : (e : RowsOfEntry) (r : Row) (rs : List Row) → e.line ≡ length e.row.dashes → is_block e.row.content ≡ false → is_empty (slices e.row).head ≡ true → e.under ≡ r ∷ rs → is_alone r ≡ false →
     entry_standing e ≡ under (held e) r.column
-under_there e r rs last plain none is single = ap (λ (b : Bool). cond b (behind_mark e e.row.content) (compact_in e)) (eq-eqb e.line (length e.row.dashes) last) ∙ go e.row.content refl
-  where
-    rows : below e e.under ≡ under (held e) r.column
-    rows = ap (below e) is ∙ ap (λ (b : Bool). cond b (alone (lone (before_entry e ++ print_row e.row []) r (rows_text rs (behind_entry e)))) (under (held e) r.column)) single
-
-    go : (x : Content) → e.row.content ≡ x → behind_mark e x ≡ under (held e) r.column
-    go (Nothing tail) same = rows
-    go (Inline space node tail) same = ap (λ (b : Bool). cond b (below e e.under) (beside (held e))) none ∙ rows
-    go (Block space anchor b) same = absurd (false≢true (sym plain ∙ ap is_block same))
+under_there e r rs last plain h5 is single = search (rules, false≢true)
 
 -- a line ends those under a key or dash, if the text has a break before what comes after them
 pub last_some : (m : ℕ) (s : Step) (ss : List Step) (d : Cut) (e : RowsOfEntry) (r : Row) (rs : List Row) → read_at (cut_text d) ≡ Some d → rows_of_entry m (s ∷ ss) d ≡ Some e → e.under ≡ r ∷ rs → is_alone r ≡ false → (text : List ℕ) →
@@ -84,21 +71,12 @@ text_ended m s ss d e r rs read found is single broken =
     )
   where
     feed : (t : List ℕ) → is_empty (last_break t) ≡ false → ends_feed t ≡ true
-    feed t some = go (ends_feed t) refl
-      where
-        go : (b : Bool) → ends_feed t ≡ b → ends_feed t ≡ true
-        go true is = is
-        go false is = absurd (false≢true (sym some ∙ ap is_empty (feed_none t is)))
+    feed t some = search (rules, ends_feed, false≢true, feed_none)
 
 -- an unfilled value is written the same, whatever the steps of a document are
 pub unfilled_alike : (v : tree.Node) (l k : Layout) → is_filled v ≡ false → l.br ≡ k.br → LooksLike true v l k
 unfolding node_asks children_ask
-unfilled_alike (tree.alias name) l k h same = (same, λ dashes asked. absurd (false≢true asked))
-unfilled_alike (tree.scalar a kind text) l k h same = (same, λ dashes asked. absurd (false≢true asked))
-unfilled_alike (tree.list a tree.none) l k h same = (same, λ dashes asked. search (rules, false≢true))
-unfilled_alike (tree.list a (tree.child label n cs)) l k h same = absurd (false≢true (sym h))
-unfilled_alike (tree.map a tree.none) l k h same = (same, λ dashes asked. search (rules, false≢true))
-unfilled_alike (tree.map a (tree.child label n cs)) l k h same = absurd (false≢true (sym h))
+unfilled_alike v l k h same = search (rules, asked, false≢true)
 
 module _ (m : ℕ) (s : Step) (ss : List Step) (key : List ℕ) (v : tree.Node) (d : Cut) (e : RowsOfEntry) (read : read_at (cut_text d) ≡ Some d) (found : rows_of_entry m (s ∷ ss) d ≡ Some e) (r : Row) (rs : List Row)
     (last : e.line ≡ length e.row.dashes) (plain : is_block e.row.content ≡ false) (none : is_empty (slices e.row).head ≡ true) (is : e.under ≡ r ∷ rs) (single : is_alone r ≡ false) (broken : is_empty (held e).last ≡ false) where
@@ -124,10 +102,7 @@ module _ (m : ℕ) (s : Step) (ss : List Step) (key : List ℕ) (v : tree.Node) 
   more_is = search rules
 
   pub edited : op_edits op d ≡ Some segments
-  edited =
-      ap (λ (o : Option Standing). option_or (o >>= block_more l (Some key) v) (flow_collection m (s ∷ ss) d >>= flow_more (cut_text d) (Some key) v))
-      (ap (option_map entry_standing) found ∙ ap Some (under_there e r rs last plain none is single))
-      ∙ ap (λ (t : List ℕ). Some (behind_held (held e) t)) more_is
+  edited = search (rules, under_there, more_is)
 
   pub puts : PutsOne segments front [] lines (behind_entry e)
   puts = subst (λ (t : List ℕ). PutsOne segments t [] lines (behind_entry e)) (under_spelled m s ss (Some key) v d e read found) (lines_put_one (held e) lines)

@@ -1,9 +1,8 @@
-use Rattle.std.proofs.Common.{◌∙◌, ℕ, List, Some, map, sym, ap, subst}
+use Rattle.std.proofs.Common.{◌∙◌, ℕ, List, Some, map, sym, ap, subst, rules}
 use Rattle.yq_text.specs.Halves.{whole}
 use Rattle.yq_core.{specs.Entries.tree_step, specs.Values.value_node}
 use Rattle.yq_documents.{specs.Located.steps_of, specs.Reading.cut_of}
 use Rattle.yq_places.specs.Standings.{last_step}
-use Rattle.yq_lookup.specs.PartNodes.{PartAgrees, part_at}
 use Rattle.yq_edit_rules.specs.Answers.{GivesSegments}
 use Rattle.yq_edit_laws.{specs.EditPlaces.LiesIn, specs.PartPuts.place_after, proofs.FlowAnswers.whole_text}
 use Rattle.yq_edit_laws.proofs.PartAnswers.{content_missing, part_found, puts_found}
@@ -11,11 +10,7 @@ use Rattle.yq_edit_laws.proofs.PutAnswers.{puts_kept, puts_none, puts_written}
 use Rattle.yq_edit_laws.proofs.put.put_in_flow.Goals as goal
 
 pub returns-in_default-found : goal.returns-in_default-found
-returns-in_default-found c =
-    let last = c.in-Some.ensures ∙ ap (λ ss. last_step (map tree_step ss)) c.deref.ensures.value in
-    let none = subst (PartAgrees c.args.cut.now (part_at c.args.path.now.doc (map tree_step c.in-Some.above.now) (tree_step c.in-Some.last.now) (cut_of c.args.cut.now))) c.in_default-found.is c.in_ok-found.ensures in
-    puts_none c.args.path.now.doc (steps_of c.args.path.now) (value_node c.args.value.now) (cut_of c.args.cut.now)
-    (content_missing c.args.cut.now (cut_of c.args.cut.now) c.args.path.now.doc (steps_of c.args.path.now) (map tree_step c.in-Some.above.now) (tree_step c.in-Some.last.now) last none)
+returns-in_default-found c = search (rules, puts_none, content_missing)
 
 pub edit_at-requires : goal.edit_at-requires
 edit_at-requires c =

@@ -1,4 +1,4 @@
-use Rattle.std.proofs.Common.{◌∙◌, List, ℕ, map, Some, sym, ap, subst}
+use Rattle.std.proofs.Common.{◌∙◌, List, ℕ, map, Some, sym, ap, subst, rules}
 use Rattle.yq_text.specs.Halves.{whole}
 use Rattle.yq_core.specs.Entries.{tree_step}
 use Rattle.yq_flow_edits.specs.FlowPlaces.{edit_view}
@@ -15,10 +15,7 @@ returns-in_default-flow_neighbours c =
     no_part c.args.cut.now c.args.path.now.doc (cut_of c.args.cut.now) (steps_of c.args.path.now) _ (tree_step c.in-Some.last.now) last c.in_default-flow_neighbours.ensures
 
 pub returns-in_default-found : goal.returns-in_default-found
-returns-in_default-found c =
-    let last = c.in-Some.ensures ∙ ap (λ ss. last_step (map tree_step ss)) c.deref.ensures.value in
-    let f = part_found c.args.cut.now c.args.path.now.doc (map tree_step c.in-Some.above.now) (tree_step c.in-Some.last.now) _ c.text-text.ensures.read c.in-Some-flow_neighbours.ensures in
-    removal_missing _ _ (steps_of c.args.path.now) _ (tree_step c.in-Some.last.now) c.in-Some-flow_neighbours.part last f c.in_default-found.ensures
+returns-in_default-found c = search (rules, part_found, removal_missing)
 
 pub edit_at-requires : goal.edit_at-requires
 edit_at-requires c =
