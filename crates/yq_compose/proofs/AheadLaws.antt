@@ -24,9 +24,6 @@ ahead_next all n m ms a = record {
 pub ahead_here : (all : List Decoded) (n row : ℕ) (m : Decoded) (ms : List Decoded) → IsAhead all n (m ∷ ms) → n ≤ row → row ≤ m.row → IsAhead all row (m ∷ ms)
 ahead_here all n row m ms a le upto = record { rise = (upto, a.rise.1); same = λ i more. a.same i (omega (arith, le, more)) }
 
-pub ahead_none : (all : List Decoded) (n row : ℕ) → IsAhead all n [] → n ≤ row → IsAhead all row []
-ahead_none all n row a le = record { rise = tt; same = λ i more. a.same i (omega (arith, le, more)) }
-
 -- so of a list of which that is the first one
 pub ahead_over : (all : List Decoded) (row : ℕ) (ms : List Decoded) (m : Decoded) → 1 ≤ length ms → m ≡ slice_index_or ms 0 m → m.row < row → (n : ℕ) × (n ≤ row) × IsAhead all n ms →
     (n : ℕ) × (n ≤ row) × IsAhead all n (take (length ms - 1) (drop 1 ms))
@@ -38,13 +35,13 @@ ahead_at all row ms m some is upto a =
     subst (IsAhead all row) (sym apart) (ahead_here all a.0 row m _ (subst (IsAhead all a.0) apart a.2) a.1 upto)
 
 pub ahead_end : (all : List Decoded) (row : ℕ) (ms : List Decoded) → length ms < 1 → (n : ℕ) × (n ≤ row) × IsAhead all n ms → IsAhead all row ms
-ahead_end all row [] none a = ahead_none all a.0 row a.2 a.1
+ahead_end all row [] none a = record { rise = tt; same = λ i more. a.2.same i (omega (arith, a.1, more)) }
 ahead_end all row (m ∷ ms) none a = absurd (omega (arith, none))
 
 -- what a search finds
 pub ahead_found : (all : List Decoded) (n : ℕ) (ms : List Decoded) (row at : ℕ) → IsAhead all n ms → n ≤ row → IsPartitionPoint (λ x. ltb x.row row ≡ true) (λ x. ltb x.row row ≡ false) ms at → IsAhead all row (drop at ms)
-ahead_found all n [] row zero a le h = ahead_none all n row a le
-ahead_found all n [] row (suc at) a le h = ahead_none all n row a le
+ahead_found all n [] row zero a le h = record { rise = tt; same = λ i more. a.same i (omega (arith, le, more)) }
+ahead_found all n [] row (suc at) a le h = record { rise = tt; same = λ i more. a.same i (omega (arith, le, more)) }
 ahead_found all n (m ∷ ms) row zero a le h = let more = ltb-false _ _ (h.1 0 m (omega arith) (omega arith)) in ahead_here all n row m ms a le more
 ahead_found all n (m ∷ ms) row (suc at) a le h =
     let less = ltb-true _ _ (h.0 0 m (omega arith) (omega arith)) in

@@ -1,11 +1,10 @@
 -- Anchors of neighbouring lines, by the rows of these.
-use Rattle.std.proofs.Common.{◌≡◌, ℕ, ℤ, eqb, List, [], ◌∷◌, ◌++◌, Option, Some, None, true, false, cond, not, ◌&&◌, refl, sym, ap, ◌∙◌}
-use Rattle.std.{proofs.Common.append-nil, proofs.lemmas.Bool.{false≢true, cond_both}, proofs.lemmas.Option.same_Some, specs.List.slice_get}
-use Rattle.std.specs.Prelude.{is_none}
+use Rattle.std.proofs.Common.{rules, ◌≡◌, ℕ, ℤ, eqb, List, [], ◌∷◌, ◌++◌, Option, Some, None, true, false, cond, not, ◌&&◌, refl, sym, ap}
+use Rattle.std.{proofs.Common.{◌∙◌, append-nil}, proofs.lemmas.Bool.{false≢true, cond_both}, proofs.lemmas.Option.same_Some}
+use Rattle.std.{specs.List.slice_get, specs.Prelude.is_none}
 use Rattle.yq_core.{specs.declared.block_header.BlockStyle.BlockStyle, specs.Block.style_indicator as block_mark, specs.Piece.deeper}
-use Rattle.yq_core.{specs.Text.is_empty, specs.Inline.depth_limit}
-use Rattle.yq_core.specs.Nodes.{FlowNode, empty, alias, scalar, coll, anchored, node_text, flow_items_text, IsFlowNode, begins_with}
-use Rattle.yq_core.{specs.Scalars.{IsScalarAt, begins_scalar}, specs.Trees.{tree_collection, items_tree, node_head, tree_of}}
+use Rattle.yq_core.{specs.Text.is_empty, specs.Inline.depth_limit, specs.Nodes.{FlowNode, node_text, IsFlowNode, begins_with}}
+use Rattle.yq_core.{specs.Scalars.{IsScalarAt, begins_scalar}, specs.Trees.{tree_collection, node_head, tree_of}}
 use Rattle.yq_core.{proofs.NodeAgain.{is_anchored, takes_unanchored}, proofs.NodesPieceLaws.{front_not, scalar_begins}}
 use Rattle.yq_outline.{specs.LinesReading.{is_free, is_no_alias, may_take}, specs.Outline.{LineMark, Bare, Key, Dash, Line}}
 use Rattle.yq_outline.{specs.Positions.has_no_mark, specs.Lines.{content_anchor, head_of, lines_from, row_lines}}
@@ -16,14 +15,7 @@ use Rattle.yq_row_table.specs.Rows as rows
 
 -- whether a row has an anchor
 pub anchor_some : (c : Content) → is_empty (content_cut c).1 ≡ is_none (content_anchor c)
-anchor_some (Nothing tail) = refl
-anchor_some (Inline space empty tail) = refl
-anchor_some (Inline space (alias name) tail) = refl
-anchor_some (Inline space (scalar p) tail) = refl
-anchor_some (Inline space (coll k g is) tail) = refl
-anchor_some (Inline space (anchored name g node) tail) = refl
-anchor_some (Block space None block) = refl
-anchor_some (Block space (Some a) block) = refl
+anchor_some c = search rules
 
 -- whether an anchor before lines is the only one of their node, by their first one
 pub first_of : (a : List ℕ) (xs : List Line) (l : Line) (ys : List Line) → slice_get xs 0 ≡ Some l → is_free (Some a) (xs ++ ys) ≡ may_take l.mark l.anchor l.head
@@ -43,19 +35,11 @@ scalar_star n (b ∷ bs) rest h = front_not (begins_scalar false) 42 (λ cs. ref
 
 unnamed_star : (n : ℤ) (node : FlowNode) (rest : List ℕ) → is_anchored node ≡ false → IsFlowNode false (Some (deeper n)) depth_limit node rest → not (begins_with 42 (node_text node [])) ≡ is_no_alias (node_head node)
 unfolding node_text IsFlowNode tree_of
-unnamed_star n empty rest a h = refl
-unnamed_star n (alias name) rest a h = refl
-unnamed_star n (scalar p) rest a h = ap (λ (t : List ℕ). not (begins_with 42 t)) (append-nil p) ∙ ap not (scalar_star n p rest h)
-unnamed_star n (coll k g is) rest a h = ap not (opens k (g ++ flow_items_text k is [])) ∙ sym (not_alias k (items_tree is))
-unnamed_star n (anchored name g node) rest a h = absurd (false≢true (sym a))
+unnamed_star n node rest a h = search (rules, append-nil, scalar_star, opens, not_alias, false≢true)
 
 node_star : (n : ℤ) (node : FlowNode) (rest : List ℕ) → IsFlowNode false (Some (deeper n)) depth_limit node rest → not (begins_with 42 (anchor_cut node).2) ≡ is_no_alias (node_head node)
 unfolding IsFlowNode tree_of node_text
-node_star n empty rest h = refl
-node_star n (alias name) rest h = refl
-node_star n (scalar p) rest h = unnamed_star n (scalar p) rest refl h
-node_star n (coll k g is) rest h = unnamed_star n (coll k g is) rest refl h
-node_star n (anchored name g node) rest h = unnamed_star n node rest (takes_unanchored node h.3) h.4
+node_star n node rest h = search (rules, unnamed_star, takes_unanchored)
 
 block_star : (style : BlockStyle) (t : List ℕ) → begins_with 42 (block_mark style ∷ t) ≡ false
 block_star styles.Literal t = refl
@@ -84,13 +68,4 @@ first_bare above column (n ∷ ns) m c l e bare = absurd (false≢true (ap (λ (
 
 pub bare_agrees : (n : ℤ) (r : Row) (rest : List ℕ) (l : Line) → IsContent n r.content rest → slice_get (row_lines r) 0 ≡ Some l → true ≡ has_no_mark l.mark →
     (is_empty (content_cut r.content).1 && not (begins_with 42 (content_cut r.content).3)) ≡ may_take l.mark l.anchor l.head
-bare_agrees n r rest l valid e bare =
-    let f = first_bare _ r.column r.dashes r.mark r.content l e bare in
-    (λ i. anchor_some r.content i && alias_is n r.content rest valid i)
-    ∙ ((λ i. is_none (f.0 i) && is_no_alias (f.1 i))
-    ∙ (bare_takes l.anchor l.head ∙ ap (λ m. may_take m l.anchor l.head) (mark l.mark bare)))
-  where
-    mark : (m : LineMark) → true ≡ has_no_mark m → Bare ≡ m
-    mark Bare e = refl
-    mark (Key k) e = absurd (false≢true (sym e))
-    mark Dash e = absurd (false≢true (sym e))
+bare_agrees n r rest l valid e bare = search (rules, first_bare, anchor_some, alias_is, bare_takes, false≢true)

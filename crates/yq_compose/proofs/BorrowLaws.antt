@@ -1,36 +1,18 @@
 -- What is borrowed as it is written is what it spells.
-use Rattle.std.proofs.Common.{◌≡◌, ℕ, ℤ, zero, suc, ◌-◌, eqb, eqb-true, subst, Bool, true, false, cond, not, ◌||◌, ◌&&◌, List, [], ◌∷◌}
-use Rattle.std.{proofs.Common.{drop, take, length, Some, None, refl, sym, ap, ◌∙◌}, proofs.Math.Bool.or-true}
+use Rattle.std.proofs.Common.{rules, ◌≡◌, ℕ, ℤ, zero, suc, ◌-◌, eqb, Bool, true, false, cond, not, ◌||◌, ◌&&◌, List, [], ◌∷◌, drop, take}
+use Rattle.std.{proofs.Common.{length, Some, None, refl, sym, ap, ◌∙◌}, proofs.Math.Bool.or-true}
 use Rattle.std.{proofs.lemmas.Bool.{and_parts, cond-false, cond-true, false≢true, not-true, or_parts}, specs.List.list_any}
-use Rattle.yq_core.{specs.ContentReading.quoted_content, specs.Plain.holds_break, specs.Quoted.IsQuotedText, specs.Text.{is_empty, is_feed}}
-use Rattle.yq_core.{specs.Nodes.begins_with, specs.Scalars.{scalar_content, is_quoted}, proofs.OneLine.{kept, borrowed_quoted}}
+use Rattle.yq_core.{proofs.BorrowedTexts.{borrows_parts, any_drop, any_take}, specs.ContentReading.quoted_content, specs.Plain.holds_break}
+use Rattle.yq_core.{specs.Quoted.IsQuotedText, specs.Text.{is_empty, is_feed}, specs.Nodes.begins_with}
+use Rattle.yq_core.{specs.Scalars.{scalar_content, is_quoted}, proofs.OneLine.{kept, borrowed_quoted}}
 use Rattle.yq_core.specs.Borrowed.{holds_escape, borrows_text}
 use Rattle.yq_documents.{specs.FlowReading.head_flow_at, specs.Decoded.{borrowed_head, borrowed_text}}
 use Rattle.yq_documents.specs.RowReading.{is_block_head, read_head, is_short_plain, string_head}
 use Rattle.yq_compose.specs.Checking.{begins_tree, borrows_head}
 
-any_drop : (f : ℕ → Bool) (n : ℕ) (t : List ℕ) → list_any f t ≡ false → list_any f (drop n t) ≡ false
-any_drop f zero t e = e
-any_drop f (suc n) [] e = refl
-any_drop f (suc n) (b ∷ bs) e = any_drop f n bs (or_parts (f b) (list_any f bs) e).1
-
-any_take : (f : ℕ → Bool) (n : ℕ) (t : List ℕ) → list_any f t ≡ false → list_any f (take n t) ≡ false
-any_take f zero t e = refl
-any_take f (suc n) [] e = refl
-any_take f (suc n) (b ∷ bs) e =
-    let p = or_parts (f b) (list_any f bs) e in
-    let rest : list_any f (take n bs) ≡ false = any_take f n bs p.1 in
-    (λ i. p.0 i || rest i)
-
 pub quoted_is : (t : List ℕ) → is_quoted t ≡ true → scalar_content t ≡ quoted_content t
 unfolding scalar_content
 quoted_is t q = rw q refl
-
--- it is on one line, and has no escapes
-borrows_parts : (t : List ℕ) → borrows_text t ≡ true → (holds_break t ≡ false) × (holds_escape t ≡ false)
-borrows_parts t e =
-    let p = and_parts (not (holds_break t)) (not (holds_escape t)) e in
-    (not-true (holds_break t) p.0, not-true (holds_escape t) p.1)
 
 -- a key or scalar that its text lends is borrowed as what it means
 pub borrows_key : (t : List ℕ) → (is_quoted t ≡ true → IsQuotedText t) → borrows_text t ≡ true → borrowed_text t ≡ scalar_content t
@@ -67,19 +49,11 @@ and_false true = refl
 and_false false = refl
 
 pub escaped_inside : (t inner : List ℕ) → begins_with 34 t ≡ true → inner ≡ borrowed_text t → list_any (λ b. eqb b 92) inner ≡ true → borrows_text t ≡ false
-escaped_inside [] inner q is h = absurd (false≢true q)
-escaped_inside (b ∷ bs) inner q is h =
-    let first : b ≡ 34 = eqb-true b 34 q in
-    let holds = inside bs inner (is ∙ ap (λ (x : ℕ). borrowed_text (x ∷ bs)) first) h in
-    subst (λ (x : ℕ). borrows_text (x ∷ bs) ≡ false) (sym first) (rw holds (and_false (not (holds_break (34 ∷ bs)))))
+escaped_inside t inner q is h = search (rules, false≢true, inside, and_false)
 
 -- a head that is borrowed is read as what is borrowed of it, and holds no alias and no flow collection
 abbrev Borrowed : List ℕ → ℤ → List ℕ → List ℕ → Type 0
 Borrowed whole n h t = (read_head whole n h t ≡ Some (borrowed_head h)) × (head_flow_at whole n h t ≡ None)
-
-borrowed_nothing : (whole : List ℕ) (n : ℤ) (t : List ℕ) → Borrowed whole n [] t
-unfolding read_head head_flow_at
-borrowed_nothing whole n t = (refl, refl)
 
 borrowed_string : (whole : List ℕ) (n : ℤ) (h t : List ℕ) → is_empty h ≡ false → is_block_head h ≡ false → is_quoted h ≡ true → borrowed_text h ≡ scalar_content h → Borrowed whole n h t
 unfolding read_head head_flow_at
@@ -90,7 +64,8 @@ unfolding read_head head_flow_at
 borrowed_plain whole n h t some block quoted short = (rw (some, block, short, quoted) refl, rw (some, block, short, quoted) refl)
 
 pub borrowed_read : (whole : List ℕ) (n : ℤ) (h t : List ℕ) → (is_quoted h ≡ true → IsQuotedText h) → borrows_head h ≡ true → Borrowed whole n h t
-borrowed_read whole n [] t q e = borrowed_nothing whole n t
+unfolding read_head head_flow_at
+borrowed_read whole n [] t q e = (refl, refl)
 borrowed_read whole n (b ∷ bs) t q e = go (is_quoted (b ∷ bs)) refl
   where
     h : List ℕ

@@ -1,6 +1,6 @@
 -- A head that the text lends is what is read of it.
-use Rattle.std.proofs.Common.{◌≡◌, ℕ, ℤ, ◌-◌, ◌≤◌, true, false, cond, eqb, List, [], ◌∷◌, length, Some, None, refl, sym, ap, ◌∙◌, subst}
-use Rattle.std.{proofs.Common.{arith, length-append, ⊎_elim, eqb-true}, proofs.lemmas.Bool.{false≢true, or_cases}}
+use Rattle.std.proofs.Common.{rules, ◌≡◌, ℕ, ℤ, ◌-◌, ◌≤◌, true, false, cond, eqb, List, ◌∷◌, length, Some, None, refl, sym, ap, ◌∙◌, subst}
+use Rattle.std.{proofs.Common.{arith, length-append, ⊎_elim}, proofs.lemmas.Bool.{false≢true, or_cases}}
 use Rattle.yq_core.{specs.Borrowed.{is_borrowed, node_in_front}, specs.Inline.depth_limit, specs.Piece.deeper}
 use Rattle.yq_core.specs.Nodes.{FlowNode, coll, Items, node_text, IsFlowNode, is_empty_node, opening_bracket}
 use Rattle.yq_core.{specs.Places.{holder, locate, locate_items, mapping, Parts, sequence, placed}, specs.Scalars.is_quoted}
@@ -17,11 +17,7 @@ abbrev pub IsOther : List ℕ → Type 0
 IsOther h = (is_empty h ≡ false) × (is_block_head h ≡ false) × (is_quoted h ≡ false) × (is_short_plain h ≡ false)
 
 opened : (h : List ℕ) → opens_collection h ≡ true → IsOther h
-opened [] e = absurd (false≢true e)
-opened (b ∷ bs) e = ⊎_elim {0, 0, 0}
-    (λ a. let same : b ≡ 91 = eqb-true b 91 a in rw same (refl, refl, refl, refl))
-    (λ a. let same : b ≡ 123 = eqb-true b 123 a in rw same (refl, refl, refl, refl))
-    (or_cases (eqb b 91) (eqb b 123) e)
+opened h e = search (rules, false≢true, ⊎_elim, or_cases)
 
 -- a collection is one in block too
 in_block : (k : ℕ) (g : List ℕ) (is : Items) (n : ℤ) (d : ℕ) (rest : List ℕ) → IsFlowNode true (Some 0) d (coll k g is) rest → IsFlowNode false (Some (deeper n)) d (coll k g is) rest

@@ -1,5 +1,5 @@
 -- A text reads as documents where the keys of its rows are fit and its documents are sound.
-use Rattle.std.proofs.Common.{◌≡◌, get_or, ℕ, zero, suc, ◌+◌, ◌<◌, ◌≤◌, ◌-◌, Bool, true, false, ◌||◌, ◌&&◌, not, List, [], ◌∷◌, ◌++◌}
+use Rattle.std.proofs.Common.{rules, ◌≡◌, get_or, ℕ, zero, suc, ◌+◌, ◌<◌, ◌≤◌, ◌-◌, Bool, true, false, ◌||◌, ◌&&◌, not, List, [], ◌∷◌, ◌++◌}
 use Rattle.std.{proofs.Common.{length, take, drop, Option, Some, None, refl, sym, ap, ◌∙◌, subst, arith}, proofs.lemmas.Bool.false≢true}
 use Rattle.std.{proofs.lemmas.List.Folds.list_all-append, proofs.lemmas.Option.{slice_get-get_or, slice_get_within}}
 use Rattle.std.specs.List.{list_all, list_any, slice_get}
@@ -7,19 +7,15 @@ use Rattle.yq_text.specs.Limit.{text_limit}
 use Rattle.yq_outline.{specs.LinesReading.lines_are_sound, specs.Names.{is_reference, line_names}, specs.Lines.lines_of_rows}
 use Rattle.yq_outline.{specs.RowWalk.HasRows, specs.declared.line_position.Stretch.Stretch, specs.Extents.IsRowsView}
 use Rattle.yq_row_table.{specs.Grammar.{AreParts, IsCut, begins_document, no_rows}, specs.Rows.{Row, Part, Cut, last, marked}}
-use Rattle.yq_row_table.{specs.View.{RowsView, rows_of, rows_view}, proofs.ScanLaws.scan_again}
-use Rattle.yq_documents.{specs.Documents.{begins_bare, document_parts, has_begin, parts_from, with_part}, specs.Holding.{Holds, IsLocated}}
-use Rattle.yq_documents.specs.Reading.{all_documents, cut_of, cut_or, has_short_root, have_fit_keys, is_document}
-use Rattle.yq_documents.{specs.RowReading.row_fits, specs.Stretches.{document_lines, part_rows}, specs.declared.decoded.Decoded.Decoded}
+use Rattle.yq_row_table.specs.View.{RowsView, rows_of, rows_view}
+use Rattle.yq_documents.{proofs.ReadLaws.cut_is, specs.Documents.{begins_bare, document_parts, has_begin, parts_from, with_part}}
+use Rattle.yq_documents.specs.Holding.{Holds, IsLocated}
+use Rattle.yq_documents.{specs.Reading.{all_documents, cut_of, has_short_root, have_fit_keys, is_document}, specs.RowReading.row_fits}
+use Rattle.yq_documents.{specs.Stretches.{document_lines, part_rows}, specs.declared.decoded.Decoded.Decoded}
 use Rattle.yq_documents.{specs.declared.documents.DocumentRows.DocumentRows, proofs.PartRows.{has_part, rows_stand}}
 use Rattle.yq_compose.{specs.Checking.{IsCheckable, some_refer}, specs.Decoding.{AreDecoded, IsCutInto}}
 use Rattle.yq_compose.{specs.Places.{AreLocated, all_sound, part_is_sound}, proofs.DecodedRows.each_fits}
 use Rattle.yq_compose.proofs.NoReferenceLaws.{ready_refers_not}
-
--- the cut of a text that has one
-pub cut_is : (t : List ℕ) (c : Cut) → IsCut t c → cut_of t ≡ c
-unfolding cut_of
-cut_is t c h = ap cut_or (scan_again t c h)
 
 pub cut_into : (t : List ℕ) (s : RowsView) (c : Cut) → IsCut t c → s ≡ rows_view c → IsCutInto t s
 cut_into t s c h rows =
@@ -130,16 +126,7 @@ module _ (t : List ℕ) (s : RowsView) (ms : List Decoded) (ds : List DocumentRo
 
   -- what is kept of the text
   pub held : (refers : Bool) → refers ≡ some_refer ms → all_documents (cut_of t) ≡ true → Holds t s ds ms refers
-  held refers flag sound = record {
-    cut = k.cut;
-    rows = k.rows;
-    sound = sound;
-    count = a.count;
-    places = a.each;
-    rise = m.rise;
-    agrees = m.agrees;
-    alias_free = λ e. alias_free (sym flag ∙ e);
-  }
+  held refers flag sound = search (rules, alias_free)
 
 -- rows of a text that is cut
 pub cut_view : (t : List ℕ) (s : RowsView) → IsCutInto t s → IsRowsView s

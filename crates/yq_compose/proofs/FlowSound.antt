@@ -1,7 +1,7 @@
 -- Whether items and entries in flow nodes are sound, as loops reach them.
-use Rattle.std.proofs.Common.{◌≡◌, ℕ, ◌+◌, ◌<◌, Bool, true, false, ◌&&◌, leb, List, [], ◌∷◌, ◌++◌, Some, length, drop, get_or, max, inl}
-use Rattle.std.proofs.Common.{inr, refl, sym, ap, ◌∙◌, append_assoc, arith, String, string_bytes}
-use Rattle.std.{proofs.lemmas.Bool.{and_parts, cases_lt, le-leb, leb-false, leb-true, lt-leb}, proofs.lemmas.List.drop_more}
+use Rattle.std.proofs.Common.{rules, ◌≡◌, ℕ, ◌+◌, ◌<◌, Bool, true, ◌&&◌, leb, List, [], ◌∷◌, ◌++◌, Some, length, drop, get_or, max, inl}
+use Rattle.std.proofs.Common.{inr, sym, ap, ◌∙◌, append_assoc, arith, String, string_bytes}
+use Rattle.std.{proofs.lemmas.Bool.{and_parts, cases_lt, le-leb, leb-true, lt-leb}, proofs.lemmas.List.drop_more}
 use Rattle.std.specs.declared.alloc.Global.{Global}
 use Rattle.yq_core.specs.declared.piece.Piece.{Piece}
 use Rattle.yq_core.specs.Keys.{are_distinct, deepest, depth, keys_of, each_has_unique_keys, has_unique_keys}
@@ -23,26 +23,11 @@ max_fits a b d h = elim (cases_lt d b) [
   | inr le ↦ le-leb (max a b) d (omega (arith, le, leb-true a d h)) ∙ sym (le-leb b d le)
 ]
 
-max_fails : (a b d : ℕ) → leb a d ≡ false → leb (max a b) d ≡ false
-max_fails a b d h = lt-leb (max a b) d (omega (arith, leb-false a d h))
-
 sound_more : (d : ℕ) (label : Label) (n : Node) (cs : Children) → head_is_sound d (Some n) ≡ true → are_sound d (child label n cs) ≡ are_sound d cs
 sound_more d label n cs h =
     let parts = and_parts (leb (depth n) d) (has_unique_keys n) h in
     ap (λ b. b && (has_unique_keys n && each_has_unique_keys cs)) (max_fits (depth n) (deepest cs) d parts.0)
     ∙ ap (λ b. leb (deepest cs) d && (b && each_has_unique_keys cs)) parts.1
-
-both_false : (a b : Bool) → b ≡ false → (a && b) ≡ false
-both_false true b h = h
-both_false false b h = refl
-
-unsound : (a u : Bool) (m r : Bool) → (a ≡ false → m ≡ false) → (a && u) ≡ false → (m && (u && r)) ≡ false
-unsound true u m r f h = both_false m (u && r) (ap (λ b. b && r) h)
-unsound false u m r f h = ap (λ b. b && (u && r)) (f refl)
-
-sound_fails : (d : ℕ) (label : Label) (n : Node) (cs : Children) → head_is_sound d (Some n) ≡ false → are_sound d (child label n cs) ≡ false
-sound_fails d label n cs h =
-    unsound (leb (depth n) d) (has_unique_keys n) (leb (max (depth n) (deepest cs)) d) (each_has_unique_keys cs) (max_fails (depth n) (deepest cs) d) h
 
 -- ---- items
 
@@ -53,9 +38,6 @@ module _ (d : ℕ) (is : List Inline) (i : ℕ) (x : Inline) (all : Bool) (withi
 
   pub items_more : head_is_sound d (Some (placed_tree (inline_view x))) ≡ true → all ≡ are_sound d (parts_tree (items_end (drop (i + 1) is)))
   items_more h = items_from ∙ sound_more d plain_label (placed_tree (inline_view x)) (parts_tree (items_end (drop (i + 1) is))) h
-
-  pub items_fail : head_is_sound d (Some (placed_tree (inline_view x))) ≡ false → all ≡ false
-  items_fail h = items_from ∙ sound_fails d plain_label (placed_tree (inline_view x)) (parts_tree (items_end (drop (i + 1) is))) h
 
 -- ---- entries, with the keys of those before
 
@@ -69,15 +51,4 @@ module _ (d : ℕ) (es : List Field) (i : ℕ) (e : Field) (keys : List (List �
 
   pub entries_more : (k : List ℕ) (new : List (List ℕ)) → k ≡ string_bytes e.0 → new ≡ keys ++ k ∷ [] → head_is_sound d (Some (placed_tree (inline_view e.2)))
       ≡ true → all ≡ entries_ask d new (drop (i + 1) es)
-  entries_more k new key is h =
-      let rest = parts_tree (entries_end (drop (i + 1) es)) in
-      let behind : keys ++ (string_bytes e.0 ∷ keys_of rest) ≡ new ++ keys_of rest =
-      sym (append_assoc keys (string_bytes e.0 ∷ []) (keys_of rest)) ∙ ap (λ l. l ++ keys_of rest) (ap (λ (j : List ℕ). keys ++ j ∷ []) (sym key) ∙ sym is) in
-      entries_from
-      ∙ (ap (λ b. b && are_distinct (keys ++ (string_bytes e.0 ∷ keys_of rest))) (sound_more d plain_label (placed_tree (inline_view e.2)) rest h)
-      ∙ ap (λ ks. are_sound d rest && are_distinct ks) behind)
-
-  pub entries_fail : head_is_sound d (Some (placed_tree (inline_view e.2))) ≡ false → all ≡ false
-  entries_fail h =
-      let rest = parts_tree (entries_end (drop (i + 1) es)) in
-      entries_from ∙ ap (λ b. b && are_distinct (keys ++ (string_bytes e.0 ∷ keys_of rest))) (sound_fails d plain_label (placed_tree (inline_view e.2)) rest h)
+  entries_more k new key is h = search (rules, append_assoc, entries_from, sound_more)

@@ -1,5 +1,5 @@
 -- The positions that checks give, after lines and those under them.
-use Rattle.std.proofs.Common.{◌≡◌, ◌⊎◌, inl, inr, ℕ, suc, ◌+◌, ◌<◌, true, false, drop, sym, ap, ◌∙◌, subst, arith}
+use Rattle.std.proofs.Common.{rules, ◌≡◌, ◌⊎◌, inl, inr, ℕ, suc, ◌+◌, ◌<◌, true, false, drop, sym, ap, ◌∙◌, subst, arith}
 use Rattle.std.{proofs.lemmas.Bool.false≢true, specs.Prelude.is_some}
 use Rattle.yq_outline.{specs.Ends.{IsEndOf, deeper_count, has_no_lines, part}, specs.Outline.level, proofs.EndsLaws.deeper_line}
 use Rattle.yq_outline.{proofs.LineEnds.end_counted, specs.Lines.lines_of_rows}
@@ -12,11 +12,7 @@ use Rattle.yq_compose.proofs.StopLaws.{count_none, count_one}
 
 -- where none are deeper, the position itself
 pub gives_none : (s : RowsView) (d : Stretch) (q : Position) (floor : ℕ) → IsPosition s d q → OfLines s d (λ ls n. has_no_lines (part ls (n q) floor) ≡ true) → GivesStop s d q floor q
-gives_none s d q floor at none = record {
-  position = at;
-  number = λ h. omega (arith, count_none (lines_of_rows h.rows) (line_number d h.rows q) floor (none h));
-  later = λ h e. absurd (false≢true (sym e ∙ none h));
-}
+gives_none s d q floor at h5 = search (rules, count_none, false≢true)
 
 -- after a node alone, the next line
 pub gives_bare : (s : RowsView) (d : Stretch) (q e : Position) (floor : ℕ) → IsLine s d q → IsPosition s d e → OfLines s d (λ ls n. n e ≡ n q + 1) → OfLine s d q (λ l. true ≡ is_some l.head) →
@@ -68,15 +64,7 @@ gives_alone s d q e floor rows at to next lev none =
 -- after all lines of a collection, where no more are deeper
 pub gives_all : (s : RowsView) (d : Stretch) (q e : Position) (floor : ℕ) → IsPosition s d e → OfLines s d (λ ls n. lines_stop (n q) floor ls ≡ lines_stop (n e) floor ls) → (e ≡ q) ⊎ (q.row < e.row) →
     OfLines s d (λ ls n. has_no_lines (part ls (n e) floor) ≡ true) → GivesStop s d q floor e
-gives_all s d q e floor to same moved none = record {
-  position = to;
-  number = λ h. omega (arith, same h, count_none (lines_of_rows h.rows) (line_number d h.rows e) floor (none h));
-  later = λ h deep. go h deep moved;
-}
-  where
-    go : (h : HasRows s d) → has_no_lines (part (lines_of_rows h.rows) (line_number d h.rows q) floor) ≡ false → (e ≡ q) ⊎ (q.row < e.row) → q.row < e.row
-    go h deep (inl is) = absurd (false≢true (sym deep ∙ (ap (λ (x : Position). has_no_lines (part (lines_of_rows h.rows) (line_number d h.rows x) floor)) (sym is) ∙ none h)))
-    go h deep (inr less) = less
+gives_all s d q e floor to same moved h8 = search (rules, count_none, false≢true)
 
 -- one more line of a collection is passed
 pub stop_same : (s : RowsView) (d : Stretch) (h : HasRows s d) (q e f : Position) (floor : ℕ) (at : IsLine s d e) →

@@ -1,18 +1,16 @@
 -- What a line's head spells, by what is made of its row.
-use Rattle.std.proofs.Common.{◌≡◌, ℕ, zero, suc, ◌+◌, ◌-◌, Bool, true, false, cond, List, [], ◌∷◌, take, drop, Option, Some, None, refl}
+use Rattle.std.proofs.Common.{rules, ◌≡◌, ℕ, zero, suc, ◌+◌, ◌-◌, Bool, true, false, List, [], ◌∷◌, take, drop, Option, Some, None, refl}
 use Rattle.std.{proofs.Common.{sym, ap, ◌∙◌, arith}, proofs.lemmas.Bool.{false≢true, le-leb}, proofs.lemmas.Option.same_Some}
 use Rattle.std.{specs.List.slice_get, specs.Prelude.{is_some, option_and_then, option_map}}
-use Rattle.yq_core.{specs.Scalar.plain_of, specs.Text.is_empty, specs.Tree.Node, specs.Places.Placed, specs.Scalars.is_quoted}
-use Rattle.yq_core.specs.Trees.{placed_tree, scalar_node}
+use Rattle.yq_core.{specs.Tree.Node, specs.Places.Placed, specs.Trees.placed_tree}
 use Rattle.yq_outline.{specs.Outline.Line, specs.Sound.head_is_sound, specs.Lines.lines_of_rows, specs.RowWalk.{IsLine, line_number}}
 use Rattle.yq_outline.{specs.declared.line_position.Position.Position, specs.declared.line_position.Stretch.Stretch}
 use Rattle.yq_outline.{proofs.KnownLaws.get_dropped, proofs.WalkPositions.located}
 use Rattle.yq_row_table.{specs.Rows.Row, specs.View.{RowsView, rows_of, slices}}
-use Rattle.yq_documents.specs.Decoded.{borrowed_head, borrowed_text, decoded_at, decoded_or, decoded_flow, decoded_head, decoded_view}
-use Rattle.yq_documents.{specs.Decoded.decoded_head_flow, specs.RowReading.string_head, specs.declared.decoded.Decoded.Decoded}
+use Rattle.yq_documents.specs.Decoded.{borrowed_head, decoded_at, decoded_or, decoded_flow, decoded_head, decoded_view, decoded_head_flow}
+use Rattle.yq_documents.specs.declared.decoded.Decoded.{Decoded}
 use Rattle.yq_compose.{specs.Checking.IsCheckable, proofs.PositionOrder.head_last}
 use Rattle.yq_documents.specs.declared.decoded.DecodedHead as kept
-use Rattle.yq_outline.specs.declared.line.Head as heads
 
 -- an item of a part of a list is one of the list
 get_take : {A : Type 0} (n i : ℕ) (xs : List A) (x : A) → slice_get (take n xs) i ≡ Some x → slice_get xs i ≡ Some x
@@ -44,11 +42,7 @@ head_line t s ms d k q at l is some =
 
 -- an alias or flow collection that is made is the head
 flow_of : (o : Option kept.DecodedHead) (h : List ℕ) (p : Placed) → option_and_then decoded_head_flow o ≡ Some p → Some (placed_tree p) ≡ decoded_or (option_map decoded_view o) (borrowed_head h)
-flow_of None h p e = absurd (cc)
-flow_of (Some (kept.TheVariants.Owned heads.TheVariants.Nothing)) h p e = absurd (cc)
-flow_of (Some (kept.TheVariants.Owned (heads.TheVariants.Scalar kind text))) h p e = absurd (cc)
-flow_of (Some (kept.TheVariants.Owned (heads.TheVariants.Inline node))) h p e = ap (λ (x : Placed). Some (placed_tree x)) (sym (same_Some _ _ e))
-flow_of (Some (kept.TheVariants.Borrowed node)) h p e = ap (λ (x : Placed). Some (placed_tree x)) (sym (same_Some _ _ e))
+flow_of o h p e = search (rules, same_Some)
 
 pub head_some : (m : Option Decoded) (h : List ℕ) (p : Placed) → decoded_flow m ≡ Some p → Some (placed_tree p) ≡ decoded_head m h
 head_some None h p e = absurd (cc)
@@ -56,19 +50,10 @@ head_some (Some x) h p e = flow_of x.head h p e
 
 -- what is borrowed is a scalar
 borrowed_flat : (d : ℕ) (h : List ℕ) → head_is_sound d (borrowed_head h) ≡ true
-borrowed_flat d h = go (is_empty h) (is_quoted h)
-  where
-    go : (a b : Bool) → head_is_sound d (cond a None (cond b (string_head (borrowed_text h)) (Some (scalar_node (plain_of h))))) ≡ true
-    go true b = refl
-    go false true = rw (le-leb 0 d (omega arith)) refl
-    go false false = rw (le-leb 0 d (omega arith)) refl
+borrowed_flat d h = search (rules, le-leb)
 
 flat_of : (d : ℕ) (o : Option kept.DecodedHead) (h : List ℕ) → option_and_then decoded_head_flow o ≡ None → head_is_sound d (decoded_or (option_map decoded_view o) (borrowed_head h)) ≡ true
-flat_of d None h e = borrowed_flat d h
-flat_of d (Some (kept.TheVariants.Owned heads.TheVariants.Nothing)) h e = refl
-flat_of d (Some (kept.TheVariants.Owned (heads.TheVariants.Scalar kind text))) h e = rw (le-leb 0 d (omega arith)) refl
-flat_of d (Some (kept.TheVariants.Owned (heads.TheVariants.Inline node))) h e = absurd (cc)
-flat_of d (Some (kept.TheVariants.Borrowed node)) h e = absurd (cc)
+flat_of d o h e = search (rules, borrowed_flat, le-leb)
 
 head_flat : (d : ℕ) (m : Option Decoded) (h : List ℕ) → decoded_flow m ≡ None → head_is_sound d (decoded_head m h) ≡ true
 head_flat d None h e = borrowed_flat d h

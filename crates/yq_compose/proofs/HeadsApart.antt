@@ -1,5 +1,5 @@
 -- The lines of rows have their anchors apart from their heads.
-use Rattle.std.proofs.Common.{◌≡◌, ℕ, ℤ, suc, ◌+◌, eqb, cond, List, [], ◌∷◌, ◌++◌, Option, Some, None, Bool, true, false}
+use Rattle.std.proofs.Common.{rules, ◌≡◌, ℕ, ℤ, suc, ◌+◌, eqb, cond, List, [], ◌∷◌, ◌++◌, Option, Some, None, Bool, true, false}
 use Rattle.std.proofs.lemmas.Bool.{false≢true}
 use Rattle.yq_core.specs.declared.kind.Kind.TheVariants.{Text}
 use Rattle.yq_core.specs.Nodes.{FlowNode, empty, alias, scalar, coll, anchored, takes_anchor, IsFlowNode}
@@ -30,19 +30,11 @@ unnamed (anchored name gap node) = unnamed node
 
 no_alias : (node : FlowNode) → takes_anchor node ≡ true → IsNoAlias (node_head node)
 unfolding tree_of
-no_alias empty h = tt
-no_alias (alias name) h = absurd (false≢true h)
-no_alias (scalar p) h = tt
-no_alias (coll k gap items) h = (collection_apart k (items_tree items)).1
-no_alias (anchored name gap node) h = absurd (false≢true h)
+no_alias node h = search (rules, false≢true, collection_apart)
 
 node_apart : (flow : Bool) (spaces : Option ℕ) (d : ℕ) (node : FlowNode) (rest : List ℕ) → IsFlowNode flow spaces d node rest → IsApart (node_anchor node) (node_head node)
 unfolding IsFlowNode
-node_apart flow spaces d empty rest h = (unnamed empty, tt)
-node_apart flow spaces d (alias name) rest h = (unnamed (alias name), tt)
-node_apart flow spaces d (scalar p) rest h = (unnamed (scalar p), tt)
-node_apart flow spaces d (coll k gap items) rest h = (unnamed (coll k gap items), tt)
-node_apart flow spaces d (anchored name gap node) rest h = (unnamed node, no_alias node h.3)
+node_apart flow spaces d node rest h = search (rules, unnamed, no_alias)
 
 block_apart : (a : Option Anchor) (t : List ℕ) → MayBeNamed (block_anchor a) (Some (tree.scalar None Text t))
 block_apart None t = tt

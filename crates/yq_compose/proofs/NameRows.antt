@@ -1,17 +1,14 @@
 -- The anchors and aliases of lines, row by row.
-use Rattle.std.proofs.Common.{◌≡◌, ℕ, ◌+◌, ◌≤◌, Bool, true, false, cond, List, [], ◌++◌, drop, length, Option, Some, None, refl, sym, ap}
-use Rattle.std.{proofs.Common.{◌∙◌, append_assoc, append-nil}, proofs.lemmas.List.drop_all, specs.List.slice_get}
-use Rattle.std.specs.Prelude.{option_and_then, option_map}
-use Rattle.yq_core.{specs.Anchors.{Name, anchor_names}, specs.Scalar.plain_of, specs.Text.is_empty, specs.Scalars.is_quoted}
-use Rattle.yq_core.specs.Trees.{scalar_node}
+use Rattle.std.proofs.Common.{rules, ◌≡◌, ℕ, ◌+◌, ◌≤◌, List, [], ◌++◌, drop, length, Option, Some, None, refl, sym, ap, ◌∙◌, append_assoc}
+use Rattle.std.{proofs.Common.append-nil, proofs.lemmas.List.drop_all, specs.List.slice_get, specs.Prelude.{option_and_then, option_map}}
+use Rattle.yq_core.specs.Anchors.{Name, anchor_names}
 use Rattle.yq_outline.{specs.Names.{head_names, line_names}, specs.Outline.Line, specs.Lines.{content_anchor, head_of, lines_of_rows}}
 use Rattle.yq_outline.proofs.WalkLevels.{names_row}
 use Rattle.yq_row_table.specs.Rows.{Row}
-use Rattle.yq_documents.specs.Decoded.{borrowed_head, borrowed_text, decoded_or, decoded_flow, decoded_head, decoded_view}
-use Rattle.yq_documents.{specs.Decoded.decoded_head_flow, specs.RowReading.string_head, specs.declared.decoded.Decoded.Decoded}
+use Rattle.yq_documents.specs.Decoded.{borrowed_head, decoded_or, decoded_flow, decoded_head, decoded_view, decoded_head_flow}
+use Rattle.yq_documents.specs.declared.decoded.Decoded.{Decoded}
 use Rattle.yq_compose.{specs.Named.flow_names, proofs.RowContents.lines_at}
 use Rattle.yq_documents.specs.declared.decoded.DecodedHead as kept
-use Rattle.yq_outline.specs.declared.line.Head as heads
 
 with-append : (a : Option (List ℕ)) (xs ys : List Name) → anchor_names a (xs ++ ys) ≡ anchor_names a xs ++ ys
 with-append None xs ys = refl
@@ -43,19 +40,10 @@ names_all all names rs i past so_far = sym (append-nil names) ∙ (ap (λ (x : L
 
 -- the names in a head are those in what is made of it
 borrowed_named : (h : List ℕ) → head_names (borrowed_head h) ≡ []
-borrowed_named h = go (is_empty h) (is_quoted h)
-  where
-    go : (a b : Bool) → head_names (cond a None (cond b (string_head (borrowed_text h)) (Some (scalar_node (plain_of h))))) ≡ []
-    go true b = refl
-    go false true = refl
-    go false false = refl
+borrowed_named h = search rules
 
 decoded_named : (o : Option kept.DecodedHead) (h : List ℕ) → head_names (decoded_or (option_map decoded_view o) (borrowed_head h)) ≡ flow_names (option_and_then decoded_head_flow o)
-decoded_named None h = borrowed_named h
-decoded_named (Some (kept.TheVariants.Owned heads.TheVariants.Nothing)) h = refl
-decoded_named (Some (kept.TheVariants.Owned (heads.TheVariants.Scalar kind text))) h = refl
-decoded_named (Some (kept.TheVariants.Owned (heads.TheVariants.Inline node))) h = refl
-decoded_named (Some (kept.TheVariants.Borrowed node)) h = refl
+decoded_named o h = search (rules, borrowed_named)
 
 pub flow_named : (m : Option Decoded) (h : List ℕ) → head_names (decoded_head m h) ≡ flow_names (decoded_flow m)
 flow_named None h = borrowed_named h

@@ -1,13 +1,11 @@
 -- The names of the code, one by one.
-use Rattle.std.proofs.Common.{◌≡◌, ℕ, ◌+◌, ◌<◌, List, ◌∷◌, length, drop, get_or, ap, ◌∙◌, [], ◌++◌, sym, append_assoc, String, Bor, Option}
-use Rattle.std.{proofs.Common.{Some, None, option_map, refl}, proofs.lemmas.List.drop_more, specs.declared.alloc.Global.Global}
-use Rattle.yq_core.{specs.Anchors.{Name, names_in, names_of, anchor_names}, specs.declared.piece.Piece.Piece}
-use Rattle.yq_core.specs.View.{entries_end, items_end, inline_view, anchor_name, form_view}
-use Rattle.yq_core.{specs.Trees.{parts_tree, placed_tree, with_anchor_name}, specs.declared.inline.Inline.Inline}
-use Rattle.yq_core.{specs.declared.inline.Form.TheFolds.the_lemmas, specs.Places.name}
+use Rattle.std.proofs.Common.{rules, ◌≡◌, ℕ, ◌+◌, ◌<◌, List, ◌∷◌, length, drop, get_or, ap, ◌∙◌, ◌++◌, sym, append_assoc, String}
+use Rattle.std.{proofs.lemmas.List.drop_more, specs.declared.alloc.Global.Global}
+use Rattle.yq_core.{specs.Anchors.{Name, names_in, names_of}, specs.declared.piece.Piece.Piece}
+use Rattle.yq_core.{specs.View.{entries_end, items_end, inline_view}, specs.Trees.{parts_tree, placed_tree, with_anchor_name}}
+use Rattle.yq_core.specs.declared.inline.Inline.{Inline}
 use Rattle.yq_compose.specs.Named.{name_view, all_named}
 use Rattle.yq_compose.specs.declared.names.Name as declared
-use Rattle.yq_core.specs.declared.inline.Form as forms
 
 -- the name at a place, before those after it
 pub named_at : (ns : List declared.Name) (i : ℕ) (d : declared.Name) (n : Name) → i < length ns → name_view (get_or ns i d) ≡ n → all_named (drop i ns) ≡ n ∷ all_named (drop (i + 1) ns)
@@ -23,26 +21,11 @@ first_of xs i x within is = drop_more xs i x within ∙ ap (λ y. y ∷ drop (i 
 pub items_named : (is : List Inline) (i : ℕ) (x : Inline) (old new all : List Name) → i < length is → x ≡ get_or is i x → new ≡ old ++ names_of
     (placed_tree (inline_view x)) → old ++ names_in (parts_tree (items_end (drop i is))) ≡ all →
     new ++ names_in (parts_tree (items_end (drop (i + 1) is))) ≡ all
-items_named is i x old new all within at with_anchor_name so_far =
-    let rest = names_in (parts_tree (items_end (drop (i + 1) is))) in
-    ap (λ l. l ++ rest) with_anchor_name
-    ∙ (append_assoc old (names_of (placed_tree (inline_view x))) rest ∙ (ap (λ js. old ++ names_in (parts_tree (items_end js))) (sym (first_of is i x within at))
-    ∙ so_far))
+items_named is i x old new all within at with_anchor_name so_far = search (rules, append_assoc, first_of)
 
 pub entries_named : (es : List Field) (i : ℕ) (e : Field) (old new all : List Name) → i < length es → e ≡ get_or es i e → new ≡ old ++ names_of
     (placed_tree (inline_view e.2)) → old ++ names_in (parts_tree (entries_end (drop i es))) ≡ all →
     new ++ names_in (parts_tree (entries_end (drop (i + 1) es))) ≡ all
-entries_named es i e old new all within at with_anchor_name so_far =
-    let rest = names_in (parts_tree (entries_end (drop (i + 1) es))) in
-    ap (λ l. l ++ rest) with_anchor_name
-    ∙ (append_assoc old (names_of (placed_tree (inline_view e.2))) rest ∙ (ap (λ js. old ++ names_in (parts_tree (entries_end js)))
-    (sym (first_of es i e within at)) ∙ so_far))
+entries_named es i e old new all within at with_anchor_name so_far = search (rules, append_assoc, first_of)
 
 -- ---- a node, by its form
-
-alias_is : (a : Bor (List ℕ)) → form_view (forms.TheVariants.Alias a) ≡ name a.now
-alias_is a = simp (the_lemmas) refl
-
-anchor_is : (a : Option (Bor (List ℕ))) (names : List Name) → anchor_names (anchor_name a) names ≡ anchor_names (option_map (λ x. x.now) a) [] ++ names
-anchor_is None names = refl
-anchor_is (Some a) names = refl

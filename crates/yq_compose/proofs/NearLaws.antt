@@ -1,8 +1,8 @@
 -- Aliases, each with an anchor of its name before it.
-use Rattle.std.proofs.Common.{◌≡◌, ℕ, zero, suc, ◌+◌, ◌<◌, ◌≤◌, List, [], ◌∷◌, length, drop, get_or, Some, Bool, true, ◌||◌, ◌&&◌, refl}
-use Rattle.std.{proofs.Common.{sym, ap, ◌∙◌, bytes_eq, arith, inl, inr, rules}, proofs.Math.Bool.or-true}
-use Rattle.std.{proofs.lemmas.Bool.{cases_lt, false≢true}, proofs.lemmas.Option.{same_Some, slice_get-get_or, slice_get-map}}
-use Rattle.std.{proofs.lemmas.Slice.Eq.bytes_eq-Decides, specs.List.{list_any, slice_get}, specs.Prelude.option_map}
+use Rattle.std.proofs.Common.{⊎_elim, ◌≡◌, ℕ, zero, suc, ◌+◌, ◌<◌, ◌≤◌, List, [], ◌∷◌, length, drop, get_or, Some, true, refl, ap, ◌∙◌}
+use Rattle.std.{proofs.Common.{bytes_eq, arith, rules}, proofs.Math.Bool.or-true, proofs.lemmas.Bool.{cases_lt, false≢true}}
+use Rattle.std.{proofs.lemmas.Option.{same_Some, slice_get-get_or, slice_get-map}, proofs.lemmas.Slice.Eq.bytes_eq-Decides}
+use Rattle.std.{specs.List.{list_any, slice_get}, specs.Prelude.option_map}
 use Rattle.yq_outline.{proofs.EndsLaws.drop_at, specs.LinesReading.are_bound}
 use Rattle.yq_core.specs.Anchors.{Name, Anchors, Refers}
 use Rattle.yq_compose.specs.Named.{all_named, name_view}
@@ -28,28 +28,10 @@ pub equal_names : (a b : List ℕ) → bytes_eq a b ≡ true → a ≡ b
 equal_names a b h = search (rules, bytes_eq-Decides, false≢true)
 
 pub bound_anchor : (ns : List Name) (at : ℕ) (a : List ℕ) → slice_get ns at ≡ Some (Anchors a) → IsBoundTo ns at → IsBoundTo ns (at + 1)
-bound_anchor ns at a is b = record {
-  known = a ∷ b.known;
-  holds = λ i q lt here. elim (cases_lt i at) [
-    | inl before ↦ ap (λ (x : Bool). bytes_eq q a || x) (b.holds i q before here) ∙ or-true (bytes_eq q a)
-    | inr later ↦ (let same : Anchors a ≡ Anchors q = same_Some _ _ (sym is ∙ (ap (slice_get ns) (let e : at ≡ i = omega (arith, lt, later) in e) ∙ here)) in
-        ap (λ (x : Bool). x || list_any (bytes_eq q) b.known) (ap (bytes_eq q) (anchor_name same) ∙ equal_self q))
-  ];
-  so_far = b.so_far ∙ ap (are_bound b.known) (drop_at ns at (Anchors a) is);
-}
-  where
-    anchor_name : {x y : List ℕ} → Anchors x ≡ Anchors y → x ≡ y
-    anchor_name e = cc
+bound_anchor ns at a is b = search (rules, ⊎_elim, cases_lt, or-true, same_Some, equal_self, drop_at, b.holds)
 
 pub bound_alias : (ns : List Name) (at i : ℕ) (a : List ℕ) → slice_get ns at ≡ Some (Refers a) → i < at → slice_get ns i ≡ Some (Anchors a) → IsBoundTo ns at → IsBoundTo ns (at + 1)
-bound_alias ns at i a is before anchor b = record {
-  known = b.known;
-  holds = λ j q lt here. elim (cases_lt j at) [
-    | inl earlier ↦ b.holds j q earlier here
-    | inr later ↦ absurd (let same : Refers a ≡ Anchors q = same_Some _ _ (sym is ∙ (ap (slice_get ns) (let e : at ≡ j = omega (arith, lt, later) in e) ∙ here)) in cc)
-  ];
-  so_far = b.so_far ∙ (ap (are_bound b.known) (drop_at ns at (Refers a) is) ∙ ap (λ (x : Bool). x && are_bound b.known (drop (at + 1) ns)) (b.holds i a before anchor));
-}
+bound_alias ns at i a is before anchor b = search (rules, ⊎_elim, cases_lt, same_Some, drop_at, b.holds)
 
 drop_none : (ns : List Name) (n : ℕ) → length ns ≤ n → drop n ns ≡ []
 drop_none [] zero h = refl

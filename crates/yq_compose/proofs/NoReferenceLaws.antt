@@ -1,7 +1,7 @@
 -- Where no alias is in what is made of rows, none is in their lines.
+use Rattle.std.proofs.lemmas.Bool.{or_parts}
 use Rattle.std.proofs.Common.{◌≡◌, ℕ, suc, ◌+◌, eqb, Bool, true, false, cond, ◌||◌, List, [], ◌∷◌, ◌++◌, Option, Some, None, refl, sym, ap}
-use Rattle.std.{proofs.Common.◌∙◌, proofs.lemmas.Bool.false≢true, proofs.lemmas.List.Folds.list_any-append}
-use Rattle.std.specs.List.{list_any, slice_get}
+use Rattle.std.{proofs.Common.◌∙◌, proofs.lemmas.List.Folds.list_any-append, specs.List.{list_any, slice_get}}
 use Rattle.yq_core.specs.Anchors.{Name, anchor_names}
 use Rattle.yq_outline.{specs.Names.{head_names, is_reference, line_names}, specs.Lines.{content_anchor, head_of, lines_of_rows}}
 use Rattle.yq_outline.{specs.declared.line_position.Stretch.Stretch, proofs.WalkLevels.names_row}
@@ -9,10 +9,6 @@ use Rattle.yq_row_table.{specs.Rows.Row, specs.View.{RowsView, slices}}
 use Rattle.yq_documents.{specs.Decoded.{decoded_at, decoded_flow}, specs.declared.decoded.Decoded.Decoded}
 use Rattle.yq_compose.{specs.Checking.{IsCheckable, decoded_refers, some_refer}, specs.Named.flow_names, proofs.HeadViewLaws.row_in_cut}
 use Rattle.yq_compose.proofs.NameRows.{flow_named}
-
-or_parts : (a b : Bool) → (a || b) ≡ false → (a ≡ false) × (b ≡ false)
-or_parts true b e = absurd (false≢true (sym e))
-or_parts false b e = (refl, e)
 
 abbrev RefersNot : Option Decoded → Type 0
 RefersNot o = list_any is_reference (flow_names (decoded_flow o)) ≡ false

@@ -1,5 +1,5 @@
 -- Where the documents of a text are among its rows is given by where its parts end.
-use Rattle.std.proofs.Common.{◌≡◌, ℕ, zero, suc, ◌+◌, ◌≤◌, Bool, true, false, ◌||◌, not, ltb, List, [], ◌∷◌, ◌++◌, length, drop, map}
+use Rattle.std.proofs.Common.{rules, ◌≡◌, ℕ, zero, suc, ◌+◌, ◌≤◌, Bool, true, false, ◌||◌, not, List, [], ◌∷◌, ◌++◌, length, drop, map}
 use Rattle.std.proofs.Common.{Option, Some, refl, sym, ap, ◌∙◌, arith, append_assoc, append-nil, length-append}
 use Rattle.std.{proofs.lemmas.Bool.{cond-false, cond-true, le-ltb, lt-ltb}, proofs.lemmas.List.{drop_all, length-map}}
 use Rattle.std.{proofs.lemmas.Option.{same_Some, slice_get-map}, specs.List.slice_get, specs.Prelude.option_map}
@@ -10,7 +10,7 @@ use Rattle.yq_documents.{specs.Documents.{begins_bare, has_begin, parts_from}, s
 use Rattle.yq_documents.{specs.Reading.cut_of, specs.PartNumbers.{number_from, rows_to}, specs.declared.documents.DocumentRows.DocumentRows}
 use Rattle.yq_documents.proofs.BeginLaws.{document_is}
 use Rattle.yq_compose.specs.Decoding.{IsCutInto}
-use Rattle.yq_compose.specs.Places.{AreLocated, all_document_rows, gap_before_row, gap_or, part_row, document_view, documents_view}
+use Rattle.yq_compose.specs.Places.{AreLocated, all_document_rows, gap_before_row, part_row, document_view, documents_view}
 
 -- the gap in front of rows that come after others
 get_seam : (xs : List Row) (r : Row) (ys : List Row) → slice_get (xs ++ (r ∷ ys)) (length xs) ≡ Some r
@@ -18,11 +18,7 @@ get_seam [] r ys = refl
 get_seam (x ∷ xs) r ys = get_seam xs r ys
 
 gap_there : (all xs rs more : List Row) (end marker : List ℕ) → all ≡ xs ++ (rs ++ more) → gap_before_row (map slices all) (length xs) (record { rows = length xs + length rs; end = end; marker = marker }) ≡ gap_of rs end
-gap_there all xs [] more end marker is = cond-false (ltb (length xs) (length xs + 0)) (gap_or (slice_get (map slices all) (length xs)) end) end (le-ltb (length xs) (length xs + 0) (omega arith))
-gap_there all xs (r ∷ rs) more end marker is =
-    cond-true (ltb (length xs) (length xs + suc (length rs))) (gap_or (slice_get (map slices all) (length xs)) end) end (lt-ltb (length xs) (length xs + suc (length rs)) (omega arith))
-    ∙ ap (λ (o : Option Slices). gap_or o end)
-    (slice_get-map slices all (length xs) ∙ (ap (λ (l : List Row). option_map slices (slice_get l (length xs))) is ∙ ap (option_map slices) (get_seam xs r (rs ++ more))))
+gap_there all xs rs more end marker is = search (rules, cond-false, le-ltb, cond-true, lt-ltb, slice_get-map, get_seam)
 
 -- where a document is, and the gap that its lead ends
 abbrev StandAt : ℕ → Bool → ℕ → Cut → Part → ℕ × ℕ × List ℕ
@@ -33,11 +29,7 @@ HasStand all k is n c p = slice_get (all_document_rows (map slices all) is k (bo
 
 agrees_here : (all xs : List Row) (q p : Part) (k : ℕ) (more : List Row) (marker : List ℕ) → q ≡ p → k ≡ length xs → all ≡ xs ++ (q.rows ++ more) →
     ◌≡◌ {A = ℕ × ℕ × List ℕ} (k, k + length q.rows, gap_before_row (map slices all) k (record { rows = k + length q.rows; end = q.end; marker = marker })) (k + 0, k + 0 + length p.rows, gap_of p.rows p.end)
-agrees_here all xs q p k more marker same at is =
-    let zero_is : k ≡ k + 0 = omega arith in
-    let gap : gap_before_row (map slices all) k (record { rows = k + length q.rows; end = q.end; marker = marker }) ≡ gap_of q.rows q.end =
-    ap (λ (j : ℕ). gap_before_row (map slices all) j (record { rows = j + length q.rows; end = q.end; marker = marker })) at ∙ gap_there all xs q.rows more q.end marker is in
-    λ i. (zero_is i, zero_is i + length (same i).rows, (gap ∙ ap (λ (x : Part). gap_of x.rows x.end) same) i)
+agrees_here all xs q p k more marker same at is = search (rules, gap_there)
 
 agrees_sum : (k m n : ℕ) (p : Part) → ◌≡◌ {A = Option (ℕ × ℕ × List ℕ)} (Some (k + m + n, k + m + n + length p.rows, gap_of p.rows p.end)) (Some (k + (m + n), k + (m + n) + length p.rows, gap_of p.rows p.end))
 agrees_sum k m n p =

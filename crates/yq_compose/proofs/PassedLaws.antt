@@ -1,6 +1,6 @@
 -- What is passed of flow collections is of the grammar.
 use Rattle.std.proofs.Common.{◌≡◌, ℕ, zero, suc, ◌+◌, ◌≤◌, ◌<◌, Bool, true, false, not, ◌&&◌, List, [], ◌∷◌, ◌++◌, length, drop, Option}
-use Rattle.std.{proofs.Common.{Some, refl, sym, ap, ◌∙◌, subst, arith, length-append, map, Bor}, proofs.lemmas.Bool.and_from}
+use Rattle.std.{proofs.Common.{Some, refl, sym, ap, ◌∙◌, subst, arith, length-append}, proofs.lemmas.Bool.and_from}
 use Rattle.std.proofs.lemmas.Option.{same_Some}
 use Rattle.yq_core.{specs.Borrowed.{borrows_items, borrows_node, borrows_text}, specs.Gaps.IsInlineGap}
 use Rattle.yq_core.specs.Keys.{are_distinct, each_has_unique_keys, has_unique_keys, keys_of}
@@ -162,8 +162,3 @@ entry_passed n d t c v m r rest more le key p sep a =
     let left : k.0.1 ≡ v = ap (λ (x : List ℕ × List ℕ). x.1) pair in
     subst (λ (x : List ℕ). ArePassedParts d 125 (x ∷ more) t rest) (sym key.means)
     (keyed_passed n d k.0.0 t v m r rest key.key more (taken.0 ∙ ap (key_text k.0.0) left) (subst (IsInlineKey 125 k.0.0) left taken.1) piece key.borrowed key.fit le p sep a)
-
--- one key more
-pub keys_more : (ks : List (Bor (List ℕ))) (k : Bor (List ℕ)) (more : List (List ℕ)) → map (λ x. x.now) (ks ++ k ∷ []) ++ more ≡ map (λ x. x.now) ks ++ (k.now ∷ more)
-keys_more [] k more = refl
-keys_more (x ∷ ks) k more = ap (λ l. x.now ∷ l) (keys_more ks k more)

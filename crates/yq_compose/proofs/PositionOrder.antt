@@ -1,7 +1,7 @@
 -- In which order lines are by their rows.
-use Rattle.std.proofs.Common.{◌≡◌, ◌⊎◌, inl, inr, ℕ, suc, ◌+◌, ◌-◌, ◌<◌, ◌≤◌, true, length, take, Some, sym, ap, ◌∙◌, arith, refl, drop}
-use Rattle.std.{proofs.lemmas.Bool.{cases_lt, false≢true}, proofs.lemmas.Option.{same_Some, slice_get_within}, specs.List.slice_get}
-use Rattle.std.specs.Prelude.{is_some}
+use Rattle.std.proofs.Common.{rules, ◌≡◌, ◌⊎◌, inl, inr, ℕ, suc, ◌+◌, ◌-◌, ◌<◌, ◌≤◌, true, length, take, Some, sym, ap, ◌∙◌, arith, refl}
+use Rattle.std.{proofs.Common.drop, proofs.lemmas.Bool.{cases_lt, false≢true}, proofs.lemmas.Option.{same_Some, slice_get_within}}
+use Rattle.std.{specs.List.slice_get, specs.Prelude.is_some}
 use Rattle.yq_outline.{specs.Ends.IsEndOf, specs.Outline.Line, proofs.LineEnds.end_agrees, specs.Lines.lines_of_rows}
 use Rattle.yq_outline.{specs.Extents.lines_before_mark, specs.RowWalk.{HasRows, IsLine, IsPosition, deeper_rows, line_level, line_number}}
 use Rattle.yq_outline.{specs.declared.line_position.Position.Position, specs.declared.line_position.Stretch.Stretch}
@@ -37,14 +37,7 @@ row_later s d h q e at to less last = go (cases_lt q.row e.row)
 -- a line with a head is the last one of its row
 pub head_last : (s : RowsView) (d : Stretch) (h : HasRows s d) (q : Position) (at : IsLine s d q) (l : Line) →
     slice_get (lines_of_rows h.rows) (line_number d h.rows q) ≡ Some l → true ≡ is_some l.head → q.line ≡ length (located s d h q at).row.dashes
-head_last s d h q at l is some = go (cases_lt q.line (length (located s d h q at).row.dashes))
-  where
-    go : (q.line < length (located s d h q at).row.dashes) ⊎ (length (located s d h q at).row.dashes ≤ q.line) → q.line ≡ length (located s d h q at).row.dashes
-    go (inl less) =
-        let k = located s d h q at in
-        let own : k.line ≡ l = same_Some _ _ (sym k.is ∙ is) in
-        absurd (false≢true (ap is_some (sym (k.agrees.dash less).1 ∙ ap (λ (y : Line). y.head) own) ∙ sym some))
-    go (inr past) = omega (arith, past, (located s d h q at).within)
+head_last s d h q at l is some = search (rules, cases_lt, located, same_Some, false≢true)
 
 -- a line under which there are none is the last one of its row
 pub last_alone : (s : RowsView) (d : Stretch) (h : HasRows s d) (q e : Position) (at : IsLine s d q) → line_number d h.rows e ≡ line_number d h.rows q + 1 → IsEndOf (lines_of_rows h.rows) (line_number d h.rows q) (line_number d h.rows e) →

@@ -1,5 +1,5 @@
 -- Lines of a document, each with how deep it is.
-use Rattle.std.proofs.Common.{◌≡◌, ℕ, ◌+◌, ◌*◌, ◌%◌, ◌≤◌, eqb, List, Option, Some, None, true, false, not, refl, sym, ap, ◌∙◌, arith}
+use Rattle.std.proofs.Common.{rules, ◌≡◌, ℕ, ◌+◌, ◌*◌, ◌%◌, ◌≤◌, eqb, List, Option, Some, None, true, false, not, refl, sym, ap, ◌∙◌, arith}
 use Rattle.std.{proofs.lemmas.Bool.{eq-eqb, eqb-true, false≢true, le-ltb, ne_eqb, not-false}, proofs.lemmas.Option.same_Some}
 use Rattle.std.{specs.List.slice_get, specs.Prelude.is_some}
 use denote.Bor.{Bor}
@@ -26,13 +26,7 @@ reached_end ms s d q left ahead at past = record {
 pub reached_line : (ms : List Decoded) (s : RowsView) (d : Stretch) (q : Position) (left : Bor (List Decoded)) → IsAhead ms q.row left.now →
     IsLine s d q → (n : ℕ) → ((x : Slices) → slice_get s.rows q.row ≡ Some x → n ≡ line_level q.line x) →
     IsReached ms s d (record { position = q; level = n; decoded = left })
-reached_line ms s d q left ahead at n agrees = record {
-  position = line_position s d q at;
-  some = λ p. at.upto;
-  agrees = λ p. level_agrees s d q at n agrees;
-  deeper = λ floor h. deeper_agrees s d h q n floor at agrees;
-  decoded = ahead;
-}
+reached_line ms s d q left ahead at n agrees = search (rules, line_position, level_agrees, deeper_agrees)
 
 -- what a line begins with is given by how deep it is
 bare_mark : (column n : ℕ) (m : LineMark) → n ≡ 3 * column + rank m → eqb (n % 3) 1 ≡ has_no_mark m

@@ -1,9 +1,8 @@
 -- What is known of the rows of a document that is checked.
-use Rattle.std.{proofs.Common.{◌≡◌, ℕ, ◌<◌, ◌≤◌, List, length, Some, refl, sym, ap, ◌∙◌, arith}, specs.List.slice_get}
+use Rattle.std.{proofs.Common.{◌≡◌, ℕ, ◌<◌, ◌≤◌, List, length, Some, sym, ap, ◌∙◌, arith}, specs.List.slice_get}
 use Rattle.yq_core.specs.Scalars.{scalar_content}
 use Rattle.yq_row_table.{specs.Rows.Row, specs.View.{Slices, slices, RowsView, rows_of}}
-use Rattle.yq_outline.{specs.RowWalk.{HasRows, IsLine, IsPosition}, specs.declared.line_position.Position.Position}
-use Rattle.yq_outline.specs.declared.line_position.Stretch.{Stretch}
+use Rattle.yq_outline.{specs.RowWalk.IsLine, specs.declared.line_position.Position.Position, specs.declared.line_position.Stretch.Stretch}
 use Rattle.yq_documents.{specs.Decoded.{IsDecodedBy, decoded_at, decoded_key}, specs.declared.decoded.Decoded.Decoded}
 use Rattle.yq_compose.{specs.Checking.IsCheckable, proofs.LineLevelLaws.row_there}
 
@@ -27,7 +26,3 @@ key_agrees t s ms d ready i x there =
 -- the first line of a row is a line
 pub row_first_line : (s : RowsView) (d : Stretch) (row : ℕ) → d.first ≤ row → row < d.end → IsLine s d (record { row = row; line = 0 })
 row_first_line s d row from upto = record { from = from; upto = upto; line = λ x e. omega arith }
-
--- the first line of a document, or the end
-pub first_position : (s : RowsView) (d : Stretch) → HasRows s d → IsPosition s d (record { row = d.first; line = 0 })
-first_position s d h = record { from = omega arith; upto = h.order; line = λ x e. omega arith; last = λ e. refl }

@@ -1,7 +1,7 @@
 -- The rows of a document, one by one.
-use Rattle.std.proofs.Common.{◌≡◌, ℕ, zero, suc, ◌+◌, List, [], ◌∷◌, ◌++◌, drop, length, ◌≤◌, Option, Some, None, Bool, true, refl, ◌&&◌}
-use Rattle.std.{proofs.Common.{false, sym, ap, ◌∙◌, subst}, proofs.lemmas.Bool.false≢true, proofs.lemmas.List.drop_all}
-use Rattle.std.{proofs.lemmas.Option.same_Some, specs.List.slice_get, specs.Prelude.is_none}
+use Rattle.std.proofs.Common.{◌≡◌, ℕ, zero, suc, ◌+◌, List, [], ◌∷◌, ◌++◌, drop, Option, Some, None, Bool, true, refl, ◌&&◌, false, sym, ap}
+use Rattle.std.{proofs.Common.{◌∙◌, subst}, proofs.lemmas.Bool.false≢true, proofs.lemmas.Option.same_Some, specs.List.slice_get}
+use Rattle.std.specs.Prelude.{is_none}
 use Rattle.yq_outline.{specs.LinesReading.{have_one_anchor_each, is_free, may_take}, specs.Outline.Line, proofs.EndsLaws.drop_at}
 use Rattle.yq_outline.{specs.Lines.{content_anchor, lines_of_rows, row_lines}, proofs.WalkLevels.free_row}
 use Rattle.yq_row_table.{specs.Grammar.{AreRows, IsContent, Limit, limit_after}, specs.Rows.{Row, parent_indent}}
@@ -42,10 +42,3 @@ named_step rs i r free there some is = anchor_step rs i r there ∙ go (content_
 -- an anchor before the rows from one on, by the first line of that
 pub free_at : (rs : List Row) (i : ℕ) (r : Row) (l : Line) (a : List ℕ) → slice_get rs i ≡ Some r → slice_get (row_lines r) 0 ≡ Some l → is_free (Some a) (lines_of_rows (drop i rs)) ≡ may_take l.mark l.anchor l.head
 free_at rs i r l a there first = ap (is_free (Some a)) (lines_at rs i r there) ∙ first_of a (row_lines r) l (lines_of_rows (drop (i + 1) rs)) first
-
--- after the last row nothing is asked
-pub free_behind : (rs : List Row) (i : ℕ) (a : List ℕ) → length rs ≤ i → true ≡ is_free (Some a) (lines_of_rows (drop i rs))
-free_behind rs i a past = sym (ap (λ (x : List Row). is_free (Some a) (lines_of_rows x)) (drop_all i rs past))
-
-pub nothing_left : (rs : List Row) (i : ℕ) → length rs ≤ i → true ≡ have_one_anchor_each (lines_of_rows (drop i rs))
-nothing_left rs i past = sym (ap (λ (x : List Row). have_one_anchor_each (lines_of_rows x)) (drop_all i rs past))

@@ -1,6 +1,6 @@
 -- What the rows of a text spell is given by reading their heads again.
-use Rattle.std.proofs.Common.{◌≡◌, ℕ, ℤ, zero, suc, ◌<◌, ◌≤◌, Bool, true, false, List, [], ◌∷◌, ◌++◌, length, drop, get_or, Option, Some}
-use Rattle.std.proofs.Common.{None, refl, sym, ap, ◌∙◌, subst, arith, append_assoc, length-append}
+use Rattle.std.proofs.Common.{rules, ◌≡◌, ℕ, ℤ, zero, suc, ◌<◌, Bool, true, false, List, [], ◌∷◌, ◌++◌, length, drop, Option, Some, None}
+use Rattle.std.proofs.Common.{refl, sym, ap, ◌∙◌, subst, arith, append_assoc, length-append}
 use Rattle.std.{proofs.Math.Seq.{drop-append_seam, get_or-append_seam}, proofs.lemmas.Bool.{cond-false, false≢true}}
 use Rattle.std.{proofs.lemmas.List.length-map, proofs.lemmas.Option.{cond_some, slice_get-map}, proofs.lemmas.Str.IsCharBoundary-start}
 use Rattle.std.{specs.List.slice_get, specs.Prelude.option_map, specs.Str.{IsCharBoundary, IsUtf8}}
@@ -69,12 +69,7 @@ unlent_some [] e = absurd (false≢true (sym e))
 unlent_some (b ∷ bs) e = refl
 
 whole_there : (t before h more : List ℕ) (n : ℕ) → t ≡ before ++ (h ++ more) → n ≡ length before → is_empty h ≡ false → IsUtf8 h → IsCharBoundary t n
-whole_there t before [] more n is at some u = absurd (false≢true (sym some))
-whole_there t before (b ∷ h) more n is at some u =
-    let first : 128 ≤ b → 192 ≤ b = (IsCharBoundary-start (b ∷ h) u).1 (omega arith) in
-    let there : get_or (before ++ (b ∷ (h ++ more))) (length before) 0 ≡ b = get_or-append_seam before b (h ++ more) 0 in
-    subst (λ (x : List ℕ). IsCharBoundary x n) (sym is)
-    (subst (IsCharBoundary (before ++ (b ∷ (h ++ more)))) (sym at) (omega (arith, length-append before (b ∷ (h ++ more))), λ _ high. omega (arith, there, first (omega (arith, there, high)))))
+whole_there t before h more n is at some u = search (rules, false≢true, IsCharBoundary-start, get_or-append_seam, length-append)
 
 -- a row of a text
 module _ (t : List ℕ) (s : RowsView) (k : IsCutInto t s) (i : ℕ) (r : Row) (is : slice_get (rows_of (cut_of t)) i ≡ Some r) where

@@ -1,9 +1,9 @@
 -- Word rows: the text lends what they spell.
-use Rattle.std.proofs.Common.{◌≡◌, ℕ, zero, suc, ◌+◌, ◌-◌, ◌<◌, ◌≤◌, Bool, true, false, not, ◌||◌, ◌&&◌, List, [], ◌∷◌, drop, length, take}
-use Rattle.std.proofs.Common.{append-nil, eqb, eqb-true, get_or, Some, None, refl, sym, ap, ◌∙◌, subst, arith, inl, inr}
+use Rattle.std.proofs.Common.{⊎_elim, rules, ◌≡◌, ℕ, zero, suc, ◌+◌, ◌-◌, ◌<◌, ◌≤◌, Bool, true, false, not, ◌||◌, List, [], ◌∷◌, drop}
+use Rattle.std.proofs.Common.{length, take, append-nil, get_or, Some, None, refl, sym, ◌∙◌, subst, arith, inl, inr}
 use Rattle.std.{proofs.lemmas.Bool.{and_parts, false≢true, or_cases}, specs.List.slice_get}
-use Rattle.yq_core.{specs.Borrowed.borrows_text, specs.Plain.holds_break, specs.Runs.is_word_byte, specs.Scalars.is_quoted}
-use Rattle.yq_core.{specs.Text.{front, is_empty}, proofs.Bools.at_byte}
+use Rattle.yq_core.{specs.Borrowed.borrows_text, specs.Runs.is_word_byte, specs.Scalars.is_quoted, specs.Text.{front, is_empty}}
+use Rattle.yq_core.proofs.Bools.{at_byte}
 use Rattle.yq_row_table.{specs.Rows.Row, specs.View.{RowsView, Slices, rows_of, slices}}
 use Rattle.yq_row_table.specs.WordRows.{AreOtherRows, AreWordRows, borrows_quoted, is_word_head, is_word_key, is_word_row}
 use Rattle.yq_row_table.proofs.WordFronts.{word_unquoted}
@@ -19,35 +19,17 @@ no_break false h = refl
 no_break true h = absurd (false≢true h)
 
 quoted_no_tree : (h : List ℕ) → is_quoted h ≡ true → begins_tree h ≡ false
-quoted_no_tree [] quoted = refl
-quoted_no_tree (b ∷ bs) quoted = elim (or_cases (eqb b 34) (eqb b 39) quoted) [
-  | inl e ↦ rw (eqb-true b 34 e) refl
-  | inr e ↦ rw (eqb-true b 39 e) refl
-]
+quoted_no_tree h quoted = search (rules, ⊎_elim, or_cases)
 
 word_borrows : (h : List ℕ) → is_word_head h ≡ true → borrows_head h ≡ true
-word_borrows h is = elim (or_cases (is_empty h) ((front is_word_byte h && not (holds_break h)) || borrows_quoted h) is) [
-  | inl none ↦ no_head h none
-  | inr some ↦ elim (or_cases (front is_word_byte h && not (holds_break h)) (borrows_quoted h) some) [
-    | inl word ↦
-        let p = and_parts (front is_word_byte h) (not (holds_break h)) word in
-        rw (no_tree h p.0, no_break (holds_break h) p.1, word_unquoted h p.0) refl
-    | inr lent ↦
-        let p = and_parts (is_quoted h) (borrows_text h) lent in
-        ap (λ (x : Bool). not x && borrows_text h) (quoted_no_tree h p.0) ∙ p.1
-  ]
-]
+word_borrows h is = search (rules, ⊎_elim, or_cases, no_head, and_parts, no_tree, no_break, word_unquoted, quoted_no_tree)
 
 word_fits : (key : List ℕ) → front is_word_byte key ≡ true → key_fits key ≡ true
 word_fits [] word = refl
 word_fits (b ∷ bs) word = rw (at_byte is_word_byte b 60 word refl) refl
 
 quoted_fits : (key : List ℕ) → is_quoted key ≡ true → key_fits key ≡ true
-quoted_fits [] quoted = refl
-quoted_fits (b ∷ bs) quoted = elim (or_cases (eqb b 34) (eqb b 39) quoted) [
-  | inl e ↦ rw (eqb-true b 34 e) refl
-  | inr e ↦ rw (eqb-true b 39 e) refl
-]
+quoted_fits key quoted = search (rules, ⊎_elim, or_cases)
 
 -- What is made of the rows before those that are left.
 pub record OthersDecoded (t : List ℕ) (rows : List Slices) (left : List ℕ) (ms : List Decoded) : Type 0 where

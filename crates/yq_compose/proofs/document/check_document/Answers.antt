@@ -1,13 +1,13 @@
-use Rattle.std.proofs.Common.{ℕ, ◌&&◌, sym, ap, ◌∙◌}
+use Rattle.std.proofs.Common.{ℕ, ◌&&◌, sym, ap, ◌∙◌, refl, arith}
 use Rattle.yq_core.specs.Inline.{depth_limit}
 use Rattle.yq_outline.{specs.Ends.part, specs.LinesReading.lines_are_sound, specs.Sound.is_sound_outline}
 use Rattle.yq_outline.{proofs.NameLaws.{lines_named, lines_unsound}, specs.Lines.lines_of_rows, specs.RowWalk.line_number}
 use Rattle.yq_outline.proofs.WalkPositions.{first_number}
-use Rattle.yq_compose.{proofs.DecidingLaws.{decides_as, denies_as}, proofs.HeadsApart.heads_apart, proofs.ReadyLaws.first_position}
+use Rattle.yq_compose.{proofs.DecidingLaws.{decides_as, denies_as}, proofs.HeadsApart.heads_apart}
 use Rattle.yq_compose.proofs.document.check_document.Goals as goal
 
 pub with_level-start-requires-clause-position : goal.with_level-start-requires-clause-position
-with_level-start-requires-clause-position c = first_position c.args.x.rows.now c.args.x.document c.requires.ready.document
+with_level-start-requires-clause-position c = record { from = omega arith; upto = c.requires.ready.document.order; line = λ x e. omega arith; last = λ e. refl }
 
 pub ahead_from-requires : goal.ahead_from-requires
 ahead_from-requires c = c.requires.ready.rise

@@ -1,18 +1,20 @@
-use Rattle.std.{proofs.Common.{◌-◌, drop, inl, refl, sym, ◌∙◌, subst, arith}, proofs.lemmas.Result.IfOk-weaker}
-use Rattle.yq_outline.{specs.Ends.{has_no_lines, part}, specs.Sound.is_sound_outline, proofs.EndsLaws.{is_at_end, not_end}}
+use Rattle.std.{proofs.Common.{◌-◌, drop, inl, refl, sym, ◌∙◌, subst, arith}, proofs.lemmas.Result.IfOk-weaker, proofs.lemmas.Bool.ne_eqb}
+use Rattle.yq_outline.{specs.Outline.level, specs.Ends.{has_no_lines, part}, specs.Sound.is_sound_outline}
+use Rattle.yq_outline.proofs.EndsLaws.{is_at_end, not_end}
 use Rattle.yq_outline.proofs.EntryLaws.{start_asked, start_deep, start_bare, one_fails, one_passes, no_more}
 use Rattle.yq_outline.{proofs.KeyLaws.distinct_agrees, proofs.LineEnds.end_counted, proofs.SoundLaws.{IsEntryLevel, entry_level}}
 use Rattle.yq_outline.{specs.Lines.lines_of_rows, specs.RowWalk.line_number, proofs.WalkPositions.{located, position_line}}
+use Rattle.yq_documents.proofs.NodeLines.{bare_mark}
 use Rattle.yq_compose.{proofs.DecidingLaws.{decides_as, denies_as}, specs.Keys.key_texts}
 use Rattle.yq_compose.proofs.KeysLaws.{all_stay, more_own, more_stay, none_own}
 use Rattle.yq_compose.proofs.GivesLaws.{gives_all, gives_alone, gives_end, gives_none, moved_on, stop_same}
-use Rattle.yq_compose.proofs.UnderLaws.{alone_sound, bare_is, both_there, entry_is, none_sound, other_level, under_sound}
+use Rattle.yq_compose.proofs.UnderLaws.{alone_sound, both_there, entry_is, none_sound, under_sound}
 use Rattle.yq_compose.proofs.sound.+sound.Goals as goal
 
 -- a line
 pub check_line-returns-then-level-n-clause-sound : goal.check_line-returns-then-level-n-clause-sound
 check_line-returns-then-level-n-clause-sound t c = λ r l is.
-    let h = r.document in other_level c.args.depth c.args.n l _ (λ same. c.if-level-n.true (c.requires.at.agrees c.requires.line.upto h l is ∙ same))
+    let h = r.document in (rw (ne_eqb (level l) c.args.n (λ same. c.if-level-n.true (c.requires.at.agrees c.requires.line.upto h l is ∙ same))) refl)
 
 pub check_line-returns-in-Err-clause-sound : goal.check_line-returns-in-Err-clause-sound
 check_line-returns-in-Err-clause-sound t c = λ r l is.
@@ -84,7 +86,8 @@ check_lines-returns-then-is_bare-clause-sound t c = λ r.
     let h = r.document in
     let k = located c.args.x.rows.now c.args.x.document h c.args.start.position (position_line c.args.x.rows.now c.args.x.document c.args.start.position c.requires.start.position (c.if-not-is_deeper.ensures.some refl)) in
     decides_as c.check_bare.result _ _
-    (sym (start_bare (lines_of_rows h.rows) (line_number c.args.x.document h.rows c.args.start.position) c.args.floor c.args.depth k.line k.is (c.if-not-is_deeper.ensures.test h) (bare_is k.line.mark (c.if-is_bare.ensures h k.line k.is))))
+    (sym (start_bare (lines_of_rows h.rows) (line_number c.args.x.document h.rows c.args.start.position) c.args.floor c.args.depth k.line k.is
+    (c.if-not-is_deeper.ensures.test h) (bare_mark k.line.mark (c.if-is_bare.ensures h k.line k.is))))
     (c.check_bare.ensures.sound r k.line k.is)
 
 pub check_lines-returns-then-depth-eq0-clause-sound : goal.check_lines-returns-then-depth-eq0-clause-sound

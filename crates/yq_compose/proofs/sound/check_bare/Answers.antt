@@ -1,13 +1,12 @@
-use Rattle.std.{proofs.Common.{◌+◌, sym, ap, ◌∙◌}, specs.Prelude.is_some}
+use Rattle.std.{proofs.Common.{◌+◌, sym, ap, ◌∙◌, refl}, specs.Prelude.is_some}
 use Rattle.yq_outline.{specs.Ends.{has_no_lines, part}, specs.Sound.head_is_sound, proofs.EndsLaws.{is_at_end, not_end}}
 use Rattle.yq_outline.{specs.Lines.lines_of_rows, specs.RowWalk.line_number}
-use Rattle.yq_compose.{proofs.DecidingLaws.denies_as, proofs.GivesLaws.gives_bare}
-use Rattle.yq_compose.proofs.UnderLaws.{bare_fails, bare_head, bare_passes, bare_under}
+use Rattle.yq_compose.{proofs.DecidingLaws.denies_as, proofs.GivesLaws.gives_bare, proofs.UnderLaws.{bare_head, bare_passes, bare_under}}
 use Rattle.yq_compose.proofs.sound.check_bare.Goals as goal
 
 pub returns-then-not-has_head-clause-sound : goal.returns-then-not-has_head-clause-sound
 returns-then-not-has_head-clause-sound c = λ r l is.
-    let h = r.document in bare_fails _ _ _ (sym (c.if-not-has_head.ensures h l is))
+    let h = r.document in (rw (sym (c.if-not-has_head.ensures h l is)) refl)
 
 pub returns-then-is_deeper-clause-sound : goal.returns-then-is_deeper-clause-sound
 returns-then-is_deeper-clause-sound c = λ r l is.
