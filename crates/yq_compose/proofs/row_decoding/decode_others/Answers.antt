@@ -1,4 +1,4 @@
-use Rattle.std.proofs.Common.{ℕ, suc, get_or, length, arith, subst, rules}
+use Rattle.std.proofs.Common.{ℕ, suc, get_or, length, arith, subst}
 use Rattle.yq_row_table.specs.View.{rows_of}
 use Rattle.yq_documents.{specs.Reading.{cut_of, have_fit_keys}, specs.RowReading.row_fits}
 use Rattle.yq_compose.{proofs.AllOf.all_fails, proofs.DecidingLaws.denies_as, proofs.WordRowLaws.{next_other, no_other}}
@@ -7,7 +7,12 @@ use Rattle.yq_compose.proofs.RowsRead.{row_at, rows_count}
 use Rattle.yq_compose.proofs.row_decoding.decode_others.Goals as goal
 
 pub rows-init : goal.rows-init
-rows-init c = search (rules, decoded_start)
+rows-init c = record {
+  at = 0;
+  within = omega arith;
+  upto = decoded_start c.args.text.now c.in_ok-decoded.decoded.items c.in_ok-decoded.ensures.items;
+  others = c.requires.others;
+}
 
 pub decoded_of-requires-clause-within : goal.decoded_of-requires-clause-within
 decoded_of-requires-clause-within c = (next_other c.args.text.now c.args.rows.now c.requires.cut c.rows.left.now c.rows.decoded.items c.in-len1-up.len_at_least c.rows.invariant).0
