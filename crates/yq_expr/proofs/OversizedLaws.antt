@@ -7,7 +7,7 @@ use Rattle.yq_planner.{specs.ListSizes.HasSize, specs.declared.updating.list_siz
 use Rattle.yq_semantics.{specs.Judgement.{Judgement, and_then, gives}, specs.Places.FoundPlace}
 use Rattle.yq_semantics.{specs.Program.{Term, PathStep, key, index, each}, specs.RightValues.{is_null, as_items, sum, sum_from, term_value}}
 use Rattle.yq_expr.specs.Oversized.{size_limit, AddsItems, AreItemsOf, GivesList, StandsForOversized, HaveUtf8Keys, is_list, is_text}
-use Rattle.yq_expr.specs.Oversized.{IsTextOf, GivesText}
+use Rattle.yq_expr.specs.Oversized.{IsTextOf, GivesTextOf}
 use Rattle.yq_core.specs.Tree as tree
 use Rattle.yq_core.specs.declared.kind.Kind.TheVariants as kinds
 
@@ -50,7 +50,7 @@ too_large j size w h more small = (
 -- ---- texts
 
 -- a text with that of one term more, and others after it
-pub one_text_more : (doc : ℕ) (p : FoundPlace) (v : Node) (t : Term) (ts : List Term) (total length with_it : ℕ) → IsTextOf v total → GivesText (term_value doc p t) length → with_it ≤ total + length →
+pub one_text_more : (doc : ℕ) (p : FoundPlace) (v : Node) (t : Term) (ts : List Term) (total length with_it : ℕ) → IsTextOf v total → GivesTextOf (term_value doc p t) length → with_it ≤ total + length →
     (w : Node) × IsTextOf w with_it × (sum_from doc p w ts ≡ sum_from doc p v (t ∷ ts))
 one_text_more doc p v t ts total length with_it h k both =
     let text = h.0 in
@@ -61,7 +61,7 @@ one_text_more doc p v t ts total length with_it h k both =
     )
 
 -- the text of known length that a judgement gives is too large for a text, and an empty one stands for it
-pub too_long : (j : Judgement Node) (n : ℕ) → GivesText j n → size_limit + 2 < n → StandsForOversized j (scalar None kinds.Text [])
+pub too_long : (j : Judgement Node) (n : ℕ) → GivesTextOf j n → size_limit + 2 < n → StandsForOversized j (scalar None kinds.Text [])
 too_long j n h more =
     let t = h.2.0 in (
       scalar None kinds.Text t,

@@ -39,8 +39,8 @@ abbrev pub IsTextOf : Node → ℕ → Type 0
 IsTextOf v n = (t : List ℕ) × (v ≡ scalar None kinds.Text t) × IsUtf8 t × (n ≤ length t)
 
 -- a judgement gives such a text (own)
-abbrev pub GivesText : Judgement Node → ℕ → Type 0
-GivesText j n = (v : Node) × (j ≡ gives v) × IsTextOf v n
+abbrev pub GivesTextOf : Judgement Node → ℕ → Type 0
+GivesTextOf j n = (v : Node) × (j ≡ gives v) × IsTextOf v n
 
 -- how many half bytes a text may have, with a last break that it lacks (own)
 abbrev pub size_limit : ℕ
@@ -79,7 +79,7 @@ SumsFrom doc p first ts result = (cs : Children) → AreItemsOf cs first → IfA
 
 -- an answer is a length of the sum of a text of such a length and of terms (own)
 abbrev pub SumsTexts : ℕ → place.FoundPlace → ℕ → List term.Term → Result (Option ℕ) AllocError → Type 0
-SumsTexts doc p first ts result = (v : Node) → IsTextOf v first → IfAny result (GivesText (sum_from doc (place_of p) v (map term_of ts)))
+SumsTexts doc p first ts result = (v : Node) → IsTextOf v first → IfAny result (GivesTextOf (sum_from doc (place_of p) v (map term_of ts)))
 
 -- the keys of steps are UTF-8 (own)
 abbrev pub HaveUtf8Keys : List PathStep → Type 0

@@ -33,7 +33,6 @@ pub use yq_eval::{Match, matches};
 pub use yq_expr_parser::{ParseError, one_program, parse_expr};
 pub use yq_semantics::{
     Assignment, Comment, CommentPlace, Comparison, Condition, ExprError, Op, Operand, Operator,
-    PathStep, Program, Refusal, Stage, Syntax, Term, Update, changes_apart,
-    places_apart, plan_fits, plan_means, plan_refused, plan_rooms, rest_follows, rooms_alike,
-    rooms_ready,
+    PathStep, Program, Refusal, Stage, Syntax, Term, Update, changes_apart, places_apart,
+    plan_fits, plan_means, plan_refused, plan_rooms, rest_follows, rooms_alike, rooms_ready,
 };

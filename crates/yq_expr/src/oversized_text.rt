@@ -2,7 +2,7 @@
 ghost use Rattle.std.specs.Prelude.{◌≡◌, IfSome};
 ghost use Rattle.yq_core.specs.Values.{value_node};
 ghost use Rattle.yq_eval.{specs.PlaceView.place_of, specs.TreeScalars.HasScalars};
-ghost use Rattle.yq_expr.{specs.FixedPaths.IfAny, specs.Oversized.{GivesText, IsTextOf, SumsTexts}};
+ghost use Rattle.yq_expr.{specs.FixedPaths.IfAny, specs.Oversized.{GivesTextOf, IsTextOf, SumsTexts}};
 ghost use Rattle.yq_expr.specs.Oversized as spec;
 
 use crate::oversized::SIZE_LIMIT;
@@ -36,7 +36,7 @@ fn length_of_term<'a, 't>(
     place: &FoundPlace<'a, 't>,
 ) -> Result<Option<usize>, AllocError>
     requires { HasScalars (place_of place.now).node }
-    ensures { IfAny result (GivesText (spec.found_term doc place.now term.now)) }
+    ensures { IfAny result (GivesTextOf (spec.found_term doc place.now term.now)) }
 {
     match term_value(alloc, doc, term, place) {
         Ok(value) => Ok(text_length(&value)),
@@ -54,8 +54,8 @@ fn length_of_next<'a, 't>(
     place: &FoundPlace<'a, 't>,
 ) -> Result<Option<usize>, AllocError>
     requires place { HasScalars (place_of place.now).node }
-    requires last { GivesText (spec.found_term doc place.now last.0.now) last.1 }
-    ensures { IfAny result (GivesText (spec.found_term doc place.now term.now)) }
+    requires last { GivesTextOf (spec.found_term doc place.now last.0.now) last.1 }
+    ensures { IfAny result (GivesTextOf (spec.found_term doc place.now term.now)) }
 {
     if is_same_term(term, last.0) {
         return Ok(Some(last.1));
@@ -72,7 +72,7 @@ fn length_with_terms<'a, 't>(
     place: &FoundPlace<'a, 't>,
 ) -> Result<Option<usize>, AllocError>
     requires place { HasScalars (place_of place.now).node }
-    requires first { GivesText (spec.found_term doc place.now first.0.now) first.1 }
+    requires first { GivesTextOf (spec.found_term doc place.now first.0.now) first.1 }
     ensures { SumsTexts doc place.now first.entry.1 terms.now result }
 {
     let mut last = first;
@@ -95,7 +95,7 @@ fn length_of_sum<'a, 't>(
     place: &FoundPlace<'a, 't>,
 ) -> Result<Option<usize>, AllocError>
     requires { HasScalars (place_of place.now).node }
-    ensures { IfAny result (GivesText (spec.found_sum doc place.now terms.now)) }
+    ensures { IfAny result (GivesTextOf (spec.found_sum doc place.now terms.now)) }
 {
     let [first, others @ ..] = terms else {
         return Ok(None);

@@ -40,8 +40,7 @@ pub fn line_comment_in(rows: &Rows<'_>, row_line: RowLine) -> Option<Span>
         return None;
     }
     let row = rows.row(row_line.row);
-    let start =
-        row_start(rows, row_line.row) + rows.before_head(row_line.row) + row.head().len();
+    let start = row_start(rows, row_line.row) + rows.before_head(row_line.row) + row.head().len();
     tail_comment(start, row.tail())
 }
 

@@ -134,7 +134,15 @@ mark_size rows.Dash c rest left h k sole = omega (arith, k)
 mark_size (rows.Key key colon) c rest left h k sole =
     let behind = content_text c rest in
     let colon_is = h.colon_is in
-    rw colon_is.spelled (omega (arith, k, spelled_size key, scalar_some false None key (colon ++ behind) h.scalar, length-append key ((colon_is.white ++ 58 ∷ []) ++ behind), length-append (colon_is.white ++ 58 ∷ []) behind, length-append colon_is.white (58 ∷ [])))
+    rw colon_is.spelled (omega (
+      arith,
+      k,
+      spelled_size key,
+      scalar_some false None key (colon ++ behind) h.scalar,
+      length-append key ((colon_is.white ++ 58 ∷ []) ++ behind),
+      length-append (colon_is.white ++ 58 ∷ []) behind,
+      length-append colon_is.white (58 ∷ []),
+    ))
 
 dashes_size : (above : List (List ℕ)) (column : ℕ) (dashes : List ℕ) (m : RowMark) (c : Content) (left end : ℕ) (t : List ℕ) → AreDashes dashes m →
     of_mark (line_mark m) + (of_head (head_of c) + left) ≤ 2 * length t + 2 * min end (length t) →

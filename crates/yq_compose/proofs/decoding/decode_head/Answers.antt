@@ -1,5 +1,5 @@
 use Rattle.std.{proofs.Common.{rules, ℕ, List, ◌++◌, refl, sym, ap, ◌∙◌, SFits, w64}, proofs.lemmas.Bool.not-false}
-use Rattle.std.{proofs.lemmas.Int.to_z-of_z}
+use Rattle.std.proofs.lemmas.Int.{to_z-of_z}
 use Rattle.yq_core.specs.Text.{is_empty}
 use Rattle.yq_row_table.{specs.Rows.parent_indent, specs.View.{Slices, slices}}
 use Rattle.yq_documents.specs.Reading.{cut_of}

@@ -1,13 +1,13 @@
 use Rattle.std.proofs.Common.{◌+◌, drop, map, ap, ◌∙◌, sym, arith}
 use Rattle.yq_eval.{specs.PlaceView.place_of, proofs.EachLaws.reached}
 use Rattle.yq_semantics.{specs.RightValues.{sum_from, term_value}, specs.View.term_of}
-use Rattle.yq_expr.{specs.Oversized.GivesText, proofs.OversizedLaws.one_text_more}
+use Rattle.yq_expr.{specs.Oversized.GivesTextOf, proofs.OversizedLaws.one_text_more}
 use Rattle.yq_expr.proofs.oversized_text.length_with_terms.Goals as goal
 
 pub terms-preserved : goal.terms-preserved
 terms-preserved c =
     let rest = reached term_of c.args.terms.now c.terms.term-index c.term-item.result c.terms-test.true c.term-item.is in
-    let given : GivesText (term_value c.args.doc (place_of c.args.place.now) (term_of c.term-item.result)) c.in-Some.length = rw c.in-Some.is at c.in_ok-length.ensures in
+    let given : GivesTextOf (term_value c.args.doc (place_of c.args.place.now) (term_of c.term-item.result)) c.in-Some.length = rw c.in-Some.is at c.in_ok-length.ensures in
     record {
       gives = given;
       so_far = λ v h.

@@ -6,7 +6,14 @@ use Rattle.yq_places.proofs.places.held_row.row_of_last.Goals as goal
 
 pub overflow_add-result : goal.overflow_add-result
 overflow_add-result c =
-    let f = row_fits c.args.rows.now c.args.at.row (row_view c.row-row.result) c.row-row.ensures in omega (arith, f, view_small c.args.rows.now c.requires.rows_view, c.start.ensures, c.before_head.ensures (row_view c.row-row.result) c.row-row.ensures)
+    let f = row_fits c.args.rows.now c.args.at.row (row_view c.row-row.result) c.row-row.ensures in
+    omega (
+      arith,
+      f,
+      view_small c.args.rows.now c.requires.rows_view,
+      c.start.ensures,
+      c.before_head.ensures (row_view c.row-row.result) c.row-row.ensures,
+    )
 
 pub returns : goal.returns
 returns c = λ d is r there.
