@@ -123,12 +123,15 @@ def check_values_put_in_rows_in_any_order(folder):
 
 
 def check_entries_put_into_a_mapping_by_turns(folder):
-    """Values in its rows and new entries go in one pass, whichever break ends lines."""
-    mapping = "".join(f"  p{n}: 1\n" for n in range(MANY))
-    added = "".join(f"  p{n}: 2\n  n{n}: x y\n" for n in range(MANY))
-    for line_break in ("\n", "\r\n"):
-        folder.write("f", f"a:\n{mapping}b:\n{added}".replace("\n", line_break).encode())
-        each_within_a_second(folder, [".a += .b"])
+    """Values in its rows and new entries go in one pass, wherever it is, however keys are written and lines end."""
+    keys = [f'"p\\t{n}"' if n % 9 else f"p{n}" for n in range(MANY)]
+    root = "".join(f"{key}: 1\n" for key in keys)
+    lines = "".join(f"  {key}: 1\n" for key in keys)
+    added = "b:\n" + "".join(f"  {key}: 2\n  n{n}: x y\n" for n, key in enumerate(keys))
+    for text, update in ((root, ". += .b"), (f"a:\n{lines}", ".a += .b"), (f"a:\n-{lines[1:]}", ".a[0] += .b")):
+        for line_break in ("\n", "\r\n"):
+            folder.write("f", f"{text}{added}".replace("\n", line_break).encode())
+            each_within_a_second(folder, [update])
 
 
 def check_collections_emptied_in_one_row(folder):

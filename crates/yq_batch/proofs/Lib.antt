@@ -45,6 +45,7 @@ pub mod UnorderedAnswers
 pub mod RowOrder
 pub mod RowStills
 pub mod RowsUnder
+pub mod RowShapes
 pub mod RowEndLaws
 pub mod SlotEnds
 pub mod RowOpens

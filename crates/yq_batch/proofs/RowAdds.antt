@@ -1,6 +1,6 @@
 -- An entry put at the end of a mapping, whatever was put in rows before it.
 use Rattle.std.proofs.Common.{◌≡◌, ℕ, zero, suc, ◌+◌, ◌-◌, ◌≤◌, Bool, cond, leb, List, [], ◌∷◌, ◌++◌, drop, take, length, Option, Some}
-use Rattle.std.proofs.Common.{None, refl, sym, ap, ◌∙◌, subst, arith, append_assoc, length-append, string_bytes}
+use Rattle.std.proofs.Common.{None, refl, sym, ap, ◌∙◌, subst, arith, append_assoc, append-nil, length-append, string_bytes}
 use Rattle.std.{proofs.lemmas.Bool.le-leb, proofs.lemmas.List.append_cancel_right, proofs.lemmas.Option.{none-some, same_Some}}
 use Rattle.std.{specs.Prelude.IfSome, specs.Str.IsCharBoundary}
 use Rattle.yq_text.{specs.Limit.text_limit, specs.Script.{Segment, changes, new_text, splice_at}}
@@ -9,12 +9,12 @@ use Rattle.yq_row_table.specs.Rows.{Cut, cut_text}
 use Rattle.yq_documents.{specs.Reading.{documents, read_at}, proofs.ReadLaws.parts_read}
 use Rattle.yq_places.{specs.FirstBreak.first_break, specs.Standings.RowsOfEntry}
 use Rattle.yq_semantics.{specs.Fits.Fits, specs.Operations.{Operation, append}, specs.Rooms.room_of}
-use Rattle.yq_edit_rules.{specs.Edits.or_stay, specs.RowChanges.HoldsInline}
+use Rattle.yq_edit_rules.{specs.Edits.or_stay, specs.EntryEdits.more_lines, specs.Layouts.layout_of, specs.RowChanges.HoldsInline}
 use Rattle.yq_edit_laws.{proofs.CutLaws.text_read, specs.Carried.{carried, carry_one}}
 use Rattle.yq_edit_laws.{specs.Edit.{by_reading, edit_of_segments, exchange_edit, gives}, specs.Theorems.IsFitting, proofs.ApplyLaws.fits}
 use Rattle.yq_batch.{specs.OpenRows.{AreRowsStill, IsOpenRows, IsRowStill, IsRowThere}, specs.OpenRuns.AreCharEdges}
 use Rattle.yq_batch.specs.RowEnds.{AddsAtEnd, LeaveRoom, EndOfEntries, IsEndStill}
-use Rattle.yq_batch.proofs.RowEndLaws.{after, edited, end_after, lines_are, puts, read_new, row_stays, segments, text_upto, upto}
+use Rattle.yq_batch.proofs.RowEndLaws.{adds, after, end_after, lines_are, read_new, row_stays, text_upto, upto}
 use Rattle.yq_batch.{proofs.RowOrder.StaysInFront, proofs.RowStills.{holds_now, row_in_front, some_between}}
 use Rattle.yq_batch.{proofs.SlotEnds.{apart_from, last_alone}, proofs.SlotLaws.{front_length, front_of, places_same, starts_at}}
 use Rattle.yq_batch.{proofs.SlotPuts.edges_put, proofs.SlotStills.{new_text_is, old_text}, specs.declared.change.HeadChange.HeadChange}
@@ -29,7 +29,7 @@ nothing (suc n) [] = refl
 nothing (suc n) (x ∷ l) = nothing n l
 
 module _ (op : Operation) (c : Cut) (m : ℕ) (slots slots2 : List SlotView) (whole : read_at (cut_text c) ≡ Some c) (o : Option EndOfEntries) (run : IsOpenRows c m o slots) (y : HeadChange) (a : AddsAtEnd op c m o y) (at was : ℕ)
-    (put : IsPutIn slots slots2 y.place y.lead.now (string_bytes a.written) at was) where
+    (put : IsPutIn slots slots2 y.place (string_bytes a.written) [] at was) where
   abbrev t : List ℕ
   t = cut_text c
 
@@ -46,10 +46,10 @@ module _ (op : Operation) (c : Cut) (m : ℕ) (slots slots2 : List SlotView) (wh
   rest = drop z.at t
 
   abbrev new : List ℕ
-  new = y.lead.now ++ string_bytes a.written
+  new = string_bytes a.written ++ []
 
   abbrev own : Operation
-  own = append m (z.step ∷ z.steps) (Some a.key) a.value
+  own = append m z.steps (Some a.key) a.value
 
   es : IsEndStill c d m slots z
   es = subst (λ (x : Option EndOfEntries). IfSome x (IsEndStill c d m slots)) a.known run.ends
@@ -171,21 +171,24 @@ module _ (op : Operation) (c : Cut) (m : ℕ) (slots slots2 : List SlotView) (wh
 
   -- what it is in the text as it is now
   abbrev ss : List Segment
-  ss = segments z m c d rest read es.known es.here a.key a.value
+  ss = (adds z m d rest read es.here a.key a.value).segments
+
+  lines_new : more_lines (layout_of m d) (Some a.key) a.value z.column (10 ∷ []) ≡ new
+  lines_new = lines_are z m d rest read es.here a.key a.value c a.plain breaks ∙ (sym a.lines ∙ sym (append-nil (string_bytes a.written)))
 
   new_is : new_text ss ≡ text_from t 0 slots2
   new_is =
-      (puts z m c d rest read es.known es.here a.key a.value).new_is
-      ∙ ((λ i. up_is i ++ ((lines_are z m c d rest read es.known es.here a.key a.value a.plain breaks ∙ sym a.lines) i ++ rest))
+      (adds z m d rest read es.here a.key a.value).puts.new_is
+      ∙ ((λ i. up_is i ++ (lines_new i ++ rest))
       ∙ (append_assoc before (put_text s) (new ++ rest) ∙ (ap (λ (l : List ℕ). before ++ l) (sym (append_assoc (put_text s) new rest)) ∙ sym next_split)))
 
   changes_are : changes ss ≡ splice_at at (drop y.place.start (take y.place.end t)) new
   changes_are =
-      (puts z m c d rest read es.known es.here a.key a.value).changes_are
-      ∙ (λ i. splice_at (sym at_is i) (sym ((λ j. drop (a.start j) (take (a.finish j) t)) ∙ nothing z.at t) i) ((lines_are z m c d rest read es.known es.here a.key a.value a.plain breaks ∙ sym a.lines) i))
+      (adds z m d rest read es.here a.key a.value).puts.changes_are
+      ∙ (λ i. splice_at (sym at_is i) (sym ((λ j. drop (a.start j) (take (a.finish j) t)) ∙ nothing z.at t) i) (lines_new i))
 
   comes : carried own now ≡ edit_of_segments ss
-  comes = ap (by_reading (carry_one own)) run.read ∙ ap (λ (x : Option (List Segment)). edit_of_segments (or_stay d x)) (edited z m c d rest read es.known es.here a.key a.value)
+  comes = ap (by_reading (carry_one own)) run.read ∙ ap (λ (x : Option (List Segment)). edit_of_segments (or_stay d x)) (adds z m d rest read es.here a.key a.value).edited
 
   module _ (fitting : IsFitting own now) (small : length (text_from t 0 slots2) ≤ text_limit) where
     pub add_comes : carried own now ≡ gives (text_from t 0 slots2) (splice_at at (drop y.place.start (take y.place.end t)) new)
@@ -204,10 +207,10 @@ module _ (op : Operation) (c : Cut) (m : ℕ) (slots slots2 : List SlotView) (wh
     low = omega (arith, small, ap length new_is)
 
     abbrev next : Cut
-    next = after z m c d rest read es.known es.here a.key a.value a.plain breaks a.valid fit low
+    next = after z m d rest read es.here a.key a.value a.plain a.valid fit low
 
     read_new_text : read_at (new_text ss) ≡ Some next
-    read_new_text = read_new z m c d rest read es.known es.here a.key a.value a.plain breaks a.valid fit low
+    read_new_text = read_new z m d rest read es.here a.key a.value a.plain a.valid fit low
 
     text_after : cut_text next ≡ text_from t 0 slots2
     text_after = text_read (new_text ss) next read_new_text ∙ new_is
@@ -224,7 +227,7 @@ module _ (op : Operation) (c : Cut) (m : ℕ) (slots slots2 : List SlotView) (wh
     -- the rows before it
     stays : (mid : List ℕ) (u : Step) (us : List Step) (e : RowsOfEntry) → HoldsInline e → (k : IsRowThere e m (u ∷ us) d (mid ++ (put_text s ++ rest))) → StaysInFront k.now m (u ∷ us) next
     stays mid u us e holds k =
-        row_stays z m c d rest read es.known es.here a.key a.value a.plain breaks a.valid fit low u us k.now k.found
+        row_stays z m d rest read es.here a.key a.value a.plain a.valid fit low u us k.now k.found
         (some_between m u us d k.now (mid ++ (put_text s ++ rest)) (length rest) read k.found (holds_now e k.now k.row k.line holds) k.back
         (omega (arith, length-append mid (put_text s ++ rest), length-append (put_text s) rest)))
 
@@ -254,7 +257,7 @@ module _ (op : Operation) (c : Cut) (m : ℕ) (slots slots2 : List SlotView) (wh
       near = es.near;
       order = subst (λ (ss : List SlotView). AreInOrder es.lead (slot_places ss) (length t)) (sym slots2_are)
           (subst (λ (ps : List SlotPlace). AreInOrder es.lead ps (length t)) (sym (places_same put.front s s2 [] same_place)) (subst (λ (ss : List SlotView). AreInOrder es.lead (slot_places ss) (length t)) slots_are es.order));
-      here = end_after z m c d rest read es.known es.here a.key a.value a.plain breaks a.valid fit low;
+      here = end_after z m d rest read es.here a.key a.value a.plain a.valid fit low;
     }
 
     pub add_goes_on : IsOpenRows c m o slots2

@@ -1,48 +1,56 @@
 -- Where the entries of a mapping end, as the code finds it.
-use Rattle.std.proofs.Common.{◌≡◌, ◌⊎◌, inl, inr, ℕ, ◌+◌, ◌*◌, ◌<◌, ◌≤◌, nat_lt, Bool, true, false, cond, eq-eqb, List, [], ◌∷◌, ◌++◌, drop}
-use Rattle.std.proofs.Common.{take, take_all, length, Some, option_map, refl, sym, ap, ◌∙◌, subst, arith, append_assoc, length-append}
+use Rattle.std.proofs.Common.{◌≡◌, ◌⊎◌, inl, inr, ℕ, zero, suc, ◌+◌, ◌*◌, ◌<◌, ◌≤◌, nat_lt, Bool, true, false, cond, eqb, eq-eqb, List, []}
+use Rattle.std.proofs.Common.{◌∷◌, ◌++◌, drop, take, take_all, replicate, length, Some, option_map, refl, sym, ap, ◌∙◌, subst, arith}
+use Rattle.std.{proofs.Common.{append_assoc, append-nil, length-append}, proofs.lemmas.Bool.{cases_lt, eqb-false, eqb-true}}
 use Rattle.std.{proofs.Math.Seq.drop-append_seam, proofs.lemmas.Option.same_Some, proofs.lemmas.Str.IsCharBoundary-at_seam}
-use Rattle.std.specs.Str.{IsCharBoundary}
-use Rattle.yq_core.{specs.Paths.Step, specs.Text.is_empty}
-use Rattle.yq_outline.{specs.Extents.dash_at, specs.RowWalk.{line_level, line_rank}, proofs.WalkLevels.to_dash}
-use Rattle.yq_row_table.specs.Rows.{Block, Content, Cut, Inline, Nothing, Row, RowMark, cut_text, dashes_text, mark_column, print_row}
-use Rattle.yq_row_table.{specs.Rows.rows_text, specs.Seams.is_block, specs.View.{Slices, content_cut, last_dash, slices}}
-use Rattle.yq_documents.{specs.Located.steps_of, specs.Reading.{cut_of, read_at}}
-use Rattle.yq_places.specs.StandingViews.{IsHeldRow}
-use Rattle.yq_places.specs.Standings.{Held, RowsOfEntry, alone, before_entry, behind_entry, behind_mark, below, beside, compact_in}
-use Rattle.yq_places.specs.Standings.{entry_standing, held, is_alone, lone, standing_at, under}
-use Rattle.yq_places.{specs.declared.places.held_row.HeldRow.HeldRow, proofs.HeldRowLaws.no_root_rows}
-use Rattle.yq_edit_rules.proofs.HeldPieces.{held_spells}
-use Rattle.yq_edit_laws.{proofs.CollectionRows.columns_are, proofs.CutLaws.text_read, proofs.UnderAppends.text_ended}
-use Rattle.yq_batch.{specs.RowEnds.{AreEntriesUnder, EndOfEntries, HasNoHead, IsEndAt}, specs.declared.row_ends.EntriesEnd.EntriesEnd}
-use Rattle.yq_batch.proofs.RowsUnder.{end_text}
+use Rattle.std.specs.Str.{IsCharBoundary, IsUtf8}
+use Rattle.yq_core.{specs.Paths.Step, specs.Text.is_empty, proofs.Bools.bind_some}
+use Rattle.yq_outline.{specs.Extents.dash_at, specs.Outline.null_node, specs.RowWalk.{line_level, line_rank}, proofs.WalkLevels.to_dash}
+use Rattle.yq_row_table.specs.Rows.{Block, Content, Cut, Inline, Nothing, Part, Row, RowMark, behind_columns, cut_text, dashes_text}
+use Rattle.yq_row_table.{specs.Rows.{mark_column, print_row, rows_text}, specs.Seams.is_block}
+use Rattle.yq_row_table.specs.View.{Slices, content_cut, last_dash, slices}
+use Rattle.yq_documents.{specs.LinesInRows.{document_row, row_line_at}, specs.Located.steps_of, specs.Reading.{cut_of, read_at}}
+use Rattle.yq_documents.specs.declared.path.Path.{Path}
+use Rattle.yq_places.{specs.PlacedRows.{PlacedPart, placed_document}, specs.RowLineReading.{line_view, numbers}}
+use Rattle.yq_places.specs.Standings.{Held, LinesIn, MarkPieces, RowsOfEntry, alone, before_entry, behind_entry, behind_mark, below, beside}
+use Rattle.yq_places.specs.Standings.{compact, compact_in, compact_lines, entry_standing, held, is_alone, lone, root, root_lines}
+use Rattle.yq_places.{specs.Standings.{root_standing, rows_of_entry, standing_at, under}, specs.declared.places.stretch.RowLine.RowLine}
+use Rattle.yq_places.{proofs.DashLaws.line_within, proofs.PlacedPartLaws.map_some}
+use Rattle.yq_edit_rules.{specs.StandingLaws.StandsThere, proofs.AppendPlaces.kept_pieces}
+use Rattle.yq_edit_rules.{proofs.CommentRowLaws.{entry_is_row, entry_row, rows_front}, proofs.PlacedPartLaws.document_stands_at}
+use Rattle.yq_edit_rules.proofs.StandingRows.{rows_stand}
+use Rattle.yq_edit_laws.{proofs.CollectionRows.columns_are, proofs.CutLaws.text_read}
+use Rattle.yq_edit_laws.{proofs.LinesAppends.{compact_text_ended, root_text_ended}, proofs.UnderAppends.text_ended}
+use Rattle.yq_batch.specs.RowEnds.{AreMappingRows, EndOfEntries, EndsAfterRows, EndsHere, EndsLineAt, HasNoHead, IsAfterDash, IsEndAt}
+use Rattle.yq_batch.{specs.RowEnds.{IsEndIn, IsUnderMark}, specs.declared.row_ends.EntriesEnd.EntriesEnd, proofs.RowEndLaws.adds}
+use Rattle.yq_batch.{proofs.RowOrder.entry_placed, proofs.RowHeadLaws.row_number, proofs.RowsUnder.rows_split}
 use Rattle.yq_row_table.specs.Rows as rows
 
 -- ---- what is under a key or dash, by what is at it
 
 module _ (e : RowsOfEntry) (h : Held) (column : ℕ) (last : e.line ≡ length e.row.dashes) (at : entry_standing e ≡ under h column) where
-  abbrev IsUnder : Type 0
-  IsUnder = HasNoHead e × AreEntriesUnder e.under column × (held e ≡ h)
+  abbrev HoldsUnder : Type 0
+  HoldsUnder = HasNoHead e × AreMappingRows e.under column × (held e ≡ h)
 
-  rows_by : (rs : List Row) → e.under ≡ rs → below e rs ≡ under h column → AreEntriesUnder e.under column × (held e ≡ h)
+  rows_by : (rs : List Row) → e.under ≡ rs → below e rs ≡ under h column → AreMappingRows e.under column × (held e ≡ h)
   rows_by [] is found = absurd (cc)
   rows_by (r ∷ rs) is found = by (is_alone r) refl found
     where
-      by : (b : Bool) → is_alone r ≡ b → cond b (alone (lone (before_entry e ++ print_row e.row []) r (rows_text rs (behind_entry e)))) (under (held e) r.column) ≡ under h column → AreEntriesUnder e.under column × (held e ≡ h)
+      by : (b : Bool) → is_alone r ≡ b → cond b (alone (lone (before_entry e ++ print_row e.row []) r (rows_text rs (behind_entry e)))) (under (held e) r.column) ≡ under h column → AreMappingRows e.under column × (held e ≡ h)
       by true single same = absurd (cc)
-      by false single same = (record { first = r; others = rs; under_is = is; marked = single; column_is = cc }, cc)
+      by false single same = (record { first = r; others = rs; are = is; marked = single; column_is = cc }, cc)
 
-  mark_by : (x : Content) → e.row.content ≡ x → behind_mark e x ≡ under h column → IsUnder
+  mark_by : (x : Content) → e.row.content ≡ x → behind_mark e x ≡ under h column → HoldsUnder
   mark_by (Nothing tail) is found =
       let x = rows_by e.under refl found in (record { last = last; plain = ap is_block is; none = ap (λ (y : Content). is_empty (content_cut y).3) is }, x.0, x.1)
   mark_by (Inline space node tail) is found = by (is_empty (slices e.row).head) refl found
     where
-      by : (b : Bool) → is_empty (slices e.row).head ≡ b → cond b (below e e.under) (beside (held e)) ≡ under h column → IsUnder
+      by : (b : Bool) → is_empty (slices e.row).head ≡ b → cond b (below e e.under) (beside (held e)) ≡ under h column → HoldsUnder
       by true none same = let x = rows_by e.under refl same in (record { last = last; plain = ap is_block is; none = none }, x.0, x.1)
       by false none same = absurd (cc)
   mark_by (Block space anchor b) is found = absurd (cc)
 
-  pub is_under : IsUnder
+  pub is_under : HoldsUnder
   is_under =
       mark_by e.row.content refl (sym (ap (λ (b : Bool). cond b (behind_mark e e.row.content) (compact_in e)) (eq-eqb e.line (length e.row.dashes) last)) ∙ at)
 
@@ -61,62 +69,259 @@ dash_or_none rows.Bare = inl refl
 dash_or_none rows.Dash = inr ([], refl)
 dash_or_none (rows.Key key colon) = inl refl
 
+-- by the dashes before its line
+line_deep : (e : RowsOfEntry) → e.line ≤ length e.row.dashes → line_level e.line (slices e.row) ≤ 3 * (e.row.column + length (dashes_text (take e.line e.row.dashes) [])) + 3
+line_deep e less =
+    let at : dash_at e.line (dashes_text e.row.dashes (last_dash e.row.mark)) ≡ length (dashes_text (take e.line e.row.dashes) []) = to_dash e.line e.row.dashes (last_dash e.row.mark) less (dash_or_none e.row.mark) in
+    omega (arith, at, few_ranks e.line (slices e.row))
+
 mark_deep : (e : RowsOfEntry) (column : ℕ) → e.line ≡ length e.row.dashes → mark_column e.row < column → line_level e.line (slices e.row) < 3 * column + 2
 mark_deep e column last less =
-    let k : ℕ = length e.row.dashes in
-    let at : dash_at k (dashes_text e.row.dashes (last_dash e.row.mark)) ≡ length (dashes_text (take k e.row.dashes) []) = to_dash k e.row.dashes (last_dash e.row.mark) (omega arith) (dash_or_none e.row.mark) in
-    let all : take k e.row.dashes ≡ e.row.dashes = take_all k e.row.dashes (omega arith) in
-    omega (
-      arith,
-      less,
-      ap (λ (n : ℕ). line_level n (slices e.row)) last,
-      at,
-      ap (λ (ns : List ℕ). length (dashes_text ns [])) all,
-      columns_are e.row.column e.row.dashes,
-      few_ranks k (slices e.row),
-    )
+    let all : take e.line e.row.dashes ≡ e.row.dashes = take_all e.line e.row.dashes (omega (arith, last)) in
+    omega (arith, less, line_deep e (omega (arith, last)), ap (λ (ns : List ℕ). length (dashes_text ns [])) all, columns_are e.row.column e.row.dashes)
+
+more_dashes : (k : ℕ) (ns : List ℕ) → k < length ns → length (dashes_text (take k ns) []) < length (dashes_text (take (suc k) ns) [])
+more_dashes k [] less = absurd (omega (arith, less))
+more_dashes zero (n ∷ ns) less = omega arith
+more_dashes (suc k) (n ∷ ns) less =
+    omega (arith, more_dashes k ns (omega (arith, less)), length-append (replicate n 32) (dashes_text (take k ns) []), length-append (replicate n 32) (dashes_text (take (suc k) ns) []))
+
+dash_deep : (e : RowsOfEntry) → e.line < length e.row.dashes → line_level e.line (slices e.row) < 3 * behind_columns e.row.column (take (suc e.line) e.row.dashes) + 2
+dash_deep e less = omega (arith, line_deep e (omega (arith, less)), more_dashes e.line e.row.dashes less, columns_are e.row.column (take (suc e.line) e.row.dashes))
 
 -- ---- in a text
 
--- what the code tells of the end of a mapping
-pub end_there : (t : List ℕ) (n : ℕ) (steps : List Step) (x : HeldRow) (h : Held) (column : ℕ) (w : EntriesEnd) → read_at t ≡ Some (cut_of t) → IsHeldRow n steps (cut_of t) x → standing_at n steps (cut_of t) ≡ Some (under h column) →
-    is_empty h.last ≡ false → h.mark.column < column → w.path.now.doc ≡ n → steps_of w.path.now ≡ steps → w.row ≡ x.row → w.at + length h.behind ≡ length t → w.column ≡ column → (z : EndOfEntries) × IsEndAt (cut_of t) n w z
-end_there t n [] x h column w read is at some less doc steps row size col = absurd (no_root_rows n (cut_of t) is.entry is.found)
-end_there t n (s ∷ ss) x h column w read is at some less doc steps row size col =
+-- the end of a mapping, where it ends with a line
+module _ (t : List ℕ) (n : ℕ) (z : EndOfEntries) (read : read_at t ≡ Some (cut_of t)) (q : PlacedPart) (placed : placed_document n (cut_of t) ≡ Some q) (front back : List Row) (rows_are : q.part.rows ≡ front ++ back)
+    (ends : EndsAfterRows n z.steps z (cut_of t) front back) (text : List ℕ) (line : q.before ++ rows_text front [] ≡ text ++ (10 ∷ [])) (size : z.at + length (rows_text back (q.part.end ++ q.behind)) ≡ length t) where
+  abbrev c : Cut
+  c = cut_of t
+
+  abbrev rest : List ℕ
+  rest = rows_text back (q.part.end ++ q.behind)
+
+  abbrev before : List ℕ
+  before = q.before ++ rows_text front []
+
+  all : cut_text c ≡ t
+  all = text_read t c read
+
+  again : read_at (cut_text c) ≡ Some c
+  again = ap read_at all ∙ read
+
+  parts : cut_text c ≡ before ++ rest
+  parts = rows_split n c q front back placed rows_are
+
+  here : EndsHere z n c rest
+  here = record {
+    placed = q;
+    there = placed;
+    front = front;
+    back = back;
+    rows_are = rows_are;
+    ends = ends;
+    behind = refl;
+    text = text;
+    ended = parts ∙ (ap (λ (l : List ℕ). l ++ rest) line ∙ append_assoc text (10 ∷ []) rest);
+  }
+
+  place : z.at ≡ length before
+  place = omega (arith, size, ap length all, ap length parts, length-append before rest)
+
+  utf8 : IsUtf8 rest
+  utf8 = let a = adds z n c rest again here [] null_node in subst IsUtf8 a.behind (kept_pieces n z.steps c a.x again a.place).1.utf8
+
+  pub known : IsEndIn c n z
+  known = record {
+    here = subst (EndsHere z n c) (sym ((λ i. drop (place i) (parts i)) ∙ drop-append_seam before rest)) here;
+    within = omega (arith, size, ap length all);
+    edge = subst (IsCharBoundary (cut_text c)) (sym place) (IsCharBoundary-at_seam (cut_text c) before rest parts utf8);
+  }
+
+-- a mapping that an item or entry holds
+module _ (t : List ℕ) (p : Path) (s : Step) (ss : List Step) (steps : steps_of p ≡ s ∷ ss) (read : read_at t ≡ Some (cut_of t)) (e : RowsOfEntry)
+    (found : rows_of_entry p.doc (s ∷ ss) (cut_of t) ≡ Some e) (w : EntriesEnd) (w_path : w.path.now ≡ p) where
+  abbrev cut : Cut
+  cut = cut_of t
+
+  abbrev pub end_of : (first : ℕ) → EndOfEntries
+  end_of first = record { steps = s ∷ ss; first = first; column = w.column; at = w.at }
+
+  pub end_known : (first : ℕ) → IsUnderMark (end_of first) e ⊎ IsAfterDash (end_of first) e → line_level e.line (slices e.row) < 3 * w.column + 2 →
+      (text : List ℕ) → before_entry e ++ print_row e.row (rows_text e.under []) ≡ text ++ (10 ∷ []) → w.at + length (behind_entry e) ≡ length t →
+      ((k : ℕ) → w.first ≤ document_row p.doc cut + k → first ≤ k) → (z : EndOfEntries) × IsEndAt cut w.path.now.doc w z
+  end_known first place deep text ended size later =
+      let again : read_at (cut_text cut) ≡ Some cut = ap read_at (text_read t cut read) ∙ read in
+      let q = bind_some (placed_document p.doc cut) found in
+      let own = entry_placed p.doc (s ∷ ss) cut e q.0 found q.1 in
+      let stands : StandsThere p.doc s ss cut e = rows_stand p.doc s ss cut e again found in
+      let part : stands.part ≡ q.0.part = same_Some _ _ (sym stands.old.there ∙ (document_stands_at cut p.doc q.0 q.1).there) in
+      let before : q.0.before ++ rows_text (e.front ++ (e.row ∷ e.under)) [] ≡ before_entry e ++ print_row e.row (rows_text e.under []) =
+      (λ i. sym own.0 i ++ rows_front e.front (e.row ∷ e.under) [] i) ∙ sym (append_assoc e.start (rows_text e.front []) (print_row e.row (rows_text e.under []))) in
+      let behind : behind_entry e ≡ rows_text e.back (q.0.part.end ++ q.0.behind) = λ i. rows_text e.back (own.1 i ++ own.2 i) in
+      subst (λ (o : Path). (z : EndOfEntries) × IsEndAt cut o.doc w z) (sym w_path) (
+        end_of first,
+        record {
+          document = ap (λ (o : Path). o.doc) w_path;
+          known = known t p.doc (end_of first) read q.0 q.1 (e.front ++ (e.row ∷ e.under)) e.back
+              (ap (λ (x : Part). x.rows) (sym part) ∙ (stands.rows_are ∙ sym (append_assoc e.front (e.row ∷ e.under) e.back)))
+              (record { entry = e; found = found; place = place; deep = deep; front_is = refl; back_is = refl }) text (before ∙ ended) (omega (arith, size, ap length behind));
+          steps = ap steps_of w_path ∙ steps;
+          first = later;
+          at = refl;
+          column = refl;
+        },
+      )
+
+-- what is at an item or entry is in its last mark, if no collection begins after that of a dash before
+last_mark : (e : RowsOfEntry) (h : Held) (column : ℕ) → entry_standing e ≡ under h column → e.line ≡ length e.row.dashes
+last_mark e h column at = go (eqb e.line (length e.row.dashes)) refl at
+  where
+    go : (b : Bool) → eqb e.line (length e.row.dashes) ≡ b → cond b (behind_mark e e.row.content) (compact_in e) ≡ under h column → e.line ≡ length e.row.dashes
+    go true is same = eqb-true e.line (length e.row.dashes) is
+    go false is same = absurd (cc)
+
+-- a root is nothing that an item or entry holds
+no_entry_root : (q : PlacedPart) (rs : List Row) (h : Held) (column : ℕ) → root_standing q rs ≡ under h column → ⊥
+no_entry_root q [] h column is = absurd (cc)
+no_entry_root q (r ∷ us) h column is = go (is_alone r) is
+  where
+    go : (b : Bool) → cond b (alone (lone q.before r (rows_text us (q.part.end ++ q.behind)))) (root r.column (root_lines q r us)) ≡ under h column → ⊥
+    go true same = absurd (cc)
+    go false same = absurd (cc)
+
+no_dash_root : (q : PlacedPart) (rs : List Row) (k : MarkPieces) (column : ℕ) (l : LinesIn) → root_standing q rs ≡ compact k column l → ⊥
+no_dash_root q [] k column l is = absurd (cc)
+no_dash_root q (r ∷ us) k column l is = go (is_alone r) is
+  where
+    go : (b : Bool) → cond b (alone (lone q.before r (rows_text us (q.part.end ++ q.behind)))) (root r.column (root_lines q r us)) ≡ compact k column l → ⊥
+    go true same = absurd (cc)
+    go false same = absurd (cc)
+
+-- what the code tells of the end of a mapping under a key or dash
+pub under_there : (t : List ℕ) (p : Path) (steps : List Step) (x : RowLine) (h : Held) (w : EntriesEnd) → steps_of p ≡ steps → read_at t ≡ Some (cut_of t) → standing_at p.doc steps (cut_of t) ≡ Some (under h w.column) →
+    Some (line_view x) ≡ option_map (numbers (document_row p.doc (cut_of t))) (row_line_at p (cut_of t)) →
+    h.mark.column < w.column → w.path.now ≡ p → w.first ≡ suc x.row → EndsLineAt t h.last h.behind w.at → (z : EndOfEntries) × IsEndAt (cut_of t) w.path.now.doc w z
+under_there t p [] x h w steps read at line less path first ends =
+    let q = map_some (λ (y : PlacedPart). root_standing y y.part.rows) (placed_document p.doc (cut_of t)) (under h w.column) at in absurd (no_entry_root q.0 q.0.part.rows h w.column q.2)
+under_there t p (s ∷ ss) x h w steps read at line less path first ends =
     let c : Cut = cut_of t in
-    let e : RowsOfEntry = is.entry in
-    let text : cut_text c ≡ t = text_read t c read in
-    let again : read_at (cut_text c) ≡ Some c = ap read_at text ∙ read in
-    let found = is_under e h column is.last (same_Some _ _ (sym (ap (option_map entry_standing) is.found) ∙ at)) in
-    let same : held e ≡ h = found.2 in
-    let upto : List ℕ = before_entry e ++ print_row e.row (rows_text e.under []) in
-    let parts : cut_text c ≡ upto ++ behind_entry e = end_text n (s ∷ ss) c e is.found in
-    let place : w.at ≡ length upto = omega (arith, size, ap length text, ap length parts, length-append upto (behind_entry e), ap (λ (y : Held). length y.behind) same) in
-    let behind : behind_entry e ≡ drop w.at (cut_text c) = sym ((λ i. drop (place i) (parts i)) ∙ drop-append_seam upto (behind_entry e)) in
-    let ended = text_ended n s ss c e found.1.first found.1.others again is.found found.1.under_is found.1.marked (ap (λ (y : Held). is_empty y.last) same ∙ some) in
-    let z : EndOfEntries = record { step = s; steps = ss; entry = e; column = column; at = w.at } in (
+    let again : read_at (cut_text c) ≡ Some c = ap read_at (text_read t c read) ∙ read in
+    let e = map_some entry_standing (rows_of_entry p.doc (s ∷ ss) c) (under h w.column) at in
+    let last = last_mark e.0 h w.column e.2 in
+    let found = is_under e.0 h w.column last e.2 in
+    let same : held e.0 ≡ h = found.2 in
+    let ended = text_ended p.doc s ss c e.0 found.1.first found.1.others again e.1 found.1.are found.1.marked (ap (λ (y : Held). is_empty y.last) same ∙ ends.0) in
+    let row = row_number c p e.0 x (ap (λ (us : List Step). rows_of_entry p.doc us c) steps ∙ e.1) line in
+    end_known t p s ss steps read e.0 e.1 w path (suc (length e.0.front)) (inl (record { first = refl; bare = found.0; entries = found.1 }))
+    (mark_deep e.0 w.column last (omega (arith, less, ap (λ (y : Held). y.mark.column) same))) ended.0 ended.1 (omega (arith, ends.1, ap (λ (y : Held). length y.behind) same))
+    (λ k later. omega (arith, later, first, row))
+
+-- a collection begins after the dash of an item
+dash_by : (e : RowsOfEntry) (k : MarkPieces) (column : ℕ) (l : LinesIn) → entry_standing e ≡ compact k column l → (e.line ≡ length e.row.dashes → ⊥)
+    × (behind_columns e.row.column (take (suc e.line) e.row.dashes) ≡ column) × (compact_lines e ≡ l)
+dash_by e k column l is = go (eqb e.line (length e.row.dashes)) refl is
+  where
+    rows : (rs : List Row) → below e rs ≡ compact k column l → ⊥
+    rows [] same = absurd (cc)
+    rows (r ∷ rs) same = by (is_alone r) same
+      where
+        by : (b : Bool) → cond b (alone (lone (before_entry e ++ print_row e.row []) r (rows_text rs (behind_entry e)))) (under (held e) r.column) ≡ compact k column l → ⊥
+        by true same = absurd (cc)
+        by false same = absurd (cc)
+
+    mark : (x : Content) → behind_mark e x ≡ compact k column l → ⊥
+    mark (Nothing tail) same = rows e.under same
+    mark (Inline space node tail) same = by (is_empty (slices e.row).head) same
+      where
+        by : (b : Bool) → cond b (below e e.under) (beside (held e)) ≡ compact k column l → ⊥
+        by true same = rows e.under same
+        by false same = absurd (cc)
+    mark (Block space anchor b) same = absurd (cc)
+
+    go : (b : Bool) → eqb e.line (length e.row.dashes) ≡ b → cond b (behind_mark e e.row.content) (compact_in e) ≡ compact k column l →
+        (e.line ≡ length e.row.dashes → ⊥) × (behind_columns e.row.column (take (suc e.line) e.row.dashes) ≡ column) × (compact_lines e ≡ l)
+    go true at same = absurd (mark e.row.content same)
+    go false at same = (eqb-false e.line (length e.row.dashes) at, cc, cc)
+
+-- what the code tells of the end of one
+pub dash_there : (t : List ℕ) (p : Path) (steps : List Step) (x : RowLine) (k : MarkPieces) (l : LinesIn) (w : EntriesEnd) → steps_of p ≡ steps →
+    read_at t ≡ Some (cut_of t) → standing_at p.doc steps (cut_of t) ≡ Some (compact k w.column l) →
+    Some (line_view x) ≡ option_map (numbers (document_row p.doc (cut_of t))) (row_line_at p (cut_of t)) →
+    w.path.now ≡ p → w.first ≡ x.row → EndsLineAt t l.last l.behind w.at → (z : EndOfEntries) × IsEndAt (cut_of t) w.path.now.doc w z
+dash_there t p [] x k l w steps read at line path first ends =
+    let q = map_some (λ (y : PlacedPart). root_standing y y.part.rows) (placed_document p.doc (cut_of t)) (compact k w.column l) at in absurd (no_dash_root q.0 q.0.part.rows k w.column l q.2)
+dash_there t p (s ∷ ss) x k l w steps read at line path first ends =
+    let c : Cut = cut_of t in
+    let again : read_at (cut_text c) ≡ Some c = ap read_at (text_read t c read) ∙ read in
+    let e = map_some entry_standing (rows_of_entry p.doc (s ∷ ss) c) (compact k w.column l) at in
+    let is = dash_by e.0 k w.column l e.2 in
+    let most : e.0.line ≤ length e.0.row.dashes = line_within p.doc (s ∷ ss) c (entry_row e.0) (entry_is_row p.doc (s ∷ ss) c e.0 e.1) in
+    let less : e.0.line < length e.0.row.dashes = less_than e.0.line (length e.0.row.dashes) most is.0 in
+    let ended = compact_text_ended p.doc s ss c e.0 again e.1 less (ap (λ (y : LinesIn). is_empty y.last) is.2 ∙ ends.0) in
+    let row = row_number c p e.0 x (ap (λ (us : List Step). rows_of_entry p.doc us c) steps ∙ e.1) line in
+    end_known t p s ss steps read e.0 e.1 w path (length e.0.front) (inr (record { first = refl; dash = less; column_is = is.1 }))
+    (omega (arith, dash_deep e.0 less, is.1)) ended.0 ended.1 (omega (arith, ends.1, ap (λ (y : LinesIn). length y.behind) is.2)) (λ j later. omega (arith, later, first, row))
+  where
+    less_than : (a b : ℕ) → a ≤ b → (a ≡ b → ⊥) → a < b
+    less_than a b most other = elim (cases_lt a b) [ inl is ↦ is | inr least ↦ absurd (other (omega (arith, most, least))) ]
+
+-- a root that is a mapping, by its rows
+root_by : (q : PlacedPart) (rs : List Row) (l : LinesIn) (column : ℕ) → root_standing q rs ≡ root column l → (r : Row) × (us : List Row) × (rs ≡ r ∷ us) × (is_alone r ≡ false) × (r.column ≡ column) × (root_lines q r us ≡ l)
+root_by q [] l column is = absurd (cc)
+root_by q (r ∷ us) l column is = go (is_alone r) refl is
+  where
+    go : (b : Bool) → is_alone r ≡ b → cond b (alone (lone q.before r (rows_text us (q.part.end ++ q.behind)))) (root r.column (root_lines q r us)) ≡ root column l →
+        (x : Row) × (xs : List Row) × (r ∷ us ≡ x ∷ xs) × (is_alone x ≡ false) × (x.column ≡ column) × (root_lines q x xs ≡ l)
+    go true single same = absurd (cc)
+    go false single same = (r, us, refl, single, cc, cc)
+
+-- what is at an item or entry is no root
+no_root : (e : RowsOfEntry) (column : ℕ) (l : LinesIn) → entry_standing e ≡ root column l → ⊥
+no_root e column l is = go (eqb e.line (length e.row.dashes)) is
+  where
+    rows : (rs : List Row) → below e rs ≡ root column l → ⊥
+    rows [] same = absurd (cc)
+    rows (r ∷ rs) same = by (is_alone r) same
+      where
+        by : (b : Bool) → cond b (alone (lone (before_entry e ++ print_row e.row []) r (rows_text rs (behind_entry e)))) (under (held e) r.column) ≡ root column l → ⊥
+        by true same = absurd (cc)
+        by false same = absurd (cc)
+
+    mark : (x : Content) → behind_mark e x ≡ root column l → ⊥
+    mark (Nothing tail) same = rows e.under same
+    mark (Inline space node tail) same = by (is_empty (slices e.row).head) same
+      where
+        by : (b : Bool) → cond b (below e e.under) (beside (held e)) ≡ root column l → ⊥
+        by true same = rows e.under same
+        by false same = absurd (cc)
+    mark (Block space anchor b) same = absurd (cc)
+
+    go : (b : Bool) → cond b (behind_mark e e.row.content) (compact_in e) ≡ root column l → ⊥
+    go true same = mark e.row.content same
+    go false same = absurd (cc)
+
+-- what the code tells of the end of a root
+pub root_there : (t : List ℕ) (p : Path) (steps : List Step) (l : LinesIn) (w : EntriesEnd) → steps_of p ≡ steps → read_at t ≡ Some (cut_of t) → standing_at p.doc steps (cut_of t) ≡ Some (root w.column l) →
+    w.path.now ≡ p → EndsLineAt t l.last l.behind w.at → (z : EndOfEntries) × IsEndAt (cut_of t) w.path.now.doc w z
+root_there t p (s ∷ ss) l w steps read at path ends =
+    let e = map_some entry_standing (rows_of_entry p.doc (s ∷ ss) (cut_of t)) (root w.column l) at in absurd (no_root e.0 w.column l e.2)
+root_there t p [] l w steps read at path ends =
+    let c : Cut = cut_of t in
+    let again : read_at (cut_text c) ≡ Some c = ap read_at (text_read t c read) ∙ read in
+    let q = map_some (λ (y : PlacedPart). root_standing y y.part.rows) (placed_document p.doc c) (root w.column l) at in
+    let r = root_by q.0 q.0.part.rows l w.column q.2 in
+    let ended = root_text_ended p.doc c q.0 again q.1 r.0 r.1 r.2 r.3 (ap (λ (y : LinesIn). is_empty y.last) r.5 ∙ ends.0) in
+    let z : EndOfEntries = record { steps = []; first = 0; column = w.column; at = w.at } in
+    subst (λ (o : Path). (x : EndOfEntries) × IsEndAt c o.doc w x) (sym path) (
       z,
       record {
-        document = doc;
-        known = record {
-          found = is.found;
-          bare = found.0;
-          entries = found.1;
-          deep = mark_deep e column is.last (omega (arith, less, ap (λ (y : Held). y.mark.column) same));
-          behind = behind;
-          within = omega (arith, size, ap length text);
-          edge = subst (IsCharBoundary (cut_text c)) (sym place) (IsCharBoundary-at_seam (cut_text c) upto (behind_entry e) parts (held_spells n s ss c e again is.found is.last).1.behind.utf8);
-          text = ended.0;
-          ended = parts ∙ (ap (λ (u : List ℕ). u ++ behind_entry e) ended.1 ∙ (append_assoc ended.0 (10 ∷ []) (behind_entry e) ∙ ap (λ (u : List ℕ). ended.0 ++ (10 ∷ u)) behind));
-        };
-        steps = steps;
-        row = row ∙ is.row;
+        document = ap (λ (o : Path). o.doc) path;
+        known = known t p.doc z read q.0 q.1 q.0.part.rows [] (sym (append-nil q.0.part.rows)) (record { first = r.0; others = r.1; are = r.2; marked = r.3; column_is = r.4 }, refl) ended.0 ended.1
+            (omega (arith, ends.1, ap (λ (y : LinesIn). length y.behind) r.5));
+        steps = ap steps_of path ∙ steps;
+        first = λ k later. omega arith;
         at = refl;
-        column = col;
+        column = refl;
       },
     )
-
--- a text of some bytes isn't empty
-pub some_text : (l : List ℕ) → (length l ≡ 0 → ⊥) → is_empty l ≡ false
-some_text [] some = absurd (some refl)
-some_text (x ∷ l) some = refl

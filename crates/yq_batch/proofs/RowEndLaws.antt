@@ -1,100 +1,70 @@
 -- The end of a mapping's entries is there still after a value is put in one of its rows, and after an entry is put there; so are the rows before it.
-use Rattle.std.proofs.Common.{◌≡◌, ℕ, suc, ◌+◌, ◌*◌, ◌<◌, ◌≤◌, true, false, List, [], ◌∷◌, ◌++◌, length, map, Some, refl, sym, ap, ◌∙◌}
-use Rattle.std.{proofs.Common.{subst, arith, append_assoc, length-append}, proofs.lemmas.List.append_cancel_right}
-use Rattle.std.{proofs.lemmas.Option.same_Some, specs.List.slice_get}
+use Rattle.std.proofs.Common.{◌≡◌, ◌⊎◌, ⊎_elim, inl, inr, ℕ, suc, ◌+◌, ◌*◌, ◌<◌, ◌≤◌, false, List, [], ◌∷◌, ◌++◌, length, map, take, Some}
+use Rattle.std.proofs.Common.{refl, sym, ap, ◌∙◌, subst, arith, append_assoc, append-nil, length-append}
+use Rattle.std.{proofs.lemmas.List.append_cancel_right, proofs.lemmas.Option.same_Some, specs.List.slice_get}
 use Rattle.yq_text.{specs.Limit.text_limit, specs.Script.{Segment, new_text}}
 use Rattle.yq_core.{specs.BlockWritten.break_text, specs.Nodes.FlowNode, specs.Paths.Step, specs.Text.is_empty, specs.Tree.Node}
 use Rattle.yq_core.{specs.declared.block_types.Break.Break, specs.declared.block_types.Break.TheVariants.{CrLf, Lf}}
 use Rattle.yq_outline.{specs.Extents.dash_at, specs.RowWalk.{deeper_rows, line_level}}
-use Rattle.yq_row_table.{specs.Rows.{Cut, Inline, Part, Row, cut_text, print_row, rows_text}, specs.Seams.is_block, specs.View.slices}
-use Rattle.yq_documents.{specs.Documents.document_parts, specs.Reading.{documents, read_at}}
-use Rattle.yq_places.{specs.FirstBreak.first_break, specs.Standings.{RowsOfEntry, before_entry, held, rows_of_entry}}
+use Rattle.yq_row_table.{specs.Rows.{Cut, Inline, Part, Row, behind_columns, cut_text, print_row, rows_text}, specs.Seams.is_block}
+use Rattle.yq_row_table.{specs.Splices.behind_part, specs.View.slices}
+use Rattle.yq_documents.{specs.Documents.document_parts, specs.PartNumbers.part_number, specs.Reading.{documents, read_at}}
+use Rattle.yq_places.{specs.FirstBreak.first_break, specs.PlacedRows.{PlacedPart, before_part, placed_document}}
+use Rattle.yq_places.specs.Standings.{RowsOfEntry, before_entry, behind_entry, held, rows_of_entry}
 use Rattle.yq_semantics.{specs.Fits.Fits, specs.Operations.append, specs.Rooms.room_of}
 use Rattle.yq_edit_rules.{specs.Appends.inserted, specs.BlockReading.is_filled, specs.BlockRows.key_row, specs.Changed.put_document}
-use Rattle.yq_edit_rules.{specs.Edits.op_edits, specs.EntryEdits.{entry_lines, more_lines}, specs.Layouts.layout_of}
-use Rattle.yq_edit_rules.{specs.Operands.HasOperand, specs.Rooms.row_shape, specs.RowChanges.{ChangesRow, PutsOne}}
-use Rattle.yq_edit_rules.{specs.StandingLaws.StandsThere, proofs.FlowKeptLaws.one_other, proofs.LayoutLaws.more_like}
-use Rattle.yq_edit_rules.proofs.StandingRows.{rows_stand}
-use Rattle.yq_edit_laws.{proofs.CutLaws.text_read, proofs.UnderAppends.{last_some, unfilled_alike}}
-use Rattle.yq_batch.{specs.OpenRows.head_front, specs.RowEnds.{AreEntriesUnder, EndOfEntries, EndsHere, IsEndIn}}
-use Rattle.yq_batch.proofs.RowOrder.{StaysInFront, begins_within, front_stays, one_end, one_keeps, one_rows, part_put, q, stays_in_front}
-use Rattle.yq_batch.proofs.RowsUnder.{IsRowUnder, behind_then, deeper_by_shapes, deeper_more, end_text, entries_more, entries_then}
-use Rattle.yq_batch.proofs.RowsUnder.{row_under, under_size, under_then}
-use Rattle.yq_edit_laws.proofs.UnderAppends as adds
+use Rattle.yq_edit_rules.{specs.EntryEdits.{entry_lines, more_lines}, specs.Layouts.layout_of, specs.Operands.HasOperand}
+use Rattle.yq_edit_rules.{specs.PlacedParts.StandsAt, specs.Rooms.{RowShape, row_shape}, specs.RowChanges.ChangesRow}
+use Rattle.yq_edit_rules.{specs.StandingLaws.StandsThere, proofs.CommentRowLaws.rows_front, proofs.FlowKeptLaws.one_other}
+use Rattle.yq_edit_rules.{proofs.LayoutLaws.more_like, proofs.PlacedPartLaws.document_stands_at, proofs.StandingRows.rows_stand}
+use Rattle.yq_edit_laws.{proofs.CutLaws.text_read, proofs.EntryAdds.{AddsEntry, adds_as, new, next, read_next, row_is, unfilled_alike}}
+use Rattle.yq_edit_laws.proofs.LinesAppends.{compact_adds, compact_last_some, dash_stands, root_adds, root_last_some}
+use Rattle.yq_edit_laws.proofs.UnderAppends.{last_some, stands, under_adds}
+use Rattle.yq_batch.specs.OpenRows.{head_front}
+use Rattle.yq_batch.specs.RowEnds.{AreMappingRows, EndOfEntries, EndsAfterRows, EndsHere, EndsInEntry, HasNoHead, IsAfterDash, IsUnderMark}
+use Rattle.yq_batch.proofs.RowOrder.{StaysInFront, begins_within, entry_placed, front_stays, one_end, one_keeps, one_rows, others_stay}
+use Rattle.yq_batch.{proofs.RowOrder.{part_put, q, stays_in_front}, proofs.RowsTakenOn.placed_put}
+use Rattle.yq_batch.proofs.RowsUnder.{IsRowIn, deeper_by_shapes, deeper_more, entries_more, entries_then, level_by_shape, row_in}
+use Rattle.yq_batch.{proofs.RowsUnder.{rows_split, same_split, under_size, under_then}, proofs.RowShapes.entry_like}
 
--- what begins before the text after a mapping is in front of what comes after its rows
-module _ (z : EndOfEntries) (m : ℕ) (d : Cut) (rest : List ℕ) (read_d : read_at (cut_text d) ≡ Some d) (h : EndsHere z m d rest) where
-  abbrev now : RowsOfEntry
-  now = h.now
+-- an item or entry without a node on its line is so in the same row elsewhere
+bare_there : (e now : RowsOfEntry) → now.row ≡ e.row → now.line ≡ e.line → HasNoHead e → HasNoHead now
+bare_there e now row line h = record {
+  last = line ∙ (h.last ∙ ap (λ (r : Row). length r.dashes) (sym row));
+  plain = ap (λ (r : Row). is_block r.content) row ∙ h.plain;
+  none = ap (λ (r : Row). is_empty (slices r).head) row ∙ h.none;
+}
 
-  abbrev steps : List Step
-  steps = z.step ∷ z.steps
+-- The rows of an item or entry are there still, but for those under it, which are these then.
+module _ (z : EndOfEntries) (m : ℕ) (s : Step) (ss : List Step) (d next : Cut) (front back : List Row) (e : EndsInEntry m s ss z d front back) (read : read_at (cut_text next) ≡ Some next) (w : StaysInFront e.entry m (s ∷ ss) next)
+    (p : Part) (there : slice_get (document_parts next) m ≡ Some p) (us front_now : List Row) (front_is : front_now ≡ e.entry.front ++ (e.entry.row ∷ us)) (rows_are : p.rows ≡ front_now ++ back)
+    (deep : deeper_rows (line_level e.entry.line (slices e.entry.row)) (map slices (us ++ e.entry.back)) ≡ length us) (entries : IsUnderMark z e.entry → AreMappingRows us z.column) where
+  under_is : (w.now.under ≡ us) × (w.now.back ≡ e.entry.back)
+  under_is =
+      under_then m s ss e.entry next read w p there us e.entry.back
+      (rows_are ∙ ((λ i. front_is i ++ e.back_is i) ∙ append_assoc e.entry.front (e.entry.row ∷ us) e.entry.back)) deep
 
-  abbrev pub upto : List ℕ
-  upto = before_entry now ++ print_row now.row (rows_text now.under [])
+  place_now : IsUnderMark z e.entry ⊎ IsAfterDash z e.entry → IsUnderMark z w.now ⊎ IsAfterDash z w.now
+  place_now (inl u) = inl (record {
+    first = u.first ∙ ap (λ (rs : List Row). suc (length rs)) (sym w.front);
+    bare = bare_there e.entry w.now w.row w.line u.bare;
+    entries = subst (λ (rs : List Row). AreMappingRows rs z.column) (sym under_is.0) (entries u);
+  })
+  place_now (inr k) = inr (record {
+    first = k.first ∙ ap length (sym w.front);
+    dash = omega (arith, k.dash, w.line, ap (λ (r : Row). length r.dashes) w.row);
+    column_is = (λ i. behind_columns (w.row i).column (take (suc (w.line i)) (w.row i).dashes)) ∙ k.column_is;
+  })
 
-  pub text_upto : cut_text d ≡ upto ++ rest
-  text_upto = end_text m steps d now h.found ∙ ap (λ (t : List ℕ). upto ++ t) h.behind
-
-  abbrev stands : StandsThere m z.step z.steps d now
-  stands = rows_stand m z.step z.steps d now read_d h.found
-
-  pub early : (u : Step) (us : List Step) (k : RowsOfEntry) → rows_of_entry m (u ∷ us) d ≡ Some k → length rest + length (head_front k) < length (cut_text d) → length k.front < length now.front + suc (length now.under)
-  early u us k found less = begins_within m u z.step us z.steps d k now read_d found h.found (omega (arith, less, ap length text_upto, length-append upto rest))
-
-  -- a value in a row under it
-  module _ (u : Step) (us : List Step) (k : RowsOfEntry) (found : rows_of_entry m (u ∷ us) d ≡ Some k) (later : length now.front < length k.front) (less : length rest + length (head_front k) < length (cut_text d))
-      (segments : List Segment) (y : ChangesRow m d k segments) where
-    abbrev next : Cut
-    next = put_document m (q d m y.part y.front y.back y.row y.new y.there y.rows_are y.shape) d
-
-    module _ (read_next : read_at (cut_text next) ≡ Some next) (text : List ℕ) (text_next : cut_text next ≡ text ++ (10 ∷ rest)) where
-      rows : now.front ++ (now.row ∷ (now.under ++ now.back)) ≡ y.front ++ (y.row ∷ y.back)
-      rows = sym stands.rows_are ∙ (ap (λ (p : Part). p.rows) (same_Some _ _ (sym stands.old.there ∙ y.there)) ∙ y.rows_are)
-
-      x : IsRowUnder now y.front y.row y.back
-      x = row_under now y.front y.row y.back rows (omega (arith, later, y.front_size)) (omega (arith, early u us k found less, y.front_size))
-
-      abbrev w : StaysInFront now m steps next
-      w = front_stays d m y.part y.front y.back y.row y.new y.there y.rows_are y.shape steps now h.found (omega (arith, later, y.front_size))
-
-      abbrev new_under : List Row
-      new_under = x.above ++ (y.new ∷ x.below)
-
-      rows_now : (inserted y.front (y.new ∷ []) y.back y.part).rows ≡ now.front ++ (now.row ∷ (new_under ++ now.back))
-      rows_now =
-          one_rows y.part y.front y.back y.new
-          ∙ ((λ i. x.front_is i ++ (y.new ∷ x.back_is i))
-          ∙ (append_assoc now.front (now.row ∷ x.above) (y.new ∷ (x.below ++ now.back)) ∙ ap (λ (rs : List Row). now.front ++ (now.row ∷ rs)) (sym (append_assoc x.above (y.new ∷ x.below) now.back))))
-
-      shapes : map row_shape (new_under ++ now.back) ≡ map row_shape (now.under ++ now.back)
-      shapes =
-          ap (map row_shape) (append_assoc x.above (y.new ∷ x.below) now.back)
-          ∙ (one_other x.above y.new y.row (x.below ++ now.back) y.shape
-          ∙ ap (map row_shape) (sym (append_assoc x.above (y.row ∷ x.below) now.back) ∙ ap (λ (rs : List Row). rs ++ now.back) (sym x.under_is)))
-
-      deep : deeper_rows (line_level now.line (slices now.row)) (map slices (new_under ++ now.back)) ≡ length new_under
-      deep =
-          deeper_by_shapes _ _ _ shapes
-          ∙ (under_size m steps d now h.found ∙ omega (arith, ap length x.under_is, length-append x.above (y.row ∷ x.below), length-append x.above (y.new ∷ x.below)))
-
-      there : slice_get (document_parts next) m ≡ Some (inserted y.front (y.new ∷ []) y.back y.part)
-      there = part_put d m y.part _ y.front (y.row ∷ y.back) (y.new ∷ y.back) y.there y.rows_are (one_rows y.part y.front y.back y.new) (one_end y.part y.front y.back y.new) (one_keeps y.part y.front y.back y.new)
-
-      pub end_stays : EndsHere z m next rest
-      end_stays =
-          let under_is = under_then m z.step z.steps now next read_next w _ there new_under now.back rows_now deep in
-          record {
-            now = w.now;
-            found = w.found;
-            row = w.row ∙ h.row;
-            line = w.line ∙ h.line;
-            size = ap length w.front ∙ h.size;
-            entries = subst (λ (rs : List Row). AreEntriesUnder rs z.column) (sym under_is.0) (entries_then z.column now.under x.above x.below y.row y.new h.entries x.under_is y.shape);
-            behind = behind_then m z.step z.steps now next read_next w _ there new_under now.back rows_now deep refl ∙ h.behind;
-            text = text;
-            ended = text_next;
-          }
+  still_in : EndsInEntry m s ss z next front_now back
+  still_in = record {
+    entry = w.now;
+    found = w.found;
+    place = place_now e.place;
+    deep = let same : line_level w.now.line (slices w.now.row) ≡ line_level e.entry.line (slices e.entry.row) = λ i. line_level (w.line i) (slices (w.row i)) in omega (arith, same, e.deep);
+    front_is = front_is ∙ (λ i. sym w.front i ++ (sym w.row i ∷ sym under_is.0 i));
+    back_is = e.back_is ∙ sym under_is.1;
+  }
 
 break_ends : (br : Break) → (b : List ℕ) × (break_text br ≡ b ++ (10 ∷ []))
 break_ends Lf = ([], refl)
@@ -105,124 +75,246 @@ new_level : (column : ℕ) (key : List ℕ) (node : FlowNode) (end : List ℕ) �
 unfolding dash_at
 new_level column key node end = omega arith
 
--- an entry at the end
-module _ (z : EndOfEntries) (m : ℕ) (c d : Cut) (rest : List ℕ) (read_d : read_at (cut_text d) ≡ Some d) (known : IsEndIn c m z) (h : EndsHere z m d rest) (key : List ℕ) (v : Node) where
-  abbrev e : RowsOfEntry
-  e = h.now
+module _ (z : EndOfEntries) (m : ℕ) (d : Cut) (rest : List ℕ) (read_d : read_at (cut_text d) ≡ Some d) (h : EndsHere z m d rest) where
+  abbrev p : Part
+  p = h.placed.part
 
-  abbrev way : List Step
-  way = z.step ∷ z.steps
+  at : StandsAt d m h.placed
+  at = document_stands_at d m h.placed h.there
 
-  abbrev placed : StandsThere m z.step z.steps d e
-  placed = rows_stand m z.step z.steps d e read_d h.found
+  abbrev pub upto : List ℕ
+  upto = h.placed.before ++ rows_text h.front []
 
-  pub mark_last : e.line ≡ length e.row.dashes
-  mark_last = h.line ∙ (known.bare.last ∙ ap (λ (r : Row). length r.dashes) (sym h.row))
+  pub text_upto : cut_text d ≡ upto ++ rest
+  text_upto = rows_split m d h.placed h.front h.back h.there h.rows_are ∙ ap (λ (t : List ℕ). upto ++ t) h.behind
 
-  pub mark_plain : is_block e.row.content ≡ false
-  mark_plain = ap (λ (r : Row). is_block r.content) h.row ∙ known.bare.plain
+  -- what begins before the text after the mapping is in one of the rows up to its last one
+  pub early : (u : Step) (us : List Step) (k : RowsOfEntry) → rows_of_entry m (u ∷ us) d ≡ Some k → length rest + length (head_front k) < length (cut_text d) → length k.front < length h.front
+  early u us k found less = begins_within m u us d k h.placed h.front h.back read_d found h.there h.rows_are (omega (arith, less, ap length text_upto, length-append upto rest))
 
-  pub mark_none : is_empty (slices e.row).head ≡ true
-  mark_none = ap (λ (r : Row). is_empty (slices r).head) h.row ∙ known.bare.none
+  -- a document with another part in its place
+  abbrev placed_with : Part → PlacedPart
+  placed_with x = record { before = before_part (part_number m d) d; part = x; behind = behind_part (part_number m d) d }
 
-  ended : upto z m d rest read_d h ≡ h.text ++ (10 ∷ [])
-  ended = append_cancel_right _ _ rest (sym (text_upto z m d rest read_d h) ∙ (h.ended ∙ sym (append_assoc h.text (10 ∷ []) rest)))
+  behind_with : (x : Part) → x.end ≡ p.end → rows_text h.back (x.end ++ (placed_with x).behind) ≡ rest
+  behind_with x end = (λ i. rows_text h.back (end i ++ at.behind i)) ∙ h.behind
 
-  pub mark_broken : is_empty (held e).last ≡ false
-  mark_broken = last_some m z.step z.steps d e h.entries.first h.entries.others read_d h.found h.entries.under_is h.entries.marked h.text ended
+  -- a value in a row of the mapping
+  module _ (u : Step) (us : List Step) (k : RowsOfEntry) (found : rows_of_entry m (u ∷ us) d ≡ Some k) (later : z.first ≤ length k.front) (less : length rest + length (head_front k) < length (cut_text d))
+      (segments : List Segment) (y : ChangesRow m d k segments) where
+    abbrev now : Part
+    now = q d m y.part y.front y.back y.row y.new y.there y.rows_are y.shape
 
-  abbrev pub segments : List Segment
-  segments = adds.segments m z.step z.steps key v d e read_d h.found h.entries.first h.entries.others mark_last mark_plain mark_none h.entries.under_is h.entries.marked mark_broken
+    abbrev next_cut : Cut
+    next_cut = put_document m now d
 
-  pub puts : PutsOne segments (upto z m d rest read_d h) [] (adds.lines m z.step z.steps key v d e read_d h.found h.entries.first h.entries.others mark_last mark_plain mark_none h.entries.under_is h.entries.marked mark_broken) rest
-  puts = subst (PutsOne segments (upto z m d rest read_d h) [] _) h.behind (adds.puts m z.step z.steps key v d e read_d h.found h.entries.first h.entries.others mark_last mark_plain mark_none h.entries.under_is h.entries.marked mark_broken)
+    same : y.part ≡ p
+    same = same_Some _ _ (sym y.there ∙ at.there)
 
-  pub edited : op_edits (append m way (Some key) v) d ≡ Some segments
-  edited = adds.edited m z.step z.steps key v d e read_d h.found h.entries.first h.entries.others mark_last mark_plain mark_none h.entries.under_is h.entries.marked mark_broken
+    x : IsRowIn y.front y.row y.back h.front h.back
+    x = row_in y.front y.row y.back h.front h.back (sym y.rows_are ∙ (ap (λ (a : Part). a.rows) same ∙ h.rows_are)) (omega (arith, y.front_size, early u us k found less))
 
-  module _ (unfilled : is_filled v ≡ false) (breaks : first_break (cut_text d) ≡ first_break (cut_text c)) where
-    pub lines_are : adds.lines m z.step z.steps key v d e read_d h.found h.entries.first h.entries.others mark_last mark_plain mark_none
-        h.entries.under_is h.entries.marked mark_broken ≡ more_lines (layout_of m c) (Some key) v z.column (10 ∷ [])
-    lines_are =
-        more_like (Some key) v (layout_of m d) (layout_of m c) h.entries.first.column (10 ∷ []) (unfilled_alike v (layout_of m d) (layout_of m c) unfilled breaks)
-        ∙ ap (λ (n : ℕ). more_lines (layout_of m c) (Some key) v n (10 ∷ [])) h.entries.column_is
+    abbrev front_now : List Row
+    front_now = y.front ++ (y.new ∷ x.mid)
 
-    module _ (operand : HasOperand (append m way (Some key) v)) (fits : Fits (room_of (cut_text d)) (append m way (Some key) v) (documents d)) (small : length (new_text segments) ≤ text_limit) where
-      abbrev pub after : Cut
-      after = adds.next m z.step z.steps key v d e read_d h.found h.entries.first h.entries.others mark_last mark_plain mark_none h.entries.under_is h.entries.marked mark_broken unfilled operand fits small
+    rows_now : now.rows ≡ front_now ++ h.back
+    rows_now = one_rows y.part y.front y.back y.new ∙ (ap (λ (rs : List Row). y.front ++ (y.new ∷ rs)) x.back_is ∙ sym (append_assoc y.front (y.new ∷ x.mid) h.back))
 
-      abbrev new : Row
-      new = adds.new m z.step z.steps key v d e read_d h.found h.entries.first h.entries.others mark_last mark_plain mark_none h.entries.under_is h.entries.marked mark_broken unfilled operand fits small
+    there : slice_get (document_parts next_cut) m ≡ Some now
+    there = part_put d m y.part now y.front (y.row ∷ y.back) (y.new ∷ y.back) y.there y.rows_are (one_rows y.part y.front y.back y.new) (one_end y.part y.front y.back y.new) (one_keeps y.part y.front y.back y.new)
 
-      pub read_new : read_at (new_text segments) ≡ Some after
-      read_new = adds.read_next m z.step z.steps key v d e read_d h.found h.entries.first h.entries.others mark_last mark_plain mark_none h.entries.under_is h.entries.marked mark_broken unfilled operand fits small
+    module _ (read_next : read_at (cut_text next_cut) ≡ Some next_cut) (text : List ℕ) (text_next : cut_text next_cut ≡ text ++ (10 ∷ rest)) where
+      stays_under : (s : Step) (ss : List Step) (e : EndsInEntry m s ss z d h.front h.back) → IsUnderMark z e.entry → EndsInEntry m s ss z next_cut front_now h.back
+      stays_under s ss e u =
+          let n : RowsOfEntry = e.entry in
+          let before : length n.front < length y.front = omega (arith, later, u.first, y.front_size) in
+          let g = row_in n.front n.row n.under y.front (y.row ∷ x.mid) (sym e.front_is ∙ x.first_is) before in
+          let w = front_stays d m y.part y.front y.back y.row y.new y.there y.rows_are y.shape (s ∷ ss) n e.found before in
+          let us_now : List Row = g.mid ++ (y.new ∷ x.mid) in
+          let shapes : map row_shape (us_now ++ n.back) ≡ map row_shape (n.under ++ n.back) =
+          ap (map row_shape) (append_assoc g.mid (y.new ∷ x.mid) n.back)
+          ∙ (one_other g.mid y.new y.row (x.mid ++ n.back) y.shape
+          ∙ ap (map row_shape) (sym (append_assoc g.mid (y.row ∷ x.mid) n.back) ∙ ap (λ (rs : List Row). rs ++ n.back) (sym g.back_is))) in
+          still_in z m s ss d next_cut h.front h.back e read_next w now there us_now front_now
+          (ap (λ (rs : List Row). rs ++ (y.new ∷ x.mid)) g.first_is ∙ append_assoc n.front (n.row ∷ g.mid) (y.new ∷ x.mid)) rows_now
+          (deeper_by_shapes _ _ _ shapes
+          ∙ (under_size m (s ∷ ss) d n e.found ∙ omega (arith, ap length g.back_is, length-append g.mid (y.row ∷ x.mid), length-append g.mid (y.new ∷ x.mid))))
+          (λ also. entries_then z.column n.under g.mid x.mid y.row y.new also.entries g.back_is y.shape)
 
-      read_after : read_at (cut_text after) ≡ Some after
-      read_after = ap read_at (text_read (new_text segments) after read_new) ∙ read_new
-
-      abbrev front : List Row
-      front = e.front ++ (e.row ∷ e.under)
-
-      abbrev part : Part
-      part = placed.part
-
-      rows_before : part.rows ≡ front ++ e.back
-      rows_before = placed.rows_are ∙ sym (append_assoc e.front (e.row ∷ e.under) e.back)
-
-      front_size : length front ≡ length e.front + suc (length e.under)
-      front_size = length-append e.front (e.row ∷ e.under)
-
-      stays : (ss : List Step) (k : RowsOfEntry) → rows_of_entry m ss d ≡ Some k → length k.front < length front → StaysInFront k m ss after
-      stays = stays_in_front d m part _ front e.back (new ∷ e.back) placed.old.there rows_before (one_rows part front e.back new) (one_end part front e.back new) (one_keeps part front e.back new)
-
-      -- rows before it
-      pub row_stays : (u : Step) (us : List Step) (k : RowsOfEntry) → rows_of_entry m (u ∷ us) d ≡ Some k → length rest + length (head_front k) < length (cut_text d) → StaysInFront k m (u ∷ us) after
-      row_stays u us k found less = stays (u ∷ us) k found (omega (arith, front_size, early z m d rest read_d h u us k found less))
-
-      abbrev in_front : StaysInFront e m way after
-      in_front = stays way e h.found (omega (arith, front_size))
-
-      rows_after : (inserted front (new ∷ []) e.back part).rows ≡ e.front ++ (e.row ∷ ((e.under ++ (new ∷ [])) ++ e.back))
-      rows_after =
-          one_rows part front e.back new
-          ∙ (append_assoc e.front (e.row ∷ e.under) (new ∷ e.back) ∙ ap (λ (rs : List Row). e.front ++ (e.row ∷ rs)) (sym (append_assoc e.under (new ∷ []) e.back)))
-
-      level : line_level e.line (slices e.row) < line_level 0 (slices new)
-      level =
-          let same : line_level e.line (slices e.row) ≡ line_level z.entry.line (slices z.entry.row) = λ i. line_level (h.line i) (slices (h.row i)) in
-          let own : line_level 0 (slices new) ≡ 3 * h.entries.first.column + 2 =
-          new_level h.entries.first.column key
-          (adds.row_is m z.step z.steps key v d e read_d h.found h.entries.first h.entries.others mark_last mark_plain mark_none
-          h.entries.under_is h.entries.marked mark_broken unfilled operand fits small).0
-          (break_text (first_break (cut_text d))) in
-          omega (arith, same, known.deep, own, h.entries.column_is)
-
-      deep_after : deeper_rows (line_level e.line (slices e.row)) (map slices ((e.under ++ (new ∷ [])) ++ e.back)) ≡ length (e.under ++ (new ∷ []))
-      deep_after =
-          ap (λ (rs : List Row). deeper_rows (line_level e.line (slices e.row)) (map slices rs)) (append_assoc e.under (new ∷ []) e.back)
-          ∙ deeper_more _ e.under e.back new (under_size m way d e h.found) level
-
-      there_after : slice_get (document_parts after) m ≡ Some (inserted front (new ∷ []) e.back part)
-      there_after = part_put d m part _ front e.back (new ∷ e.back) placed.old.there rows_before (one_rows part front e.back new) (one_end part front e.back new) (one_keeps part front e.back new)
-
-      pub end_after : EndsHere z m after rest
-      end_after =
-          let under_is = under_then m z.step z.steps e after read_after in_front _ there_after (e.under ++ (new ∷ [])) e.back rows_after deep_after in
-          let br = break_ends (first_break (cut_text d)) in
-          let lines : List ℕ = entry_lines (layout_of m d) h.entries.first.column (Some key) v in
-          let up : List ℕ = upto z m d rest read_d h in
+      -- that row may be the one of its dash
+      stays_after_dash : (s : Step) (ss : List Step) (e : EndsInEntry m s ss z d h.front h.back) → IsAfterDash z e.entry → EndsInEntry m s ss z next_cut front_now h.back
+      stays_after_dash s ss e k =
+          let n : RowsOfEntry = e.entry in
+          let l = entry_like d m y.part now y.there (others_stay d m y.part y.front y.back y.row y.new y.there y.rows_are y.shape).shapes (one_keeps y.part y.front y.back y.new) (s ∷ ss) n e.found in
+          let own : StandsThere m s ss next_cut l.now = rows_stand m s ss next_cut l.now read_next l.found in
+          let rows : (l.now.front ++ (l.now.row ∷ l.now.under)) ++ l.now.back ≡ front_now ++ h.back =
+          append_assoc l.now.front (l.now.row ∷ l.now.under) l.now.back ∙ (sym own.rows_are ∙ (ap (λ (a : Part). a.rows) (same_Some _ _ (sym own.old.there ∙ there)) ∙ rows_now)) in
+          let size : length (l.now.front ++ (l.now.row ∷ l.now.under)) ≡ length front_now =
+          omega (
+            arith,
+            l.size,
+            l.under,
+            length-append l.now.front (l.now.row ∷ l.now.under),
+            length-append n.front (n.row ∷ n.under),
+            ap length e.front_is,
+            ap length x.first_is,
+            length-append y.front (y.row ∷ x.mid),
+            length-append y.front (y.new ∷ x.mid),
+          ) in
+          let g = same_split (l.now.front ++ (l.now.row ∷ l.now.under)) l.now.back front_now h.back rows size in
           record {
-            now = in_front.now;
-            found = in_front.found;
-            row = in_front.row ∙ h.row;
-            line = in_front.line ∙ h.line;
-            size = ap length in_front.front ∙ h.size;
-            entries = subst (λ (rs : List Row). AreEntriesUnder rs z.column) (sym under_is.0) (entries_more z.column e.under new h.entries);
-            behind = behind_then m z.step z.steps e after read_after in_front _ there_after (e.under ++ (new ∷ [])) e.back rows_after deep_after refl ∙ h.behind;
-            text = up ++ (lines ++ br.0);
-            ended =
-                text_read (new_text segments) after read_new
-                ∙ (puts.new_is
-                ∙ (ap (λ (b : List ℕ). up ++ ((lines ++ b) ++ rest)) br.1
-                ∙ (ap (λ (t : List ℕ). up ++ t) (ap (λ (t : List ℕ). t ++ rest) (sym (append_assoc lines br.0 (10 ∷ []))) ∙ append_assoc (lines ++ br.0) (10 ∷ []) rest) ∙ sym (append_assoc up (lines ++ br.0) (10 ∷ rest)))));
+            entry = l.now;
+            found = l.found;
+            place = inr (record {
+              first = k.first ∙ sym l.size;
+              dash = omega (arith, k.dash, l.line, ap (λ (r : RowShape). length r.dashes) l.shape);
+              column_is = (λ i. behind_columns (l.shape i).column (take (suc (l.line i)) (l.shape i).dashes)) ∙ k.column_is;
+            });
+            deep =
+                let level : line_level l.now.line (slices l.now.row) ≡ line_level n.line (slices n.row) = ap (λ (j : ℕ). line_level j (slices l.now.row)) l.line ∙ level_by_shape n.line l.now.row n.row l.shape in
+                omega (arith, level, e.deep);
+            front_is = sym g.0;
+            back_is = sym g.1;
           }
+
+      stays_after : (steps : List Step) → EndsAfterRows m steps z d h.front h.back → EndsAfterRows m steps z next_cut front_now h.back
+      stays_after [] e = (entries_then z.column h.front y.front x.mid y.row y.new e.0 x.first_is y.shape, e.1)
+      stays_after (s ∷ ss) e = ⊎_elim {0, 0, 0} (stays_under s ss e) (stays_after_dash s ss e) e.place
+
+      pub end_stays : EndsHere z m next_cut rest
+      end_stays = record {
+        placed = placed_with now;
+        there = placed_put d m y.part now y.there (one_keeps y.part y.front y.back y.new);
+        front = front_now;
+        back = h.back;
+        rows_are = rows_now;
+        ends = stays_after z.steps h.ends;
+        behind = behind_with now (one_end y.part y.front y.back y.new ∙ ap (λ (a : Part). a.end) same);
+        text = text;
+        ended = text_next;
+      }
+
+  ended : upto ≡ h.text ++ (10 ∷ [])
+  ended = append_cancel_right _ _ rest (sym text_upto ∙ (h.ended ∙ sym (append_assoc h.text (10 ∷ []) rest)))
+
+  -- an entry at the end
+  module _ (key : List ℕ) (v : Node) where
+    -- where it is what an item or entry holds
+    module _ (s : Step) (ss : List Step) (e : EndsInEntry m s ss z d h.front h.back) where
+      abbrev n : RowsOfEntry
+      n = e.entry
+
+      placed_there : (n.start ≡ h.placed.before) × (n.end ≡ p.end) × (n.behind ≡ h.placed.behind)
+      placed_there = entry_placed m (s ∷ ss) d n h.placed e.found h.there
+
+      before : before_entry n ++ print_row n.row (rows_text n.under []) ≡ upto
+      before =
+          append_assoc n.start (rows_text n.front []) (print_row n.row (rows_text n.under []))
+          ∙ ((λ i. placed_there.0 i ++ sym (rows_front n.front (n.row ∷ n.under) []) i) ∙ ap (λ (us : List Row). h.placed.before ++ rows_text us []) (sym e.front_is))
+
+      behind : behind_entry n ≡ rest
+      behind = (λ i. rows_text (sym e.back_is i) (placed_there.1 i ++ placed_there.2 i)) ∙ h.behind
+
+      adds_as_here : (own : StandsThere m s ss d n) (column : ℕ) → column ≡ z.column →
+          AddsEntry m (s ∷ ss) key v d own.part (n.front ++ (n.row ∷ n.under)) n.back column
+          (before_entry n ++ print_row n.row (rows_text n.under [])) (behind_entry n) →
+          AddsEntry m (s ∷ ss) key v d p h.front h.back z.column upto rest
+      adds_as_here own column same =
+          adds_as m (s ∷ ss) key v d own.part p (n.front ++ (n.row ∷ n.under)) h.front n.back h.back column z.column (before_entry n ++ print_row n.row (rows_text n.under [])) upto (behind_entry n) rest
+          (same_Some _ _ (sym own.old.there ∙ at.there)) (sym e.front_is) (sym e.back_is) same before behind
+
+      adds_by : IsUnderMark z n ⊎ IsAfterDash z n → AddsEntry m (s ∷ ss) key v d p h.front h.back z.column upto rest
+      adds_by (inl u) =
+          let r : Row = u.entries.first in
+          let rs : List Row = u.entries.others in
+          let broken = last_some m s ss d n r rs read_d e.found u.entries.are u.entries.marked h.text (before ∙ ended) in
+          adds_as_here (stands m s ss key v d n read_d e.found r rs u.bare.last u.bare.plain u.bare.none u.entries.are u.entries.marked broken) r.column u.entries.column_is
+          (under_adds m s ss key v d n read_d e.found r rs u.bare.last u.bare.plain u.bare.none u.entries.are u.entries.marked broken)
+      adds_by (inr k) =
+          adds_as_here (dash_stands m s ss d n read_d e.found k.dash) _ k.column_is
+          (compact_adds m s ss d n read_d e.found k.dash key v (compact_last_some m s ss d n read_d e.found k.dash h.text (before ∙ ended)))
+
+    pub adds_after : (steps : List Step) → EndsAfterRows m steps z d h.front h.back → AddsEntry m steps key v d p h.front h.back z.column upto rest
+    adds_after [] e =
+        let all : p.rows ≡ h.front = h.rows_are ∙ (ap (λ (rs : List Row). h.front ++ rs) e.1 ∙ append-nil h.front) in
+        let before : h.placed.before ++ rows_text p.rows [] ≡ upto = ap (λ (rs : List Row). h.placed.before ++ rows_text rs []) all in
+        let are : p.rows ≡ e.0.first ∷ e.0.others = all ∙ e.0.are in
+        adds_as m [] key v d p p p.rows h.front [] h.back e.0.first.column z.column _ upto _ rest refl all (sym e.1) e.0.column_is before
+        (ap (λ (rs : List Row). rows_text rs (p.end ++ h.placed.behind)) (sym e.1) ∙ h.behind)
+        (root_adds m d h.placed read_d h.there e.0.first e.0.others are e.0.marked key v (root_last_some m d h.placed read_d h.there e.0.first e.0.others are e.0.marked h.text (before ∙ ended)))
+    adds_after (s ∷ ss) e = adds_by s ss e e.place
+
+    abbrev pub adds : AddsEntry m z.steps key v d p h.front h.back z.column upto rest
+    adds = adds_after z.steps h.ends
+
+    module _ (c : Cut) (unfilled : is_filled v ≡ false) (breaks : first_break (cut_text d) ≡ first_break (cut_text c)) where
+      pub lines_are : more_lines (layout_of m d) (Some key) v z.column (10 ∷ []) ≡ more_lines (layout_of m c) (Some key) v z.column (10 ∷ [])
+      lines_are = more_like (Some key) v (layout_of m d) (layout_of m c) z.column (10 ∷ []) (unfilled_alike v (layout_of m d) (layout_of m c) unfilled breaks)
+
+    module _ (unfilled : is_filled v ≡ false) (operand : HasOperand (append m z.steps (Some key) v))
+        (fits : Fits (room_of (cut_text d)) (append m z.steps (Some key) v) (documents d)) (small : length (new_text adds.segments) ≤ text_limit)
+      where
+        abbrev pub after : Cut
+        after = next m z.steps key v d p h.front h.back z.column upto rest read_d adds unfilled operand fits small
+
+        abbrev come : Row
+        come = new m z.steps key v d p h.front h.back z.column upto rest read_d adds unfilled operand fits small
+
+        pub read_new : read_at (new_text adds.segments) ≡ Some after
+        read_new = read_next m z.steps key v d p h.front h.back z.column upto rest read_d adds unfilled operand fits small
+
+        read_after : read_at (cut_text after) ≡ Some after
+        read_after = ap read_at (text_read (new_text adds.segments) after read_new) ∙ read_new
+
+        abbrev longer : Part
+        longer = inserted h.front (come ∷ []) h.back p
+
+        stays : (steps : List Step) (k : RowsOfEntry) → rows_of_entry m steps d ≡ Some k → length k.front < length h.front → StaysInFront k m steps after
+        stays = stays_in_front d m p longer h.front h.back (come ∷ h.back) at.there h.rows_are (one_rows p h.front h.back come) (one_end p h.front h.back come) (one_keeps p h.front h.back come)
+
+        -- rows before it
+        pub row_stays : (u : Step) (us : List Step) (k : RowsOfEntry) → rows_of_entry m (u ∷ us) d ≡ Some k → length rest + length (head_front k) < length (cut_text d) → StaysInFront k m (u ∷ us) after
+        row_stays u us k found less = stays (u ∷ us) k found (early u us k found less)
+
+        rows_after : longer.rows ≡ (h.front ++ (come ∷ [])) ++ h.back
+        rows_after = one_rows p h.front h.back come ∙ sym (append_assoc h.front (come ∷ []) h.back)
+
+        there_after : slice_get (document_parts after) m ≡ Some longer
+        there_after = part_put d m p longer h.front h.back (come ∷ h.back) at.there h.rows_are (one_rows p h.front h.back come) (one_end p h.front h.back come) (one_keeps p h.front h.back come)
+
+        more_in : (s : Step) (ss : List Step) → EndsInEntry m s ss z d h.front h.back → EndsInEntry m s ss z after (h.front ++ (come ∷ [])) h.back
+        more_in s ss e =
+            let n : RowsOfEntry = e.entry in
+            let w = stays (s ∷ ss) n e.found (omega (arith, ap length e.front_is, length-append n.front (n.row ∷ n.under))) in
+            let own : line_level 0 (slices come) ≡ 3 * z.column + 2 =
+            new_level z.column key (row_is m z.steps key v d p h.front h.back z.column upto rest read_d adds unfilled operand fits small).0 (break_text (first_break (cut_text d))) in
+            let level : line_level n.line (slices n.row) < line_level 0 (slices come) = omega (arith, e.deep, own) in
+            still_in z m s ss d after h.front h.back e read_after w longer there_after (n.under ++ (come ∷ [])) (h.front ++ (come ∷ []))
+            (ap (λ (rs : List Row). rs ++ (come ∷ [])) e.front_is ∙ append_assoc n.front (n.row ∷ n.under) (come ∷ [])) rows_after
+            (ap (λ (rs : List Row). deeper_rows (line_level n.line (slices n.row)) (map slices rs)) (append_assoc n.under (come ∷ []) n.back)
+            ∙ deeper_more _ n.under n.back come (under_size m (s ∷ ss) d n e.found) level)
+            (λ u. entries_more z.column n.under come u.entries)
+
+        more_after : (steps : List Step) → EndsAfterRows m steps z d h.front h.back → EndsAfterRows m steps z after (h.front ++ (come ∷ [])) h.back
+        more_after [] e = (entries_more z.column h.front come e.0, e.1)
+        more_after (s ∷ ss) e = more_in s ss e
+
+        pub end_after : EndsHere z m after rest
+        end_after =
+            let br = break_ends (first_break (cut_text d)) in
+            let lines : List ℕ = entry_lines (layout_of m d) z.column (Some key) v in
+            record {
+              placed = placed_with longer;
+              there = placed_put d m p longer at.there (one_keeps p h.front h.back come);
+              front = h.front ++ (come ∷ []);
+              back = h.back;
+              rows_are = rows_after;
+              ends = more_after z.steps h.ends;
+              behind = behind_with longer (one_end p h.front h.back come);
+              text = upto ++ (lines ++ br.0);
+              ended =
+                  text_read (new_text adds.segments) after read_new
+                  ∙ (adds.puts.new_is
+                  ∙ (ap (λ (b : List ℕ). upto ++ ((lines ++ b) ++ rest)) br.1
+                  ∙ (ap (λ (t : List ℕ). upto ++ t) (ap (λ (t : List ℕ). t ++ rest) (sym (append_assoc lines br.0 (10 ∷ []))) ∙ append_assoc (lines ++ br.0) (10 ∷ []) rest) ∙ sym (append_assoc upto (lines ++ br.0) (10 ∷ rest)))));
+            }

@@ -87,7 +87,7 @@ is_above t p w read is = go (rows_of_entry p.doc (steps_of p) (cut_of t)) refl
         }
 
 -- the row of its line, among those of the text
-row_number : (c : Cut) (p : Path) (e : RowsOfEntry) (x : RowLine) → rows_of_entry p.doc (steps_of p) c ≡ Some e → Some (line_view x) ≡ option_map (numbers (document_row p.doc c)) (row_line_at p c) →
+pub row_number : (c : Cut) (p : Path) (e : RowsOfEntry) (x : RowLine) → rows_of_entry p.doc (steps_of p) c ≡ Some e → Some (line_view x) ≡ option_map (numbers (document_row p.doc c)) (row_line_at p c) →
     x.row ≡ document_row p.doc c + length e.front
 row_number c p e x at is =
     let s = map_some (row_line_at p c) (sym is) in

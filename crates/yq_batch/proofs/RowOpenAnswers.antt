@@ -17,7 +17,7 @@ use Rattle.yq_batch.specs.OpenRows.{IsBeforeEnds, IsEndsDocument, IsOpenRows, Ma
 use Rattle.yq_batch.specs.OpenRows.{head_front}
 use Rattle.yq_batch.specs.RowEnds.{AddsAtEnd, AddsThere, LeaveRoom, EndOfEntries, IsEndBelow, IsBeforeEnd, IsEndAt, IsKnownEnd, IsEndStill}
 use Rattle.yq_batch.{specs.RowEnds.IsEndThere, specs.declared.row_ends.EntriesEnd.EntriesEnd, specs.RowRuns.{IsWrittenSo, bytes_in}}
-use Rattle.yq_batch.specs.OpenRuns.{HasKept, HasOpened, OpensAt, OpensSo, open_text}
+use Rattle.yq_batch.specs.OpenRuns.{HasKept, HasOpened, OpensAt, OpensRowsBy, Lands, OpensSo, open_text}
 use Rattle.yq_batch.{specs.Slots.{AreInOrder, HasCounts, empty_slot, slots_of, text_from}, specs.declared.any_order.SlotRun.SlotRun}
 use Rattle.yq_batch.{specs.declared.change.HeadChange.HeadChange, specs.declared.slots.SlotPlace.SlotPlace, proofs.SlotEnds.last_of}
 use Rattle.yq_batch.{proofs.SlotLaws.{places_empty, text_empty}, proofs.UnorderedAnswers.edges_empty}
@@ -92,9 +92,9 @@ module _ (c : Cut) (m : ℕ) (o : Option EndOfEntries) (read : read_at (cut_text
 -- an entry at the end of a mapping
 module _ (c : Cut) (m : ℕ) (o : Option EndOfEntries) (read : read_at (cut_text c) ≡ Some c) (op : Operation) (before after : SlotRun)
     (y : HeadChange) (run : RunsRows c m o before) (fitting : IsFitting op (open_text c before)) (h : AddsAtEnd op c m o y)
-    (a : HasOpened (cut_text c) y.place y.lead.now (string_bytes h.written) before after) where
+    (a : HasOpened (cut_text c) y.place (string_bytes h.written) [] before after) where
   abbrev append_own : Operation
-  append_own = append m (h.end.step ∷ h.end.steps) (Some h.key) h.value
+  append_own = append m h.end.steps (Some h.key) h.value
 
   append_fits : IsFitting append_own (open_text c before)
   append_fits = subst (λ (x : Operation). IsFitting x (open_text c before)) h.operation fitting
@@ -110,7 +110,7 @@ module _ (c : Cut) (m : ℕ) (o : Option EndOfEntries) (read : read_at (cut_text
       let comes = add.add_comes op c m (slots_of before.slots) (slots_of after.slots) read o run.run y h a.at a.was a.put append_fits add_small in
       subst (λ (x : Operation). OpensRow x c m o before after) (sym h.operation)
       (record {
-        new_bytes = splice_at a.at (drop y.place.start (take y.place.end (cut_text c))) (y.lead.now ++ string_bytes h.written);
+        new_bytes = splice_at a.at (drop y.place.start (take y.place.end (cut_text c))) (string_bytes h.written ++ []);
         comes = comes;
         applied = applied_by append_own (open_text c before) h.valid append_fits (open_text c after) _ comes;
         splices = a.splices;
@@ -119,14 +119,12 @@ module _ (c : Cut) (m : ℕ) (o : Option EndOfEntries) (read : read_at (cut_text
 
 -- what an operation does, as the code does it
 pub opens_change : (c : Cut) (m : ℕ) (o : Option EndOfEntries) → read_at (cut_text c) ≡ Some c → (op : Operation) (before : SlotRun) (y : HeadChange) → RunsRows c m o before → IsFitting op (open_text c before) → DoesInside op c m o y →
-    (t : List ℕ) → t ≡ cut_text c → (after : SlotRun) → OpensAt t y before after → OpensRow op c m o before after
-opens_change c m o read op before y run fitting does t all after has = go y.place.more does
+    (t : List ℕ) → t ≡ cut_text c → (after : SlotRun) → Lands t y before after → OpensRow op c m o before after
+opens_change c m o read op before y run fitting does t all after has = go y.place.more does (subst (λ (l : List ℕ). Lands l y before after) all has)
   where
-    go : (b : Bool) → DoesBy b op c m o y → OpensRow op c m o before after
-    go false h = opens_row c m o read op before y run fitting h t all after has
-    go true h =
-        adds_row c m o read op before after y run fitting h
-        (subst (OpensSo (cut_text c) y before after) h.written_is (subst (λ (l : List ℕ). OpensAt l y before after) all has))
+    go : (b : Bool) → DoesBy b op c m o y → OpensRowsBy b (cut_text c) y before after y.written → OpensRow op c m o before after
+    go false h a = opens_row c m o read op before y run fitting h (cut_text c) refl after a
+    go true h a = adds_row c m o read op before after y run fitting h (subst (OpensRowsBy true (cut_text c) y before after) h.written_is a)
 
 -- where it does it is between characters
 pub change_edges : (c : Cut) (m : ℕ) (o : Option EndOfEntries) (op : Operation) (y : HeadChange) (before : SlotRun) → RunsRows c m o before →
@@ -187,17 +185,7 @@ end_begins c m (p ∷ ps) (Some w) (Some z) order last is =
       lead = near.0;
       near = near.1.1;
       order = subst (λ (qs : List SlotPlace). AreInOrder near.0 qs (length (cut_text c))) (sym (places_empty (p ∷ ps))) (near.1.0, order.1, order.2, order.3);
-      here = record {
-        now = z.entry;
-        found = is.known.found;
-        row = refl;
-        line = refl;
-        size = refl;
-        entries = is.known.entries;
-        behind = is.known.behind;
-        text = is.known.text;
-        ended = is.known.ended;
-      };
+      here = is.known.here;
     }
 
 pub open_rows_begin : (t : List ℕ) (ps : List SlotPlace) (r : SlotRun) (m : ℕ) (w : Option EntriesEnd) (e : Option EndOfEntries) →
@@ -263,7 +251,7 @@ puts_there t op n w o (u ∷ us) v x y is_end after same read is inline plain op
     end_before None None at later = tt
     end_before None (Some z) at later = absurd at
     end_before (Some b) None at later = absurd at
-    end_before (Some b) (Some z) at later = (omega (arith, later.1, at.at), omega (arith, later.0, at.row, is.row))
+    end_before (Some b) (Some z) at later = (omega (arith, later.1, at.at), at.first (length is.entry.front) (omega (arith, later.0, is.row)))
 
 pub puts_here : (t : List ℕ) (op : Operation) (n m : ℕ) (w : Option EntriesEnd) (o : Option EndOfEntries) (steps : List Step) (v : Node)
     (x : HeldRow) (y : HeadChange) → n ≡ m → IsKnownEnd (cut_of t) m w o → IfSome w (IsEndBelow x.row y.place.end) → op ≡ replace n steps v →

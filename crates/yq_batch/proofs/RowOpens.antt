@@ -296,7 +296,7 @@ module _ (c : Cut) (m : ℕ) (u : Step) (us : List Step) (v : Node) (slots slots
           (subst (λ (bs : List SlotView). AreInOrder s.place.end (slot_places bs) (length t)) h.1 (order_at 0 (length t) put.front s put.back order).3))) in
           let all : (before ++ old) ++ rest ≡ known.here.text ++ (10 ∷ drop z.at t) = append_assoc before old rest ∙ (sym (text ∙ now_split) ∙ known.here.ended) in
           let g = split_front (before ++ old) rest known.here.text (10 ∷ drop z.at t) all (omega (arith, left, ap length all, length-append (before ++ old) rest, length-append known.here.text (10 ∷ drop z.at t))) in
-          end_stays z m run.cut (drop z.at t) read known.here u us k there.found (omega (arith, less.1, known.here.size, there.size))
+          end_stays z m run.cut (drop z.at t) read known.here u us k there.found (omega (arith, less.1, there.size))
           (some_between m u us run.cut k rest (length (drop z.at t)) read there.found holds_k there.back (omega (arith, left)))
           x.segments y (ap read_at text_next ∙ read_next) (before ++ (written ++ g.0))
           (text_next

@@ -21,7 +21,7 @@ use Rattle.yq_places.proofs.UnderExchange.{lines_append}
 use Rattle.yq_edit_rules.{specs.Appends.inserted, specs.Changed.{KeepsRows, put_document}, specs.DocumentRows.behind_document}
 use Rattle.yq_edit_rules.{specs.Rooms.row_shape, specs.RowStays.StaysFrom, specs.StandingLaws.StandsThere, proofs.HeldLaws.front_is}
 use Rattle.yq_edit_rules.{proofs.ChangedLaws.{document_put, nth_changed}, proofs.CommentRowLaws.rows_front}
-use Rattle.yq_edit_rules.{proofs.RowStayLaws.rows_stay_there, proofs.StandingRows.rows_stand}
+use Rattle.yq_edit_rules.{proofs.PlacedPartLaws.document_stands_at, proofs.RowStayLaws.rows_stay_there, proofs.StandingRows.rows_stand}
 use Rattle.yq_batch.{specs.OpenRows.head_front, proofs.OwnRowsStay.row_size, proofs.RowsInFront.split_front, proofs.RowsTakenOn.placed_put}
 use Rattle.yq_batch.proofs.UptoLaws.{line_stays}
 
@@ -102,34 +102,38 @@ module _ (m : ℕ) (s t : Step) (ss ts : List Step) (c : Cut) (e f : RowsOfEntry
             front_long f,
           )
 
-  -- one that begins before the rows under another one end is that one, or one under it, or comes before it
-  pub begins_within : length (head_front e) < length (before_entry f ++ print_row f.row (rows_text f.under [])) → length e.front < length f.front + suc (length f.under)
-  begins_within less = elim (cases_lt (length e.front) (length f.front + suc (length f.under))) [
-    | inl is ↦ is
-    | inr least ↦
-        let upto : List Row = f.front ++ (f.row ∷ f.under) in
-        let size : length upto ≡ length f.front + suc (length f.under) = length-append f.front (f.row ∷ f.under) in
-        let all : upto ++ f.back ≡ e.front ++ (e.row ∷ (e.under ++ e.back)) = append_assoc f.front (f.row ∷ f.under) f.back ∙ sym rows in
-        let h = split_front upto f.back e.front (e.row ∷ (e.under ++ e.back)) all (omega (arith, size, least)) in
-        absurd (omega (
-          arith,
-          less,
-          front_long e,
-          length-append e.start (rows_text e.front []),
-          ap (λ (rs : List Row). length (rows_text rs [])) h.1,
-          ap length (rows_front upto h.0 []),
-          length-append (rows_text upto []) (rows_text h.0 []),
-          ap length (rows_front f.front (f.row ∷ f.under) []),
-          length-append (rows_text f.front []) (print_row f.row (rows_text f.under [])),
-          length-append (before_entry f) (print_row f.row (rows_text f.under [])),
-          length-append f.start (rows_text f.front []),
-          ap (λ (l : List ℕ). length l) same_start,
-        ))
-  ]
-
   -- one that begins before another one comes before it
   pub comes_before : length (head_front f) < length (head_front e) → length f.front < length e.front
   comes_before less = elim (cases_lt (length f.front) (length e.front)) [ inl is ↦ is | inr least ↦ absurd (omega (arith, less, no_later least)) ]
+
+-- where the rows of an item or entry are in their document
+pub entry_placed : (m : ℕ) (steps : List Step) (c : Cut) (e : RowsOfEntry) (q : PlacedPart) → rows_of_entry m steps c ≡ Some e → placed_document m c ≡ Some q → (e.start ≡ q.before) × (e.end ≡ q.part.end) × (e.behind ≡ q.behind)
+entry_placed m steps c e q is at =
+    let x = map_some (entry_rows_at q) (row_line_of steps q.part.rows) e (sym (ap (λ (o : Option PlacedPart). o >>= λ y. option_map (entry_rows_at y) (row_line_of steps y.part.rows)) at) ∙ is) in
+    (sym (ap (λ (y : RowsOfEntry). y.start) x.2), sym (ap (λ (y : RowsOfEntry). y.end) x.2), sym (ap (λ (y : RowsOfEntry). y.behind) x.2))
+
+-- one that begins before the first rows of its document end is in one of these
+pub begins_within : (m : ℕ) (s : Step) (ss : List Step) (c : Cut) (e : RowsOfEntry) (q : PlacedPart) (front back : List Row) →
+    read_at (cut_text c) ≡ Some c → rows_of_entry m (s ∷ ss) c ≡ Some e → placed_document m c ≡ Some q → q.part.rows ≡ front ++ back →
+    length (head_front e) < length (q.before ++ rows_text front []) → length e.front < length front
+begins_within m s ss c e q front back read at placed rows_are less = elim (cases_lt (length e.front) (length front)) [
+  | inl is ↦ is
+  | inr least ↦
+      let one : StandsThere m s ss c e = rows_stand m s ss c e read at in
+      let same : one.part ≡ q.part = same_Some _ _ (sym one.old.there ∙ (document_stands_at c m q placed).there) in
+      let h = split_front front back e.front (e.row ∷ (e.under ++ e.back)) (sym rows_are ∙ (ap (λ (p : Part). p.rows) (sym same) ∙ one.rows_are)) least in
+      absurd (omega (
+        arith,
+        less,
+        front_long e,
+        ap (λ (l : List ℕ). length l) (entry_placed m (s ∷ ss) c e q at placed).0,
+        length-append e.start (rows_text e.front []),
+        length-append q.before (rows_text front []),
+        ap (λ (rs : List Row). length (rows_text rs [])) h.1,
+        ap length (rows_front front h.0 []),
+        length-append (rows_text front []) (rows_text h.0 []),
+      ))
+]
 
 -- ---- rows in front of one that is exchanged
 
@@ -165,7 +169,7 @@ line_low n (x ∷ front) b s is less = go (nat_lt (length x.dashes) n) refl is (
         omega (arith, size, more y.0 y.1 (omega (arith, less, ap (λ (z : RowLine). z.before) y.2)))
     go false few e more = omega (arith, size, ltb-false (length x.dashes) n few)
 
-some_line : (o : Option ℕ) (rs : List Row) (s : RowLine) → (o >>= λ n. row_line n rs) ≡ Some s → (n : ℕ) × (o ≡ Some n) × (row_line n rs ≡ Some s)
+pub some_line : (o : Option ℕ) (rs : List Row) (s : RowLine) → (o >>= λ n. row_line n rs) ≡ Some s → (n : ℕ) × (o ≡ Some n) × (row_line n rs ≡ Some s)
 some_line None rs s is = absurd (none-some _ is)
 some_line (Some n) rs s is = (n, refl, is)
 

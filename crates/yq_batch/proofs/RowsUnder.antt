@@ -1,4 +1,4 @@
--- Rows under an item or entry, where one of them is exchanged for another one of its shape, or one more comes after them.
+-- Rows of a mapping, where one of them is exchanged for another one of its shape, or one more comes after them.
 use Rattle.std.proofs.Common.{◌≡◌, ℕ, suc, ◌+◌, ◌*◌, ◌<◌, ◌≤◌, nat_lt, Bool, true, false, cond, ◌&&◌, List, [], ◌∷◌, ◌++◌, drop, length}
 use Rattle.std.proofs.Common.{map, Some, refl, sym, ap, ◌∙◌, subst, arith, append_assoc, length-append}
 use Rattle.std.{proofs.lemmas.List.{append_cancel_left, length-take-le, take-append-drop}, proofs.lemmas.Option.same_Some}
@@ -6,14 +6,13 @@ use Rattle.std.{specs.List.slice_get, proofs.lemmas.Bool.lt-ltb}
 use mathlib.Core.List.{head-eq_of_cons-eq, tail-eq_of_cons-eq}
 use Rattle.yq_core.{specs.Paths.Step, specs.Text.is_empty, proofs.Bools.bind_some}
 use Rattle.yq_outline.{specs.Extents.dash_at, specs.Lines.line_mark, specs.Positions.has_no_mark, specs.RowWalk.{deeper_rows, line_level}}
-use Rattle.yq_row_table.{specs.Rows.{Cut, Part, Row, cut_text, dashes_text, print_row, rows_text}, specs.View.{colon_of, last_dash, slices}}
-use Rattle.yq_row_table.proofs.PlaceLaws.{row_then}
+use Rattle.yq_row_table.{specs.Rows.{Cut, Part, Row, cut_text, dashes_text, rows_text}, specs.View.{colon_of, last_dash, slices}}
 use Rattle.yq_documents.{specs.Documents.document_parts, specs.LinesInRows.row_line_of, specs.Reading.read_at}
-use Rattle.yq_places.{specs.PlacedRows.placed_document, proofs.PlacedPartLaws.map_some}
-use Rattle.yq_places.specs.Standings.{RowsOfEntry, before_entry, behind_entry, entry_rows_at, is_alone, rows_of_entry}
+use Rattle.yq_places.{specs.PlacedRows.{PlacedPart, placed_document}, proofs.PlacedPartLaws.map_some}
+use Rattle.yq_places.specs.Standings.{RowsOfEntry, entry_rows_at, is_alone, rows_of_entry}
 use Rattle.yq_edit_rules.{specs.Rooms.{RowShape, row_shape}, specs.StandingLaws.StandsThere, proofs.StandingRows.rows_stand}
-use Rattle.yq_edit_rules.{proofs.CommentRowLaws.cut_spelled, proofs.EndedRowLaws.rows_then}
-use Rattle.yq_batch.{specs.RowEnds.AreEntriesUnder, proofs.RowOrder.StaysInFront, proofs.RowsInFront.split_front}
+use Rattle.yq_edit_rules.{proofs.CommentRowLaws.rows_front, proofs.PlacedPartLaws.document_stands_at}
+use Rattle.yq_batch.{specs.RowEnds.AreMappingRows, proofs.RowOrder.StaysInFront, proofs.RowsInFront.split_front}
 
 -- ---- how many rows are under another one
 
@@ -35,11 +34,14 @@ under_size m steps d e is =
     subst (λ (y : RowsOfEntry). deeper_rows (line_level y.line (slices y.row)) (map slices (y.under ++ y.back)) ≡ length y.under) x.2
     (ap (λ (ys : List Row). deeper_rows (line_level x.0.line (slices x.0.row)) (map slices ys)) (take-append-drop n rs) ∙ sym (length-take-le n rs (few_deeper _ rs)))
 
--- the level at which a row begins, by its shape
-abbrev shape_level : RowShape → ℕ
-shape_level y =
+-- the level at which a line of a row begins, by its shape
+abbrev shape_level : ℕ → RowShape → ℕ
+shape_level k y =
     let ds = dashes_text y.dashes (last_dash y.mark) in
-    3 * (y.column + dash_at 0 ds) + cond (nat_lt (dash_at 0 ds) (length ds)) 3 (cond (is_empty (colon_of y.mark)) 1 2)
+    3 * (y.column + dash_at k ds) + cond (nat_lt (dash_at k ds) (length ds)) 3 (cond (is_empty (colon_of y.mark)) 1 2)
+
+pub level_by_shape : (k : ℕ) (r x : Row) → row_shape r ≡ row_shape x → line_level k (slices r) ≡ line_level k (slices x)
+level_by_shape k r x h = ap (shape_level k) h
 
 pub deeper_by_shapes : (n : ℕ) (rs xs : List Row) → map row_shape rs ≡ map row_shape xs → deeper_rows n (map slices rs) ≡ deeper_rows n (map slices xs)
 deeper_by_shapes n [] [] e = refl
@@ -48,7 +50,7 @@ deeper_by_shapes n (r ∷ rs) [] e = absurd (cc)
 deeper_by_shapes n (r ∷ rs) (x ∷ xs) e =
     let h : row_shape r ≡ row_shape x = head-eq_of_cons-eq e in
     let again = deeper_by_shapes n rs xs (tail-eq_of_cons-eq e) in
-    λ i. cond (nat_lt n (shape_level (h i))) (suc (again i)) 0
+    λ i. cond (nat_lt n (shape_level 0 (h i))) (suc (again i)) 0
 
 -- one more after them
 pub deeper_more : (n : ℕ) (us bs : List Row) (r : Row) → deeper_rows n (map slices (us ++ bs)) ≡ length us → n < line_level 0 (slices r) → deeper_rows n (map slices (us ++ (r ∷ bs))) ≡ length (us ++ (r ∷ []))
@@ -60,7 +62,7 @@ deeper_more n (u ∷ us) bs r are deep = go (nat_lt n (line_level 0 (slices u)))
     go true h again = ap suc (again (omega (arith, h)))
     go false h again = absurd (omega (arith, h))
 
-same_split : {A : Type 0} (a b c d : List A) → a ++ b ≡ c ++ d → length a ≡ length c → (a ≡ c) × (b ≡ d)
+pub same_split : {A : Type 0} (a b c d : List A) → a ++ b ≡ c ++ d → length a ≡ length c → (a ≡ c) × (b ≡ d)
 same_split [] b [] d e size = (refl, e)
 same_split [] b (y ∷ c) d e size = absurd (omega (arith, size))
 same_split (x ∷ a) b [] d e size = absurd (omega (arith, size))
@@ -82,60 +84,45 @@ module _ (m : ℕ) (s : Step) (ss : List Step) (now : RowsOfEntry) (next : Cut) 
       sym (under_size m (s ∷ ss) next w.now w.found) ∙ ((λ i. deeper_rows (line_level (w.line i) (slices (w.row i))) (map slices (after i))) ∙ deep) in
       same_split w.now.under w.now.back us bs after size
 
-  -- the text after them
-  pub behind_then : bs ≡ now.back → behind_entry w.now ≡ behind_entry now
-  behind_then same = λ i. rows_text ((under_then.1 ∙ same) i) (w.end i ++ w.behind i)
-
 -- ---- one of them
 
--- A row is under an item or entry, between others.
-pub record IsRowUnder (now : RowsOfEntry) (front : List Row) (row : Row) (back : List Row) : Type 0 where
-  pub above : List Row
-  pub below : List Row
-  pub front_is : front ≡ now.front ++ (now.row ∷ above)
-  pub under_is : now.under ≡ above ++ (row ∷ below)
-  pub back_is : back ≡ below ++ now.back
+-- A row between others is one of the first ones of as many (own).
+pub record IsRowIn (front : List Row) (row : Row) (back first after : List Row) : Type 0 where
+  pub mid : List Row
+  pub first_is : first ≡ front ++ (row ∷ mid)
+  pub back_is : back ≡ mid ++ after
 
-pub row_under : (now : RowsOfEntry) (front : List Row) (row : Row) (back : List Row) → now.front ++ (now.row ∷ (now.under ++ now.back)) ≡ front ++ (row ∷ back) → length now.front < length front →
-    length front < length now.front + suc (length now.under) → IsRowUnder now front row back
-row_under now front row back rows later early =
-    let g = split_front now.front (now.row ∷ (now.under ++ now.back)) front (row ∷ back) rows (omega (arith, later)) in
-    above g.0 g.1 g.2
+pub row_in : (front : List Row) (row : Row) (back first after : List Row) → front ++ (row ∷ back) ≡ first ++ after → length front < length first → IsRowIn front row back first after
+row_in front row back first after rows less = let g = split_front front (row ∷ back) first after rows (omega (arith, less)) in go g.0 g.1 g.2
   where
-    below : (g h : List Row) → front ≡ now.front ++ (now.row ∷ g) → now.under ≡ g ++ h → row ∷ back ≡ h ++ now.back → IsRowUnder now front row back
-    below g [] is under rest = absurd (omega (arith, early, ap length is, length-append now.front (now.row ∷ g), ap length under, length-append g []))
-    below g (x ∷ h) is under rest = record { above = g; below = h; front_is = is; under_is = under ∙ ap (λ (r : Row). g ++ (r ∷ h)) (sym (head-eq_of_cons-eq rest)); back_is = tail-eq_of_cons-eq rest }
+    go : (g : List Row) → first ≡ front ++ g → row ∷ back ≡ g ++ after → IsRowIn front row back first after
+    go [] is rest = absurd (omega (arith, less, ap length is, length-append front []))
+    go (x ∷ g) is rest = record { mid = g; first_is = is ∙ ap (λ (r : Row). front ++ (r ∷ g)) (sym (head-eq_of_cons-eq rest)); back_is = tail-eq_of_cons-eq rest }
 
-    above : (g : List Row) → front ≡ now.front ++ g → now.row ∷ (now.under ++ now.back) ≡ g ++ (row ∷ back) → IsRowUnder now front row back
-    above [] is rest = absurd (omega (arith, later, ap length is, length-append now.front []))
-    above (x ∷ g) is rest =
-        let front_is : front ≡ now.front ++ (now.row ∷ g) = is ∙ ap (λ (r : Row). now.front ++ (r ∷ g)) (sym (head-eq_of_cons-eq rest)) in
-        let h = split_front g (row ∷ back) now.under now.back (sym (tail-eq_of_cons-eq rest)) (omega (arith, early, ap length front_is, length-append now.front (now.row ∷ g))) in
-        below g h.0 front_is h.1 h.2
-
--- those that were entries are so with another one of the shape
-pub entries_then : (column : ℕ) (us : List Row) (above below : List Row) (row new : Row) → AreEntriesUnder us column → us ≡ above ++ (row ∷ below) → row_shape new ≡ row_shape row → AreEntriesUnder (above ++ (new ∷ below)) column
+-- entries are so with another one of the shape
+pub entries_then : (column : ℕ) (us above below : List Row) (row new : Row) → AreMappingRows us column → us ≡ above ++ (row ∷ below) → row_shape new ≡ row_shape row → AreMappingRows (above ++ (new ∷ below)) column
 entries_then column us [] below row new h is shape =
-    let same : h.first ≡ row = head-eq_of_cons-eq (sym h.under_is ∙ is) in
+    let same : h.first ≡ row = head-eq_of_cons-eq (sym h.are ∙ is) in
     record {
       first = new;
       others = below;
-      under_is = refl;
+      are = refl;
       marked = ap (λ (y : RowShape). is_empty y.dashes && has_no_mark (line_mark y.mark)) shape ∙ (ap is_alone (sym same) ∙ h.marked);
       column_is = ap (λ (y : RowShape). y.column) shape ∙ (ap (λ (r : Row). r.column) (sym same) ∙ h.column_is);
     }
 entries_then column us (x ∷ above) below row new h is shape =
-    let same : h.first ≡ x = head-eq_of_cons-eq (sym h.under_is ∙ is) in
-    record { first = x; others = above ++ (new ∷ below); under_is = refl; marked = ap is_alone (sym same) ∙ h.marked; column_is = ap (λ (r : Row). r.column) (sym same) ∙ h.column_is }
+    let same : h.first ≡ x = head-eq_of_cons-eq (sym h.are ∙ is) in
+    record { first = x; others = above ++ (new ∷ below); are = refl; marked = ap is_alone (sym same) ∙ h.marked; column_is = ap (λ (r : Row). r.column) (sym same) ∙ h.column_is }
 
 -- and with one more
-pub entries_more : (column : ℕ) (us : List Row) (new : Row) → AreEntriesUnder us column → AreEntriesUnder (us ++ (new ∷ [])) column
-entries_more column us new h = record { first = h.first; others = h.others ++ (new ∷ []); under_is = ap (λ (rs : List Row). rs ++ (new ∷ [])) h.under_is; marked = h.marked; column_is = h.column_is }
+pub entries_more : (column : ℕ) (us : List Row) (new : Row) → AreMappingRows us column → AreMappingRows (us ++ (new ∷ [])) column
+entries_more column us new h = record { first = h.first; others = h.others ++ (new ∷ []); are = ap (λ (rs : List Row). rs ++ (new ∷ [])) h.are; marked = h.marked; column_is = h.column_is }
 
--- ---- the text in front of what comes after them
+-- ---- the text of rows of a document, and of those after them
 
-pub end_text : (m : ℕ) (steps : List Step) (d : Cut) (e : RowsOfEntry) → rows_of_entry m steps d ≡ Some e → cut_text d ≡ (before_entry e ++ print_row e.row (rows_text e.under [])) ++ behind_entry e
-end_text m steps d e is =
-    cut_spelled m steps d e is
-    ∙ (ap (λ (t : List ℕ). before_entry e ++ print_row e.row t) (rows_then e.under (behind_entry e))
-    ∙ (ap (λ (t : List ℕ). before_entry e ++ t) (row_then e.row (rows_text e.under []) (behind_entry e)) ∙ sym (append_assoc (before_entry e) (print_row e.row (rows_text e.under [])) (behind_entry e))))
+pub rows_split : (m : ℕ) (d : Cut) (q : PlacedPart) (front back : List Row) → placed_document m d ≡ Some q → q.part.rows ≡ front ++ back →
+    cut_text d ≡ (q.before ++ rows_text front []) ++ rows_text back (q.part.end ++ q.behind)
+rows_split m d q front back at are =
+    (document_stands_at d m q at).text
+    ∙ (ap (λ (rs : List Row). q.before ++ rows_text rs (q.part.end ++ q.behind)) are
+    ∙ (ap (λ (t : List ℕ). q.before ++ t) (rows_front front back (q.part.end ++ q.behind)) ∙ sym (append_assoc q.before (rows_text front []) (rows_text back (q.part.end ++ q.behind)))))

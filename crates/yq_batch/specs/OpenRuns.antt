@@ -1,6 +1,6 @@
 -- Values put in any order in the flow collections of one head, which was read once, and items and entries put into these (YAML 1.2.2, 7.4; own).
-use Rattle.std.specs.Prelude.{◌≡◌, ⊤, ℕ, ◌+◌, ◌-◌, ◌≤◌, true, false, List, [], ◌∷◌, ◌++◌, drop, take, length, Option, Some, None, String}
-use Rattle.std.{specs.Prelude.string_bytes, specs.Str.IsCharBoundary, specs.declared.alloc.Global.Global}
+use Rattle.std.specs.Prelude.{◌≡◌, ⊤, ℕ, ◌+◌, ◌-◌, ◌≤◌, Bool, true, false, List, [], ◌∷◌, ◌++◌, drop, take, length, Option, Some, None}
+use Rattle.std.{specs.Prelude.{String, string_bytes}, specs.Str.IsCharBoundary, specs.declared.alloc.Global.Global}
 use Rattle.yq_text.{specs.Halves.whole, specs.declared.halves.Halves.Halves, specs.Limit.text_limit, specs.Script.splice_at}
 use Rattle.yq_text.specs.Splice.{Splice}
 use Rattle.yq_core.{specs.Paths.Step, specs.Collections.CollPieces, specs.Entries.EntryPieces, specs.Nodes.{node_text, without_anchor}}
@@ -128,3 +128,13 @@ OpensSo t y before after (Some s) = HasOpened t y.place y.lead.now (string_bytes
 -- the same of what the code has for it (own)
 abbrev pub OpensAt : List ℕ → HeadChange → (before after : SlotRun) → Type 0
 OpensAt t y before after = OpensSo t y before after y.written
+
+-- lines of an entry were put at the end of a mapping, or what an operation changes in a row was put there (own)
+abbrev pub OpensRowsBy : (more : Bool) → List ℕ → HeadChange → (before after : SlotRun) → Option (String Global) → Type 0
+OpensRowsBy true t y before after None = ⊥
+OpensRowsBy true t y before after (Some s) = HasOpened t y.place (string_bytes s) [] before after
+OpensRowsBy false t y before after o = OpensSo t y before after o
+
+-- the same of what the code has for it (own)
+abbrev pub Lands : List ℕ → HeadChange → (before after : SlotRun) → Type 0
+Lands t y before after = OpensRowsBy y.place.more t y before after y.written

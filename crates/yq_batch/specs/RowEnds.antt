@@ -1,29 +1,30 @@
--- Where a mapping on the lines under its key ends, in rows as they were read, and entries that are put there (YAML 1.2.2, 8.2.2; own).
-use Rattle.std.specs.Prelude.{◌≡◌, ⊤, ℕ, ◌+◌, ◌*◌, ◌<◌, ◌≤◌, true, false, List, [], ◌∷◌, ◌++◌, drop, length, take, Option, Some, None}
-use Rattle.std.{specs.Prelude.{String, string_bytes}, specs.Str.IsCharBoundary, specs.declared.alloc.Global.Global}
+-- Where a mapping on lines of its own ends, in rows as they were read, and entries that are put there (YAML 1.2.2, 8.2.2; own).
+use Rattle.std.specs.Prelude.{◌≡◌, ⊤, ◌⊎◌, ℕ, suc, ◌+◌, ◌*◌, ◌<◌, ◌≤◌, true, false, List, [], ◌∷◌, ◌++◌, drop, length, take, Option, Some}
+use Rattle.std.{specs.Prelude.{None, String, string_bytes}, specs.Str.IsCharBoundary, specs.declared.alloc.Global.Global}
 use Rattle.yq_core.{specs.Paths.Step, specs.Text.is_empty, specs.Tree.Node}
 use Rattle.yq_outline.specs.RowWalk.{line_level}
-use Rattle.yq_documents.{specs.LinesInRows.document_row, specs.Located.steps_of, specs.Reading.cut_of}
-use Rattle.yq_row_table.{specs.Rows.{Cut, Row, cut_text}, specs.Seams.is_block, specs.View.slices}
-use Rattle.yq_places.{specs.FirstBreak.first_break, specs.Standings.{RowsOfEntry, behind_entry, is_alone, rows_of_entry}}
+use Rattle.yq_documents.{specs.LinesInRows.document_row, specs.Located.steps_of, specs.Reading.cut_of, specs.declared.path.Path.Path}
+use Rattle.yq_row_table.{specs.Rows.{Cut, Row, behind_columns, cut_text, rows_text}, specs.Seams.is_block, specs.View.slices}
+use Rattle.yq_places.{specs.FirstBreak.first_break, specs.PlacedRows.{PlacedPart, placed_document}}
+use Rattle.yq_places.specs.Standings.{RowsOfEntry, Standing, is_alone, rows_of_entry, standing_at}
 use Rattle.yq_semantics.specs.Operations.{Operation, append}
 use Rattle.yq_edit_rules.{specs.BlockReading.is_filled, specs.EntryEdits.more_lines, specs.Layouts.layout_of, specs.Operands.HasOperand}
 use Rattle.yq_batch.{specs.Slots.{AreInOrder, SlotView, slot_places}, specs.declared.change.HeadChange.HeadChange}
 use Rattle.yq_batch.{specs.declared.row_ends.EntriesEnd.EntriesEnd, specs.declared.slots.SlotPlace.SlotPlace}
 
--- A mapping on the lines under its key: the steps to it, the rows of its item or entry, its column, and where it ends in the text (own).
+-- A block mapping on lines of its own: the steps to it, how many rows of its document come before the first one of its entries, its column, and where it
+-- ends in the text (own).
 pub record EndOfEntries : Type 0 where
-  pub step : Step
   pub steps : List Step
-  pub entry : RowsOfEntry
+  pub first : ℕ
   pub column : ℕ
   pub at : ℕ
 
--- Rows under an item or entry are a block collection at a column (8.2).
-pub record AreEntriesUnder (under : List Row) (column : ℕ) : Type 0 where
+-- Rows are a block collection at a column (8.2).
+pub record AreMappingRows (rows : List Row) (column : ℕ) : Type 0 where
   pub first : Row
   pub others : List Row
-  pub under_is : under ≡ first ∷ others
+  pub are : rows ≡ first ∷ others
   pub marked : is_alone first ≡ false
   pub column_is : first.column ≡ column
 
@@ -33,29 +34,49 @@ pub record HasNoHead (e : RowsOfEntry) : Type 0 where
   pub plain : is_block e.row.content ≡ false
   pub none : is_empty (slices e.row).head ≡ true
 
--- In the text as it was read it is so: this place is the end of a line, after which comes what isn't under it (8.2).
-pub record IsEndIn (c : Cut) (m : ℕ) (z : EndOfEntries) : Type 0 where
-  pub found : rows_of_entry m (z.step ∷ z.steps) c ≡ Some z.entry
-  pub bare : HasNoHead z.entry
-  pub entries : AreEntriesUnder z.entry.under z.column
-  pub deep : line_level z.entry.line (slices z.entry.row) < 3 * z.column + 2
-  pub behind : behind_entry z.entry ≡ drop z.at (cut_text c)
-  pub within : z.at ≤ length (cut_text c)
-  pub edge : IsCharBoundary (cut_text c) z.at
-  pub text : List ℕ
-  pub ended : cut_text c ≡ text ++ (10 ∷ drop z.at (cut_text c))
+-- The mapping is on the lines under an item or entry (8.2).
+pub record IsUnderMark (z : EndOfEntries) (e : RowsOfEntry) : Type 0 where
+  pub first : z.first ≡ suc (length e.front)
+  pub bare : HasNoHead e
+  pub entries : AreMappingRows e.under z.column
 
--- In another cut too, it is in the same row, after as many rows, and ends with a line, after which this text comes (own).
+-- It begins on the line of an item's dash, after that (8.2.1).
+pub record IsAfterDash (z : EndOfEntries) (e : RowsOfEntry) : Type 0 where
+  pub first : z.first ≡ length e.front
+  pub dash : e.line < length e.row.dashes
+  pub column_is : behind_columns e.row.column (take (suc e.line) e.row.dashes) ≡ z.column
+
+-- It is what an item or entry holds, and deeper than that: rows of its document up to the last of its rows, and those after them (8.2).
+pub record EndsInEntry (m : ℕ) (s : Step) (ss : List Step) (z : EndOfEntries) (d : Cut) (front back : List Row) : Type 0 where
+  pub entry : RowsOfEntry
+  pub found : rows_of_entry m (s ∷ ss) d ≡ Some entry
+  pub place : IsUnderMark z entry ⊎ IsAfterDash z entry
+  pub deep : line_level entry.line (slices entry.row) < 3 * z.column + 2
+  pub front_is : front ≡ entry.front ++ (entry.row ∷ entry.under)
+  pub back_is : back ≡ entry.back
+
+-- the same of the mapping to which steps lead; all rows of its document are those of a root (8.2, 9.1)
+abbrev pub EndsAfterRows : ℕ → List Step → EndOfEntries → Cut → (front back : List Row) → Type 0
+EndsAfterRows m [] z d front back = AreMappingRows front z.column × (back ≡ [])
+EndsAfterRows m (s ∷ ss) z d front back = EndsInEntry m s ss z d front back
+
+-- In a cut it ends after such rows of document m, with a line, after which this text comes (own).
 pub record EndsHere (z : EndOfEntries) (m : ℕ) (d : Cut) (rest : List ℕ) : Type 0 where
-  pub now : RowsOfEntry
-  pub found : rows_of_entry m (z.step ∷ z.steps) d ≡ Some now
-  pub row : now.row ≡ z.entry.row
-  pub line : now.line ≡ z.entry.line
-  pub size : length now.front ≡ length z.entry.front
-  pub entries : AreEntriesUnder now.under z.column
-  pub behind : behind_entry now ≡ rest
+  pub placed : PlacedPart
+  pub there : placed_document m d ≡ Some placed
+  pub front : List Row
+  pub back : List Row
+  pub rows_are : placed.part.rows ≡ front ++ back
+  pub ends : EndsAfterRows m z.steps z d front back
+  pub behind : rows_text back (placed.part.end ++ placed.behind) ≡ rest
   pub text : List ℕ
   pub ended : cut_text d ≡ text ++ (10 ∷ rest)
+
+-- In the text as it was read it is so, at this place (8.2).
+pub record IsEndIn (c : Cut) (m : ℕ) (z : EndOfEntries) : Type 0 where
+  pub here : EndsHere z m c (drop z.at (cut_text c))
+  pub within : z.at ≤ length (cut_text c)
+  pub edge : IsCharBoundary (cut_text c) z.at
 
 -- something is between a place and the first one of several, and no entry more is put at it (own)
 abbrev pub LeavesRoom : SlotPlace → List SlotPlace → Type 0
@@ -90,9 +111,9 @@ pub record IsEndStill (c d : Cut) (m : ℕ) (slots : List SlotView) (z : EndOfEn
   pub order : AreInOrder lead (slot_places slots) (length (cut_text c))
   pub here : EndsHere z m d (drop z.at (cut_text c))
 
--- a place in the row of an item or entry comes before the end of a mapping, in one of the rows after that of its key (own)
+-- a place in the row of an item or entry comes before the end of a mapping, in one of the rows of its entries (own)
 abbrev pub IsBeforeEnd : RowsOfEntry → SlotPlace → EndOfEntries → Type 0
-IsBeforeEnd e p z = (p.end < z.at) × (length z.entry.front < length e.front)
+IsBeforeEnd e p z = (p.end < z.at) × (z.first ≤ length e.front)
 
 -- An operation puts an entry at the end of a mapping, with a value on its line (own).
 pub record AddsAtEnd (op : Operation) (c : Cut) (m : ℕ) (o : Option EndOfEntries) (y : HeadChange) : Type 0 where
@@ -100,22 +121,30 @@ pub record AddsAtEnd (op : Operation) (c : Cut) (m : ℕ) (o : Option EndOfEntri
   pub known : o ≡ Some end
   pub key : List ℕ
   pub value : Node
-  pub operation : op ≡ append m (end.step ∷ end.steps) (Some key) value
-  pub valid : HasOperand (append m (end.step ∷ end.steps) (Some key) value)
+  pub operation : op ≡ append m end.steps (Some key) value
+  pub valid : HasOperand (append m end.steps (Some key) value)
   pub plain : is_filled value ≡ false
   pub start : y.place.start ≡ end.at
   pub finish : y.place.end ≡ end.at
   pub more : y.place.more ≡ true
   pub written : String Global
   pub written_is : y.written ≡ Some written
-  pub lines : y.lead.now ++ string_bytes written ≡ more_lines (layout_of m c) (Some key) value end.column (10 ∷ [])
+  pub lines : string_bytes written ≡ more_lines (layout_of m c) (Some key) value end.column (10 ∷ [])
+
+-- this is at a path of a text (own)
+abbrev pub StandsSo : Path → List ℕ → Standing → Type 0
+StandsSo p t x = standing_at p.doc (steps_of p) (cut_of t) ≡ Some x
+
+-- another text comes at a place, after a line with a break (own)
+abbrev pub EndsLineAt : (text last behind : List ℕ) → ℕ → Type 0
+EndsLineAt text last behind at = (is_empty last ≡ false) × (at + length behind ≡ length text)
 
 -- What the code tells of the end of a mapping is so (own).
 pub record IsEndAt (c : Cut) (m : ℕ) (w : EntriesEnd) (z : EndOfEntries) : Type 0 where
   pub document : w.path.now.doc ≡ m
   pub known : IsEndIn c m z
-  pub steps : steps_of w.path.now ≡ z.step ∷ z.steps
-  pub row : w.row ≡ document_row m c + length z.entry.front
+  pub steps : steps_of w.path.now ≡ z.steps
+  pub first : (n : ℕ) → w.first ≤ document_row m c + n → z.first ≤ n
   pub at : w.at ≡ z.at
   pub column : w.column ≡ z.column
 
@@ -134,6 +163,6 @@ IsEndThere t w = (z : EndOfEntries) × IsEndAt (cut_of t) w.path.now.doc w z
 abbrev pub AddsThere : Operation → List ℕ → EntriesEnd → HeadChange → Type 0
 AddsThere op t w y = (m : ℕ) (z : EndOfEntries) → IsEndAt (cut_of t) m w z → (y.place.more ≡ true) × AddsAtEnd op (cut_of t) m (Some z) y
 
--- it comes after a place in a row, and its key before that row (own)
+-- it comes after a place in a row, and its first entry no later than that (own)
 abbrev pub IsEndBelow : (row stop : ℕ) → EntriesEnd → Type 0
-IsEndBelow row stop w = (w.row < row) × (stop < w.at)
+IsEndBelow row stop w = (w.first ≤ row) × (stop < w.at)

@@ -21,37 +21,36 @@ pub(crate) struct SlotRun {
 }
 
 impl SlotRun {
-    /// A text comes at the place of a change, after a lead; not where that is none of the places, something else was
-    /// put there, or the text would be too large.
+    /// A text comes at a place, after a lead; not where that is none of the places, something else was put there, or
+    /// the text would be too large.
     fn put_text(
         &mut self,
         alloc: Global,
         text: Halves<'_>,
-        change: &HeadChange<'_>,
-        written: &str,
+        place: SlotPlace,
+        new: (&str, &str),
     ) -> Result<bool, AllocError>
         requires counts { slots.HasCounts self.old.slots }
-        requires order { change.now.place.start ≤ change.now.place.end }
-        requires start { IsCharBoundary (whole text) change.now.place.start }
-        requires end { IsCharBoundary (whole text) change.now.place.end }
-        ensures { IfOk result (λ b. b ≡ true → spec.HasOpened (whole text.entry) change.now.place
-            change.now.lead.now written.now self.old self.new) }
+        requires order { place.start ≤ place.end }
+        requires start { IsCharBoundary (whole text) place.start }
+        requires end { IsCharBoundary (whole text) place.end }
+        ensures { IfOk result (λ b. b ≡ true → spec.HasOpened (whole text.entry) place
+            new.entry.0.now new.entry.1.now self.old self.new) }
     {
-        let place = change.place;
-        let lead = change.lead;
+        let (lead, written) = new;
         let Some(put) = self.slots.put(alloc, place, lead, written)? else {
             return Ok(false);
         };
-        let mut new = String::from_str(alloc, lead)?;
-        new.push_str(written)?;
-        let Some(size) = moved(self.size, put.was, new.len()) else {
+        let mut bytes = String::from_str(alloc, lead)?;
+        bytes.push_str(written)?;
+        let Some(size) = moved(self.size, put.was, bytes.len()) else {
             return Ok(false);
         };
         if size > TEXT_LIMIT {
             return Ok(false);
         }
         let old = bytes_of(alloc, between(text, place.start, place.end))?;
-        push_splice(&mut self.splices, put.at, old, new.into_bytes())?;
+        push_splice(&mut self.splices, put.at, old, bytes.into_bytes())?;
         self.size = size;
         Ok(true)
     }
@@ -92,8 +91,32 @@ impl SlotRun {
             spec.OpensAt (whole text.entry) change.now self.old self.new) }
     {
         match &change.written {
-            Some(written) => self.put_text(alloc, text, change, written),
+            Some(written) => self.put_text(alloc, text, change.place, (change.lead, written)),
             None => self.keep(alloc, text, change.place),
+        }
+    }
+
+    /// The lines of an entry come at the end of a mapping, after those that were put there, or what an operation
+    /// changes in a row comes there.
+    pub(crate) fn put_in_rows(
+        &mut self,
+        alloc: Global,
+        text: Halves<'_>,
+        change: &HeadChange<'_>,
+    ) -> Result<bool, AllocError>
+        requires counts { slots.HasCounts self.old.slots }
+        requires order { change.now.place.start ≤ change.now.place.end }
+        requires start { IsCharBoundary (whole text) change.now.place.start }
+        requires end { IsCharBoundary (whole text) change.now.place.end }
+        ensures { IfOk result (λ b. b ≡ true →
+            spec.Lands (whole text.entry) change.now self.old self.new) }
+    {
+        if !change.place.more {
+            return self.put(alloc, text, change);
+        }
+        match &change.written {
+            Some(lines) => self.put_text(alloc, text, change.place, (lines, "")),
+            None => Ok(false),
         }
     }
 }

@@ -237,7 +237,7 @@ fn begun<'o>(
     ensures { IfOk result (λ o. IfSome o (λ x.
         spec.BeginsInRows ops.now cut.now x.0.items x.1)) }
 {
-    let Some(end) = end_for(alloc, cut, ops) else {
+    let Some(end) = end_for(cut, ops) else {
         return Ok(None);
     };
     let Some(doc) = document_of(ops, &end) else {
@@ -276,7 +276,7 @@ pub(crate) fn carry_in_any_row(
         let Some(change) = known else {
             return Ok(None);
         };
-        if !run.put(alloc, text, change)? {
+        if !run.put_in_rows(alloc, text, change)? {
             return Ok(None);
         }
         rest = after;

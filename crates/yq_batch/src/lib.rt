@@ -19,6 +19,7 @@ mod run;
 mod slots;
 mod together;
 mod unordered;
+mod written_keys;
 
 pub use any_row::carry_in_rows;
 pub use heads::carry_in_heads;

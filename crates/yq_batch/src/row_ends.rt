@@ -1,7 +1,7 @@
-//! Where the entries of a mapping end that are on the lines under its key, and entries that an update puts there.
-ghost use Rattle.std.specs.Prelude.{◌≡◌, ℕ, true, IfOk, IfSome};
-ghost use Rattle.yq_documents.{specs.Located.steps_of, specs.Reading.cut_of};
-ghost use Rattle.yq_places.specs.StandingViews.{IsHeldRow};
+//! Where the entries of a mapping end that are on lines of their own, and entries that an update puts there.
+ghost use Rattle.std.specs.Prelude.{◌≡◌, true, IfOk, IfSome, Some};
+ghost use Rattle.yq_text.specs.Halves.{whole};
+ghost use Rattle.yq_places.{specs.StandingViews.{held_view, lines_view}, specs.Standings.{MarkPieces, compact, root, under}};
 ghost use Rattle.yq_semantics.specs.Operations.{operation_of};
 ghost use Rattle.yq_batch.specs.RowEnds as spec;
 
@@ -13,58 +13,107 @@ use yq_documents::Path;
 use yq_edit_laws::operand_holds;
 use yq_edit_rules::{Child, is_filled};
 use yq_lookup::CutText;
-use yq_places::{HeldRow, Standing};
+use yq_places::{Held, LinesIn, Standing};
 use yq_semantics::Op;
+use yq_text::Halves;
 
-/// Where the entries of a mapping end that are on the lines under its key.
+/// Where the entries of a mapping end that are on lines of their own.
 #[derive(Clone, Copy)]
 pub(crate) struct EntriesEnd<'o> {
     /// The path to the mapping.
     pub(crate) path: &'o Path,
-    /// How many rows come before that of its key.
-    pub(crate) row: usize,
+    /// How many rows come before that of its first entry; 0, where all rows of its document are entries' rows.
+    pub(crate) first: usize,
     /// Where the last of their lines ends.
     pub(crate) at: usize,
     /// The column in which they begin.
     pub(crate) column: usize,
 }
 
-/// The row of the key at a path, where that is its last mark.
-fn key_row<'t>(alloc: Global, cut: &CutText<'_, 't>, path: &Path) -> Option<HeldRow<'t>>
-    ensures { IfSome result (IsHeldRow path.now.doc (steps_of path.now) (cut_of cut.now)) }
+/// Where a text comes in another one, if a break ends the line before it.
+fn line_before(text: Halves<'_>, last: &str, behind: Halves<'_>) -> Option<usize>
+    ensures { IfSome result (spec.EndsLineAt (whole text.entry) last.now (whole behind.entry)) }
 {
-    let mut way = cut.again();
-    way.to_held_row(alloc, path)
-}
-
-/// Where the entries of the mapping at a path end, if they are on the lines under its key, deeper than that, and the
-/// last line has a break.
-fn entries_end<'o>(alloc: Global, cut: &CutText<'_, '_>, path: &'o Path) -> Option<EntriesEnd<'o>>
-    ensures { IfSome result (spec.IsEndThere cut.now) }
-{
-    let row = key_row(alloc, cut, path)?;
-    let Some(Standing::Under(held, column)) = cut.standing(path) else {
-        return None;
-    };
-    let text = cut.text();
-    let size = text.len();
-    let behind = held.behind.len();
-    let last = held.last.len();
-    if last == 0 {
+    if last.is_empty() {
         return None;
     }
+    text.len().checked_sub(behind.len())
+}
+
+/// Where the entries of a mapping end that are on the lines under the key or dash at a path, deeper than that, if the
+/// last line has a break.
+fn under_end<'o>(
+    cut: &CutText<'_, '_>,
+    path: &'o Path,
+    held: &Held<'_>,
+    column: usize,
+) -> Option<EntriesEnd<'o>>
+    requires { spec.StandsSo path.now cut.now (under (held_view held.now) column) }
+    ensures { IfSome result (spec.IsEndThere cut.now) }
+{
     if held.mark.column >= column {
         return None;
     }
-    if behind > size {
-        return None;
-    }
+    let line = cut.row_line(path)?;
+    let first = line.row.checked_add(1)?;
+    let at = line_before(cut.text(), held.last, held.behind)?;
     Some(EntriesEnd {
         path,
-        row: row.row,
-        at: size - behind,
+        first,
+        at,
         column,
     })
+}
+
+/// Where the entries of a mapping end that begins on the line of the dash at a path, if the last line has a break.
+fn dash_end<'o>(
+    cut: &CutText<'_, '_>,
+    path: &'o Path,
+    lines: &LinesIn<'_>,
+    column: usize,
+) -> Option<EntriesEnd<'o>>
+    requires { (k : MarkPieces) × spec.StandsSo path.now cut.now (compact k column (lines_view lines.now)) }
+    ensures { IfSome result (spec.IsEndThere cut.now) }
+{
+    let line = cut.row_line(path)?;
+    let at = line_before(cut.text(), lines.last, lines.behind)?;
+    Some(EntriesEnd {
+        path,
+        first: line.row,
+        at,
+        column,
+    })
+}
+
+/// Where the entries of a root end, if the last line has a break.
+fn root_end<'o>(
+    cut: &CutText<'_, '_>,
+    path: &'o Path,
+    lines: &LinesIn<'_>,
+    column: usize,
+) -> Option<EntriesEnd<'o>>
+    requires { spec.StandsSo path.now cut.now (root column (lines_view lines.now)) }
+    ensures { IfSome result (spec.IsEndThere cut.now) }
+{
+    let at = line_before(cut.text(), lines.last, lines.behind)?;
+    Some(EntriesEnd {
+        path,
+        first: 0,
+        at,
+        column,
+    })
+}
+
+/// Where the entries of the mapping at a path end, if they are on lines of their own.
+fn entries_end<'o>(cut: &CutText<'_, '_>, path: &'o Path) -> Option<EntriesEnd<'o>>
+    ensures { IfSome result (spec.IsEndThere cut.now) }
+{
+    match cut.standing(path) {
+        Some(Standing::Under(held, column)) => under_end(cut, path, &held, column),
+        Some(Standing::Compact(_, column, lines)) => dash_end(cut, path, &lines, column),
+        Some(Standing::Root(column, lines)) => root_end(cut, path, &lines, column),
+        _ => None,
+    }
 }
 
 /// The path to the mapping into which the first of operations that puts an entry somewhere puts it.
@@ -78,17 +127,13 @@ fn first_added(ops: &[Op]) -> Option<&Path> {
 }
 
 /// Where the mapping ends into which operations put entries; nothing, where none does. Whether it is known.
-pub(crate) fn end_for<'o>(
-    alloc: Global,
-    cut: &CutText<'_, '_>,
-    ops: &'o [Op],
-) -> Option<Option<EntriesEnd<'o>>>
+pub(crate) fn end_for<'o>(cut: &CutText<'_, '_>, ops: &'o [Op]) -> Option<Option<EntriesEnd<'o>>>
     ensures { IfSome result (λ o. IfSome o (spec.IsEndThere cut.now)) }
 {
     let Some(path) = first_added(ops) else {
         return Some(None);
     };
-    let end = entries_end(alloc, cut, path)?;
+    let end = entries_end(cut, path)?;
     Some(Some(end))
 }
 
@@ -108,7 +153,7 @@ pub(crate) fn added_at_end<'o>(
     let Some(key) = added else {
         return Ok(None);
     };
-    if path.doc != end.path.doc || is_filled(value) || end.column == 0 {
+    if path.doc != end.path.doc || is_filled(value) {
         return Ok(None);
     }
     if !are_same_steps(&path.steps, &end.path.steps) {
@@ -126,18 +171,18 @@ pub(crate) fn added_at_end<'o>(
     };
     Ok(Some(HeadChange {
         place,
-        lead: " ",
+        lead: "",
         written: Some(written),
         steps: &path.steps,
     }))
 }
 
-/// Whether a place in a row comes before the end of a mapping, if that is known, and after the row of its key.
+/// Whether a place in a row comes before the end of a mapping, if that is known, and no earlier than its first entry.
 pub(crate) fn is_before_end(end: &Option<EntriesEnd<'_>>, row: usize, stop: usize) -> bool
     ensures { result ≡ true → IfSome end.now (spec.IsEndBelow row stop) }
 {
     match end {
-        Some(end) => end.row < row && stop < end.at,
+        Some(end) => end.first <= row && stop < end.at,
         None => true,
     }
 }

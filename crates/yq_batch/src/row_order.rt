@@ -1,7 +1,8 @@
 //! The order in which the rows of a block mapping come whose entries operations give values.
-ghost use Rattle.std.specs.Prelude.{◌≤◌, IfSome, length};
+ghost use Rattle.std.specs.Prelude.{◌<◌, ◌≤◌, IfSome, length};
 
 use crate::change::are_same_steps;
+use crate::written_keys::{is_key, number_of};
 use std::alloc::{AllocError, Global};
 use std::collections::BTreeMap;
 use std::ops::Range;
@@ -82,33 +83,52 @@ fn first_replaced(ops: &[Op]) -> Option<&Path> {
     None
 }
 
-/// The first of rows up to one from which on all begin as deep.
+/// How deep the key of a row begins, after its dashes.
+fn key_level(rows: &Rows<'_>, row: usize) -> usize
+    requires { row < length rows.now.rows }
+{
+    let level = rows.level(row);
+    match rows.dashes(row).len() {
+        0 => level,
+        // A dash is one deeper than a key in its column.
+        columns => level
+            .saturating_add(columns.saturating_mul(3))
+            .saturating_sub(1),
+    }
+}
+
+/// The first of rows up to one from which on all begin as deep, or have dashes before a key that does.
 fn first_as_deep(rows: &Rows<'_>, from: usize, row: usize, level: usize) -> usize
     requires { row ≤ length rows.now.rows }
 {
     let mut first = from;
     'rows: for at in from..row {
         if rows.level(at) < level {
-            first = at + 1;
+            first = if key_level(rows, at) == level {
+                at
+            } else {
+                at + 1
+            };
         }
     }
     first
 }
 
-/// The first of rows from one on that begins less deep.
+/// The first of rows after one that begins less deep.
 fn end_as_deep(rows: &Rows<'_>, row: usize, end: usize, level: usize) -> usize
     requires { end ≤ length rows.now.rows }
     ensures { result ≤ end }
 {
     'rows: for at in row..end {
-        if rows.level(at) < level {
+        if at != row && rows.level(at) < level {
             return at;
         }
     }
     end
 }
 
-/// Rows of a text, from one to another, among which those of a mapping's entries are the ones that begin at a level.
+/// Rows of a text, from one to another, among which those of a mapping's entries are the ones whose keys begin at a
+/// level.
 #[derive(Clone, Copy)]
 struct MappingRows {
     first: usize,
@@ -123,25 +143,12 @@ fn mapping_rows(rows: &Rows<'_>, row: usize, document: Range<usize>) -> Option<M
     if row >= rows.len() || document.end > rows.len() {
         return None;
     }
-    let level = rows.level(row);
+    let level = key_level(rows, row);
     Some(MappingRows {
         first: first_as_deep(rows, document.start, row, level),
         end: end_as_deep(rows, row, document.end, level),
         level,
     })
-}
-
-/// What is between two quotes.
-fn unquoted(key: &str, quote: char) -> Option<&str> {
-    key.strip_prefix(quote)?.strip_suffix(quote)
-}
-
-/// What a key means that is plain, or in quotes without escapes.
-fn meant(key: &str) -> &str {
-    match unquoted(key, '"') {
-        Some(inner) => inner,
-        None => unquoted(key, '\'').unwrap_or(key),
-    }
 }
 
 /// Whether keys come in the order of rows that have them.
@@ -153,7 +160,7 @@ fn come_in_order(rows: &Rows<'_>, mapping: MappingRows, keys: &[(&str, usize)]) 
         let [key, others @ ..] = left else {
             return true;
         };
-        if rows.level(at) == mapping.level && meant(rows.key(at)) == key.0 {
+        if key_level(rows, at) == mapping.level && is_key(rows.key(at), key.0) {
             left = others;
         }
     }
@@ -183,9 +190,9 @@ fn numbers_in_rows(
 {
     let mut order = Vec::new(alloc);
     'rows: for at in mapping.first..mapping.end {
-        if rows.level(at) == mapping.level {
-            if let Some(number) = numbers.get(meant(rows.key(at))) {
-                order.push(*number)?;
+        if key_level(rows, at) == mapping.level {
+            if let Some(number) = number_of(alloc, numbers, rows.key(at))? {
+                order.push(number)?;
             }
         }
     }
@@ -193,7 +200,7 @@ fn numbers_in_rows(
 }
 
 /// The numbers of operations that replace values of one block mapping by others on one line, in the order of its rows,
-/// where keys are written without escapes, and of those that put entries into it, after these; nothing, where all replace
+/// and of those that put entries into it, after these; nothing, where all replace
 /// values in this order, or one of them does something else.
 pub(crate) fn in_row_order(
     alloc: Global,

@@ -1,5 +1,5 @@
 //! Append: one more item or entry at the end of a block collection.
-ghost use Rattle.std.specs.Prelude.{◌≡◌, ◌≤◌, ◌∷◌, IfOk, Some, string_bytes};
+ghost use Rattle.std.specs.Prelude.{◌≡◌, IfOk, Some, string_bytes};
 ghost use Rattle.yq_core.{specs.Values.value_node, specs.Strings.{AddsText, GivesText}};
 ghost use Rattle.yq_places.specs.StandingViews.{held_view, lines_view};
 ghost use Rattle.yq_edit_rules.specs.Answers.{GivesSegments};
@@ -70,7 +70,7 @@ fn more_lines(
     entry_text(alloc, &layout, child, column, last)
 }
 
-/// The lines of one more item or entry at a column in document `doc`, after a line with a break, less their first space.
+/// The lines of one more item or entry at a column in document `doc`, after a line with a break.
 pub fn more_written(
     alloc: Global,
     cut: &CutText<'_, '_>,
@@ -78,16 +78,9 @@ pub fn more_written(
     child: Child<'_>,
     column: usize,
 ) -> Result<String, AllocError>
-    requires { 1 ≤ column }
-    ensures { IfOk result (λ s. 32 ∷ string_bytes s ≡
-        text_after_line doc cut.now child.entry column) }
+    ensures { GivesText result (text_after_line doc cut.now child.entry column) }
 {
-    let layout = layout_for(cut, doc, child.key.is_some(), child.value);
-    let mut out = String::new(alloc);
-    push_spaces(&mut out, column - 1)?;
-    push_entry(alloc, &mut out, &layout, column, child)?;
-    out.push_str(break_text(layout.br))?;
-    Ok(out)
+    more_lines(alloc, cut, doc, child, column, "\n")
 }
 
 /// Lines put after those under a key or dash.

@@ -209,3 +209,16 @@ root_ends n c part start r rs broken at are_rows alone put last =
 
     begins : (o : Outline) → flatten o ≡ lines_of_rows (r ∷ rs) → HasEntries o × BeginsAt r.column o
     begins o is = first (head_comment r.gap) r.column r.dashes r.mark r.content (lines_of_rows rs) alone o is
+
+-- whichever end of it is told, all rows are in front
+pub root_rows_there : (n : ℕ) (c : Cut) (p : Part) (x : CollectionEnd) (a : IsCollectionEnd c n p [] x) → (a.front ≡ p.rows) × (a.back ≡ [])
+root_rows_there n c p x a =
+    let same : a.h ≡ record { place = here; above = 0; anchor = None; lines = part_outline p } = sym (same_Some _ _ a.collection.place_is) in
+    rows_by_lines a.front a.back p.rows [] (sym a.rows_are ∙ sym (append-nil p.rows))
+    (omega (
+      arith,
+      a.count,
+      ap (λ (h : NodeLines). length (lines_before h.place)) same,
+      ap (λ (h : NodeLines). length (flatten h.lines)) same,
+      ap length (flatten-group (lines_of_rows p.rows)),
+    ))

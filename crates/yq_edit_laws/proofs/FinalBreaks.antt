@@ -66,6 +66,22 @@ feed_none t h = go (last_is t)
     go (inr (inl e)) = ended (10 ∷ []) e refl refl
     go (inr (inr e)) = ended (13 ∷ (10 ∷ [])) e refl refl
 
+-- a text after another one has a last break, if an LF ends the two
+pub last_feed : (lead t text : List ℕ) → is_empty t ≡ false → lead ++ t ≡ text ++ (10 ∷ []) → is_empty (last_break t) ≡ false
+last_feed lead t text some parts = go (is_empty (last_break t)) (feed_some t (sym (feed_more lead t some) ∙ (ap ends_feed parts ∙ feed_more text (10 ∷ []) refl)))
+  where
+    go : (b : Bool) → not b ≡ true → b ≡ false
+    go true h = absurd (false≢true h)
+    go false h = refl
+
+-- and the other way round
+pub feed_last : (t : List ℕ) → is_empty (last_break t) ≡ false → IsLf t
+feed_last t some = feed_lf t (go (ends_feed t) refl)
+  where
+    go : (b : Bool) → ends_feed t ≡ b → ends_feed t ≡ true
+    go true is = is
+    go false is = absurd (false≢true (sym some ∙ ap is_empty (feed_none t is)))
+
 -- ---- a node at the end of a text
 
 byte_out : (p : ℕ → Bool) (b : ℕ) → p 10 ≡ true → p b ≡ false → is_feed b ≡ false

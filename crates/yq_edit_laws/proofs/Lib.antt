@@ -123,4 +123,6 @@ pub mod FittingExists
 pub mod EditsHold
 pub mod RemoveExists
 pub mod PrintedDocuments
+pub mod EntryAdds
 pub mod UnderAppends
+pub mod LinesAppends

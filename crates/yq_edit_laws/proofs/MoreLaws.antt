@@ -85,39 +85,53 @@ module _ (n : ℕ) (s : Step) (ss : List Step) (key : Option (List ℕ)) (v : No
       let broken : Bool = not (is_empty (held e).last) in
       more_edit_at n (s ∷ ss) key v c (end_at n s ss c e there r.column broken) _ read (place r.column broken (under_end r rs last none is single)) (held_put_at (held e) r.column _ _ _ under_spelled)
 
-  -- a compact collection
-  compact_edit : e.line < length e.row.dashes →
-      IsMore n (s ∷ ss) key v c (behind_lines (compact_lines e) (more_lines (layout_of n c) key v (behind_columns e.row.column (take (suc e.line) e.row.dashes)) (compact_lines e).last))
-  compact_edit less =
-      let w : LinesIn = compact_lines e in
-      let column : ℕ = behind_columns e.row.column (take (suc e.line) e.row.dashes) in
-      let t : List ℕ = dash_text e in
-      let row_is = row_there unlimited e.front e.row (e.under ++ e.back) there.part.end (behind_document n c)
-      (subst (λ us. AreRows unlimited us there.part.end (behind_document n c)) there.rows_are (are n s ss c e there)) in
-      let cut_is : print_row e.row (rows_text e.under []) ≡ row_front (upto_dash e.line e.row) ++ t = row_cut e.line e.row (rows_text e.under []) less in
-      let text : rows_text (e.front ++ (e.row ∷ e.under)) [] ≡ (rows_text e.front [] ++ row_front (upto_dash e.line e.row)) ++ t =
-      rows_front e.front (e.row ∷ e.under) [] ∙ (ap (λ z. rows_text e.front [] ++ z) cut_is ∙ sym (append_assoc (rows_text e.front []) (row_front (upto_dash e.line e.row)) t)) in
-      let some : is_empty t ≡ false = dash_some e.line e.row.dashes less row_is.1.dashes row_is.1 in
-      let broken : not (is_empty w.last) ≡ is_broken rows.last.content = broken_by _ t text some in
-      let end = ends_there n s ss c e there column (not (is_empty w.last)) (headless_dash n s ss c e there less) (begins_behind n s ss c e there less) broken in
-      let spelled : w.before ++ (w.lines ++ w.last) ≡ before_entry e ++ print_row e.row (rows_text e.under []) = search (rules, less_is, append_assoc) in
-      more_edit_at n (s ∷ ss) key v c (end_at n s ss c e there column (not (is_empty w.last))) _ read (place column (not (is_empty w.last)) end) (lines_put_at w column _ _ _ spelled)
-    where
-      dashed : (ns ms : List ℕ) (limit : Limit) (rest : List ℕ) → IsRow limit e.row rest → (1 ≤ length ns) → AreDashes ns e.row.mark → is_empty (dashes_text ms (behind_dashes e.row (rows_text e.under []))) ≡ false
-      dashed [] ms limit rest h k d = absurd (omega (arith, k))
-      dashed (m ∷ ns) [] limit rest h k d = mark_some e.row.mark e.row.content rest _ h.mark d.1
-      dashed (m ∷ ns) (q ∷ ms) limit rest h k d = refl
+  -- a compact collection: what comes after its dash isn't nothing
+  dashed : (ns ms : List ℕ) (limit : Limit) (rest : List ℕ) → IsRow limit e.row rest → (1 ≤ length ns) → AreDashes ns e.row.mark → is_empty (dashes_text ms (behind_dashes e.row (rows_text e.under []))) ≡ false
+  dashed [] ms limit rest h k d = absurd (omega (arith, k))
+  dashed (m ∷ ns) [] limit rest h k d = mark_some e.row.mark e.row.content rest _ h.mark d.1
+  dashed (m ∷ ns) (q ∷ ms) limit rest h k d = refl
 
-      past : (k : ℕ) (ns : List ℕ) → k < length ns → (m : ℕ) × (ms : List ℕ) × (drop k ns ≡ m ∷ ms)
-      past k [] h = absurd (omega (arith, h))
-      past zero (m ∷ ns) h = (m, ns, refl)
-      past (suc k) (m ∷ ns) h = past k ns (omega (arith, h))
+  past : (k : ℕ) (ns : List ℕ) → k < length ns → (m : ℕ) × (ms : List ℕ) × (drop k ns ≡ m ∷ ms)
+  past k [] h = absurd (omega (arith, h))
+  past zero (m ∷ ns) h = (m, ns, refl)
+  past (suc k) (m ∷ ns) h = past k ns (omega (arith, h))
 
-      dash_some : (k : ℕ) (ns : List ℕ) → k < length ns → AreDashes ns e.row.mark → {l : Limit} {rest : List ℕ} → IsRow l e.row rest → is_empty (past_dash (drop k ns) (behind_dashes e.row (rows_text e.under []))) ≡ false
-      dash_some k ns h d {l} {rest} row =
-          let x = past k ns h in
-          ap (λ us. is_empty (past_dash us (behind_dashes e.row (rows_text e.under [])))) x.2
-          ∙ some_behind (replicate x.0 32) (dashes_text x.1 (behind_dashes e.row (rows_text e.under []))) (dashed ns x.1 l rest row (omega (arith, h)) d)
+  dash_some : (k : ℕ) (ns : List ℕ) → k < length ns → AreDashes ns e.row.mark → {l : Limit} {rest : List ℕ} → IsRow l e.row rest → is_empty (past_dash (drop k ns) (behind_dashes e.row (rows_text e.under []))) ≡ false
+  dash_some k ns h d {l} {rest} row =
+      let x = past k ns h in
+      ap (λ us. is_empty (past_dash us (behind_dashes e.row (rows_text e.under [])))) x.2
+      ∙ some_behind (replicate x.0 32) (dashes_text x.1 (behind_dashes e.row (rows_text e.under []))) (dashed ns x.1 l rest row (omega (arith, h)) d)
+
+  module _ (less : e.line < length e.row.dashes) where
+    abbrev w : LinesIn
+    w = compact_lines e
+
+    abbrev pub compact_column : ℕ
+    compact_column = behind_columns e.row.column (take (suc e.line) e.row.dashes)
+
+    pub compact_some : is_empty (dash_text e) ≡ false
+    compact_some =
+        let row_is = row_there unlimited e.front e.row (e.under ++ e.back) there.part.end (behind_document n c)
+        (subst (λ us. AreRows unlimited us there.part.end (behind_document n c)) there.rows_are (are n s ss c e there)) in
+        dash_some e.line e.row.dashes less row_is.1.dashes row_is.1
+
+    pub compact_text : print_row e.row (rows_text e.under []) ≡ row_front (upto_dash e.line e.row) ++ dash_text e
+    compact_text = row_cut e.line e.row (rows_text e.under []) less
+
+    -- it ends where a collection does
+    pub compact_end : IsCollectionEnd c n there.part (s ∷ ss) (end_at n s ss c e there compact_column (not (is_empty w.last)))
+    compact_end =
+        let text : rows_text (e.front ++ (e.row ∷ e.under)) [] ≡ (rows_text e.front [] ++ row_front (upto_dash e.line e.row)) ++ dash_text e =
+        rows_front e.front (e.row ∷ e.under) [] ∙ (ap (λ z. rows_text e.front [] ++ z) compact_text ∙ sym (append_assoc (rows_text e.front []) (row_front (upto_dash e.line e.row)) (dash_text e))) in
+        ends_there n s ss c e there compact_column (not (is_empty w.last)) (headless_dash n s ss c e there less) (begins_behind n s ss c e there less) (broken_by _ (dash_text e) text compact_some)
+
+    pub compact_spelled : w.before ++ (w.lines ++ w.last) ≡ before_entry e ++ print_row e.row (rows_text e.under [])
+    compact_spelled = let cut_is : print_row e.row (rows_text e.under []) ≡ row_front (upto_dash e.line e.row) ++ dash_text e = compact_text in search (rules, less_is, append_assoc)
+
+    compact_edit : IsMore n (s ∷ ss) key v c (behind_lines w (more_lines (layout_of n c) key v compact_column w.last))
+    compact_edit =
+        more_edit_at n (s ∷ ss) key v c (end_at n s ss c e there compact_column (not (is_empty w.last))) _ read (place compact_column (not (is_empty w.last)) compact_end)
+        (lines_put_at w compact_column _ _ _ compact_spelled)
 
   -- a line that isn't the last one of its row
   within : (e.line ≡ length e.row.dashes → ⊥) → e.line < length e.row.dashes
@@ -154,44 +168,57 @@ module _ (n : ℕ) (s : Step) (ss : List Step) (key : Option (List ℕ)) (v : No
       go false b h =
           subst (IsMore n (s ∷ ss) key v c) (same_Some _ _ h) (compact_edit (within (eqb-false e.line (length e.row.dashes) b)))
 
--- a root
+-- a root that is a block collection
+module _ (n : ℕ) (c : Cut) (d : PlacedPart) (read : read_at (cut_text c) ≡ Some c) (at : placed_document n c ≡ Some d) (r : Row) (rs : List Row) (are_rows : d.part.rows ≡ r ∷ rs) (single : is_alone r ≡ false) where
+  abbrev all : LinesIn
+  all = root_lines d r rs
+
+  abbrev own : List ℕ
+  own = behind_indent r (rows_text rs [])
+
+  abbrev pub root_end : CollectionEnd
+  root_end = record { column = r.column; before = d.before ++ rows_text d.part.rows []; broken = not (is_empty all.last); behind = d.part.end ++ d.behind }
+
+  pub root_stands : StandsAt c n d
+  root_stands = document_stands_at c n d at
+
+  rows_there : AreRows unlimited (r ∷ rs) d.part.end (behind_document n c)
+  rows_there =
+      let old : IsDocumentPart (cut_text c) c n d.part = record { read = read; there = root_stands.there } in
+      subst (λ us. AreRows unlimited us d.part.end (behind_document n c)) are_rows (part_rows (cut_text c) c n d.part old (document_known (cut_text c) c n d.part old).cut)
+
+  pub root_some : is_empty own ≡ false
+  root_some = entry_some unlimited r _ (rows_text rs []) rows_there.0 single
+
+  pub root_spelled : all.before ++ (all.lines ++ all.last) ≡ root_end.before
+  root_spelled = search (rules, less_is, append_assoc)
+
+  pub root_ended : IsCollectionEnd c n d.part [] root_end
+  root_ended =
+      let text : rows_text (r ∷ rs) [] ≡ (r.gap ++ replicate r.column 32) ++ own = sym (append_assoc r.gap (replicate r.column 32) own) in
+      let broken : not (is_empty all.last) ≡ is_broken (behind_front [] r rs).last.content =
+      text_broken (r ∷ rs) [] d.part.end (behind_document n c) (behind_front [] r rs)
+      (subst (λ us. AreRows unlimited us d.part.end (behind_document n c)) (sym (append-nil (r ∷ rs))) rows_there) _ own text root_some in
+      subst (λ (z : List ℕ). IsCollectionEnd c n d.part [] (record { column = r.column; before = d.before ++ rows_text d.part.rows []; broken = not (is_empty all.last); behind = d.part.end ++ z })) root_stands.behind
+      (root_ends n c d.part d.before r rs (not (is_empty all.last)) root_stands.there are_rows single (λ q. root_stands.put q ∙ ap (λ u. d.before ++ part_text q u) (sym root_stands.behind)) broken)
+
+  abbrev pub root_place : IsAppendPlace n [] c root_end
+  root_place = record { part = d.part; there = root_stands.there; end = root_ended }
+
 root_edit : (n : ℕ) (key : Option (List ℕ)) (v : Node) (c : Cut) (d : PlacedPart) (us : List Segment) → read_at (cut_text c) ≡ Some c →
     placed_document n c ≡ Some d → block_more (layout_of n c) key v (root_standing d d.part.rows) ≡ Some us → IsMore n [] key v c us
 root_edit n key v c d us read at is = go d.part.rows refl is
   where
-    stands : StandsAt c n d
-    stands = document_stands_at c n d at
-
     go : (rs : List Row) → d.part.rows ≡ rs → block_more (layout_of n c) key v (root_standing d rs) ≡ Some us → IsMore n [] key v c us
     go [] are_rows h = absurd (none-some _ h)
     go (r ∷ rs) are_rows h = by (is_alone r) refl h
       where
-        edit : is_alone r ≡ false →
-            IsMore n [] key v c (behind_lines (root_lines d r rs) (more_lines (layout_of n c) key v r.column (root_lines d r rs).last))
-        edit a =
-            let w : LinesIn = root_lines d r rs in
-            let t : List ℕ = behind_indent r (rows_text rs []) in
-            let rest : List ℕ = behind_document n c in
-            let old : IsDocumentPart (cut_text c) c n d.part = record { read = read; there = stands.there } in
-            let all = part_rows (cut_text c) c n d.part old (document_known (cut_text c) c n d.part old).cut in
-            let rows_are = subst (λ us. AreRows unlimited us d.part.end rest) are_rows all in
-            let some : is_empty t ≡ false = entry_some unlimited r _ (rows_text rs []) rows_are.0 a in
-            let text : rows_text (r ∷ rs) [] ≡ (r.gap ++ replicate r.column 32) ++ t = sym (append_assoc r.gap (replicate r.column 32) t) in
-            let broken : not (is_empty w.last) ≡ is_broken (behind_front [] r rs).last.content =
-            text_broken (r ∷ rs) [] d.part.end rest (behind_front [] r rs) (subst (λ us. AreRows unlimited us d.part.end rest) (sym (append-nil (r ∷ rs))) rows_are) _ t text some in
-            let x : CollectionEnd = record { column = r.column; before = d.before ++ rows_text d.part.rows []; broken = not (is_empty w.last); behind = d.part.end ++ rest } in
-            let end : IsCollectionEnd c n d.part [] x =
-            root_ends n c d.part d.before r rs (not (is_empty w.last)) stands.there are_rows a (λ q. stands.put q ∙ ap (λ u. d.before ++ part_text q u) (sym stands.behind)) broken in
-            let spelled : w.before ++ (w.lines ++ w.last) ≡ x.before = search (rules, less_is, append_assoc) in
-            more_edit_at n [] key v c x _ read (record { part = d.part; there = stands.there; end = end })
-            (subst (λ (z : List ℕ). IsPutAt (record { column = r.column; before = x.before; broken = x.broken; behind = d.part.end ++ z })
-            (more_lines (layout_of n c) key v r.column w.last)
-            (behind_lines w (more_lines (layout_of n c) key v r.column w.last))) (sym stands.behind)
-            (lines_put_at w r.column _ _ _ spelled))
-
         by : (b : Bool) → is_alone r ≡ b → block_more (layout_of n c) key v (cond b (alone (lone d.before r (rows_text rs (d.part.end ++ d.behind)))) (root r.column (root_lines d r rs))) ≡ Some us → IsMore n [] key v c us
         by true a h = absurd (none-some _ h)
-        by false a h = subst (IsMore n [] key v c) (same_Some _ _ h) (edit a)
+        by false a h =
+            subst (IsMore n [] key v c) (same_Some _ _ h)
+            (more_edit_at n [] key v c (root_end n c d read at r rs are_rows a) _ read (root_place n c d read at r rs are_rows a)
+            (lines_put_at (root_lines d r rs) r.column _ _ _ (root_spelled n c d read at r rs are_rows a)))
 
 more_there : (n : ℕ) (steps : List Step) (key : Option (List ℕ)) (v : Node) (c : Cut) (t : Standing) (us : List Segment) →
     read_at (cut_text c) ≡ Some c → standing_at n steps c ≡ Some t → block_more (layout_of n c) key v t ≡ Some us → IsMore n steps key v c us

@@ -2,11 +2,12 @@
 use Rattle.std.proofs.Common.{rules, ◌≡◌, ℕ, ◌+◌, Bool, true, false, cond, List, [], ◌∷◌, ◌++◌, length, refl, sym, ap, ◌∙◌, arith}
 use Rattle.std.{proofs.Common.{append-nil, append_assoc, length-append}, specs.Prelude.⊤}
 use Rattle.yq_core.{specs.Text.is_empty, specs.Tree.Node, specs.declared.style.Place.TheVariants.Block as InBlock}
-use Rattle.yq_places.specs.Standings.{Held}
+use Rattle.yq_places.specs.Standings.{Held, LinesIn}
 use Rattle.yq_text.proofs.BetweenLaws.{behind_nothing}
 use Rattle.yq_text.{specs.Script.{Segment, changes, keep, keep_before, merged, put, put_before, splice_at, splices_at}, specs.Splice.Splice}
 use Rattle.yq_text.proofs.TouchLaws.{put_twice}
-use Rattle.yq_edit_rules.{specs.CommentEdits.comment_written, specs.EntryEdits.behind_held, specs.ReplaceEdits.spaced_text}
+use Rattle.yq_edit_rules.{specs.CommentEdits.comment_written, specs.EntryEdits.behind_held, specs.PiecePuts.behind_lines}
+use Rattle.yq_edit_rules.specs.ReplaceEdits.{spaced_text}
 use Rattle.yq_edit_rules.specs.RowChanges.{CommentPutsOne, InlinePutsOne, PiecePutsOne, PutsOne, inline_put, takes_white}
 use Rattle.yq_edit_rules.specs.WrittenValues.{value_text}
 
@@ -109,6 +110,23 @@ lines_put_one h new =
             length-append h.break (h.lines ++ h.last),
             length-append h.lines h.last,
           ))))))))));
+    }
+
+-- ---- lines after others
+
+pub lines_put_after : (w : LinesIn) (new : List ℕ) → PutsOne (behind_lines w new) (w.before ++ (w.lines ++ w.last)) [] new w.behind
+unfolding changes
+lines_put_after w new =
+    let last : List Segment = put [] new ∷ (keep w.behind ∷ []) in
+    record {
+      old_is = simp (append_assoc, append-nil) refl;
+      new_is = simp (append_assoc, append-nil) refl;
+      changes_are =
+          first_keep w.before (merged (keep w.lines ∷ (keep w.last ∷ last)))
+          ∙ (after_keep (length w.before) w.lines (merged (keep w.last ∷ last))
+          ∙ (after_keep (length w.before + length w.lines) w.last (merged last)
+          ∙ (put_quiet (length w.before + length w.lines + length w.last) [] new (keep w.behind ∷ []) tt
+          ∙ ap (λ (m : ℕ). splice_at m [] new) (omega (arith, length-append w.before (w.lines ++ w.last), length-append w.lines w.last)))));
     }
 
 -- ---- a line comment

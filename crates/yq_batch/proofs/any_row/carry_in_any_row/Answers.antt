@@ -10,16 +10,16 @@ use Rattle.yq_batch.{specs.OpenRuns.{MayWrite, open_text}, specs.Slots.{slots_of
 use Rattle.yq_batch.proofs.RowOpenAnswers.{change_edges, first_put, opens_change}
 use Rattle.yq_batch.proofs.any_row.carry_in_any_row.Goals as goal
 
-pub put-requires-clause-start : goal.put-requires-clause-start
-put-requires-clause-start c =
+pub put_in_rows-requires-clause-start : goal.put_in_rows-requires-clause-start
+put_in_rows-requires-clause-start c =
     let t : List ℕ = c.args.cut.now in
     let x = first_put (cut_of t) c.operations.invariant.document c.operations.invariant.end c.operations.rest.now c.operations.left.now c.known-item.result c.in-Some-known.change c.in-len1-up.len_at_least c.in-len1-up-left.len_at_least
     c.operations.invariant.puts c.known-item.is c.in-Some-known.is in
     subst (λ (l : List ℕ). IsCharBoundary l c.in-Some-known.change.place.start) (sym (whole_text t (whole c.text-text.result) c.text-text.ensures.read c.text-text.ensures.text))
     (change_edges (cut_of t) c.operations.invariant.document c.operations.invariant.end (operation_of x.0) c.in-Some-known.change c.operations.run c.operations.invariant.runs x.2).0
 
-pub put-requires-clause-end : goal.put-requires-clause-end
-put-requires-clause-end c =
+pub put_in_rows-requires-clause-end : goal.put_in_rows-requires-clause-end
+put_in_rows-requires-clause-end c =
     let t : List ℕ = c.args.cut.now in
     let x = first_put (cut_of t) c.operations.invariant.document c.operations.invariant.end c.operations.rest.now c.operations.left.now c.known-item.result c.in-Some-known.change c.in-len1-up.len_at_least c.in-len1-up-left.len_at_least
     c.operations.invariant.puts c.known-item.is c.in-Some-known.is in
@@ -33,17 +33,17 @@ operations-preserved c =
     let x = first_put (cut_of t) doc c.operations.invariant.end c.operations.rest.now c.operations.left.now c.known-item.result c.in-Some-known.change c.in-len1-up.len_at_least c.in-len1-up-left.len_at_least
     c.operations.invariant.puts c.known-item.is c.in-Some-known.is in
     let old : List ℕ = open_text (cut_of t) c.operations.run in
-    let new : List ℕ = open_text (cut_of t) c.put.new.self in
+    let new : List ℕ = open_text (cut_of t) c.put_in_rows.new.self in
     let again : read_at (cut_text (cut_of t)) ≡ Some (cut_of t) = ap read_at (text_read t (cut_of t) c.text-text.ensures.read) ∙ c.text-text.ensures.read in
     let fits = first_fits c.operations.rest.now x.0 old c.in-len1-up.len_at_least x.1 c.operations.invariant.serves in
     let on = opens_change (cut_of t) doc c.operations.invariant.end again (operation_of x.0) c.operations.run c.in-Some-known.change c.operations.invariant.runs fits x.2 (whole c.text-text.result)
-    (whole_text t (whole c.text-text.result) c.text-text.ensures.read c.text-text.ensures.text) c.put.new.self (c.in_ok-put.ensures c.if-not-branch.false) in
+    (whole_text t (whole c.text-text.result) c.text-text.ensures.read c.text-text.ensures.text) c.put_in_rows.new.self (c.in_ok-put_in_rows.ensures c.if-not-branch.false) in
     record {
       document = doc;
       end = c.operations.invariant.end;
       puts = x.3;
       whole =
-          others_come c.operations.rest.now x.0 old new c.operations.run.splices.items on.new_bytes c.put.new.self.splices.items c.in-len1-up.len_at_least x.1 on.comes on.splices
+          others_come c.operations.rest.now x.0 old new c.operations.run.splices.items on.new_bytes c.put_in_rows.new.self.splices.items c.in-len1-up.len_at_least x.1 on.comes on.splices
           ∙ c.operations.invariant.whole;
       serves = others_served c.operations.rest.now x.0 old new on.new_bytes c.in-len1-up.len_at_least x.1 c.operations.invariant.serves on.applied;
       runs = on.run;

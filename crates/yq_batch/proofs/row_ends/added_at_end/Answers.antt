@@ -9,9 +9,9 @@ pub returns : goal.returns
 returns c m z at =
     let w = c.in-Append in
     let doc : w.path.doc ≡ m = omega (arith, c.if-path-end.false, at.document) in
-    let steps : steps_of w.path ≡ z.step ∷ z.steps =
+    let steps : steps_of w.path ≡ z.steps =
     ap (map tree_step) (sym c.deref.ensures.value) ∙ (c.are_same_steps.ensures c.if-not-are_same_steps.false ∙ (ap (map tree_step) c.deref-2.ensures.value ∙ at.steps)) in
-    let own : operation_of c.args.op.now ≡ append m (z.step ∷ z.steps) (Some (string_bytes c.in-Some.key)) (value_node w.value) =
+    let own : operation_of c.args.op.now ≡ append m z.steps (Some (string_bytes c.in-Some.key)) (value_node w.value) =
     ap operation_of w.is ∙ (λ i. append (doc i) (steps i) (option_map string_bytes (c.in-Some.is i)) (value_node w.value)) in (
       refl,
       record {
