@@ -1,15 +1,12 @@
 -- Sums of lists of known sizes.
-use Rattle.std.proofs.Common.{◌≡◌, ℕ, ◌+◌, ◌<◌, ◌≤◌, arith, false, List, [], ◌∷◌, ◌++◌, None, refl, sym, ap, ◌∙◌, length-append}
-use Rattle.std.proofs.lemmas.Str.{IsUtf8-append}
+use Rattle.std.proofs.Common.{◌≡◌, ℕ, ◌<◌, arith, false, List, [], ◌∷◌, None, refl, sym, ap, ◌∙◌}
 use Rattle.yq_core.{specs.Paths.append_children, specs.Tree.{Node, alias, scalar, list, Children, none, child}}
 use Rattle.yq_flow_edits.specs.Valued.{IsValueTree, AreValueTrees}
-use Rattle.yq_planner.{specs.ListSizes.HasSize, specs.declared.updating.list_size.ListSize.ListSize, specs.StandIns.{IsStandIn, texts}}
+use Rattle.yq_planner.{specs.ListSizes.HasSize, specs.declared.updating.list_size.ListSize.ListSize, specs.StandIns.IsStandIn}
 use Rattle.yq_semantics.{specs.Judgement.{Judgement, and_then, gives}, specs.Places.FoundPlace}
 use Rattle.yq_semantics.{specs.Program.{Term, PathStep, key, index, each}, specs.RightValues.{is_null, as_items, sum, sum_from, term_value}}
-use Rattle.yq_expr.specs.Oversized.{size_limit, AddsItems, AreItemsOf, GivesList, StandsForOversized, HaveUtf8Keys, is_list, is_text}
-use Rattle.yq_expr.specs.Oversized.{IsTextOf, GivesTextOf}
+use Rattle.yq_expr.specs.Oversized.{items_limit, AddsItems, AreItemsOf, GivesList, StandsForOversized, HaveUtf8Keys}
 use Rattle.yq_core.specs.Tree as tree
-use Rattle.yq_core.specs.declared.kind.Kind.TheVariants as kinds
 
 valid_both : (cs ds : Children) → AreValueTrees false cs → AreValueTrees false ds → AreValueTrees false (append_children cs ds)
 valid_both none ds h k = k
@@ -39,36 +36,13 @@ one_more doc p ds t ts total size with_it h k both =
     )
 
 -- the list of known size that a judgement gives is too large for a text, and a small one stands for it
-pub too_large : (j : Judgement Node) (size : ListSize) (w : Node) → GivesList j size → size_limit < size.half_bytes → ((v : Node) → HasSize v size → IsStandIn v w) → StandsForOversized j w
+pub too_large : (j : Judgement Node) (size : ListSize) (w : Node) → GivesList j size → items_limit < size.items → ((v : Node) → HasSize v size → IsStandIn v w) → StandsForOversized j w
 too_large j size w h more small = (
   list None h.0,
   h.1,
-  record { kind = is_list; valid = (refl, h.2.valid); large = omega (arith, more, h.2.sized.large) },
+  record { items = h.0; is = refl; valid = (refl, h.2.valid); more = omega (arith, more, h.2.sized.many) },
   small (list None h.0) h.2.sized,
 )
-
--- ---- texts
-
--- a text with that of one term more, and others after it
-pub one_text_more : (doc : ℕ) (p : FoundPlace) (v : Node) (t : Term) (ts : List Term) (total length with_it : ℕ) → IsTextOf v total → GivesTextOf (term_value doc p t) length → with_it ≤ total + length →
-    (w : Node) × IsTextOf w with_it × (sum_from doc p w ts ≡ sum_from doc p v (t ∷ ts))
-one_text_more doc p v t ts total length with_it h k both =
-    let text = h.0 in
-    let other = k.2.0 in (
-      scalar None kinds.Text (text ++ other),
-      (text ++ other, refl, IsUtf8-append text other h.2 k.2.2, omega (arith, both, h.3, k.2.3, length-append text other)),
-      sym (ap (and_then (λ u. and_then (λ w. sum_from doc p w ts) (sum v u))) (k.1 ∙ ap gives k.2.1) ∙ ap (λ u. and_then (λ w. sum_from doc p w ts) (sum u (scalar None kinds.Text other))) h.1),
-    )
-
--- the text of known length that a judgement gives is too large for a text, and an empty one stands for it
-pub too_long : (j : Judgement Node) (n : ℕ) → GivesTextOf j n → size_limit + 2 < n → StandsForOversized j (scalar None kinds.Text [])
-too_long j n h more =
-    let t = h.2.0 in (
-      scalar None kinds.Text t,
-      h.1 ∙ ap gives h.2.1,
-      record { kind = is_text; valid = (refl, record { kind = tt; utf8 = h.2.2 }); large = omega (arith, more, h.2.3) },
-      record { kind = texts; fit = refl; short = refl; deep = refl },
-    )
 
 -- ---- keys
 

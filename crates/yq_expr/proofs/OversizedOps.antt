@@ -1,7 +1,6 @@
 -- The operations of an update that gives a place what no text can hold.
-use Rattle.std.proofs.Common.{◌≡◌, ℕ, suc, ◌-◌, ◌<◌, ◌≤◌, length, true, false, List, [], ◌∷◌, ◌++◌, drop, Option, None, if◌then◌else◌, Bool}
-use Rattle.std.{proofs.Common.{refl, sym, ap, ◌∙◌, subst, arith, append_assoc, append-nil, length-append}, proofs.lemmas.Str.IsUtf8-append}
-use Rattle.std.{specs.List.list_any, specs.Str.IsUtf8}
+use Rattle.std.proofs.Common.{◌≡◌, ℕ, suc, ◌<◌, ◌≤◌, true, false, List, [], ◌∷◌, ◌++◌, drop, Option, None, if◌then◌else◌, Bool, refl, sym}
+use Rattle.std.{proofs.Common.{ap, ◌∙◌, subst, arith, append_assoc, append-nil}, specs.List.list_any}
 use Rattle.yq_core.{specs.Tree.{Node, alias, scalar, list, Children}, specs.Paths.Step}
 use Rattle.yq_flow_edits.specs.Valued.{IsValueTree, AreValueTrees}
 use Rattle.yq_semantics.specs.Changes.{Room, Changed, Change, replaces, add_at, add_below, added, all_allowed, at_each, changes_at, created}
@@ -9,16 +8,14 @@ use Rattle.yq_semantics.specs.Changes.{left_pipe, nested, put_below, put_with_pa
 use Rattle.yq_semantics.{specs.Judgement.{Judgement, and_then, gives, refuses}, specs.Operations.Operation, specs.Pipes.places}
 use Rattle.yq_semantics.{specs.Places.{FoundPlace, root_place}, specs.Plans.{change_ops, ops_of}}
 use Rattle.yq_semantics.specs.Program.{Update, assign, delete, comment, is_index, PathStep, key, index, each}
-use Rattle.yq_semantics.{specs.RightValues.{right_value, is_null}, specs.Sizes.{node_size, children_size}}
+use Rattle.yq_semantics.{specs.RightValues.{right_value, is_null}, specs.Sizes.{items_in, items_among}}
 use Rattle.yq_semantics.{proofs.JudgementLaws.{gives_same, then_gives}, proofs.updates.Each.joined_gives, proofs.updates.Planned.all_same}
 use Rattle.yq_semantics.specs.declared.refusal.Refusal.TheVariants.{IndexOutOfRange, KindMismatch}
-use Rattle.yq_expr.specs.Oversized.{BeginsOversized, puts, adds as adding, appends, GivesAt, HaveUtf8Keys, IsListOrText, is_list, is_text}
-use Rattle.yq_expr.specs.Oversized.{IsOversized, GivesOversized, size_limit, item_ops, GivesOversizedOps}
-use Rattle.yq_expr.{specs.Parts.{document_ops, rest_ops}, proofs.PartLaws.{changes_both, ops_join, ops_there, rest_there}}
+use Rattle.yq_expr.specs.Oversized.{BeginsOversized, puts, adds as adding, appends, GivesAt, HaveUtf8Keys, IsOversized, GivesOversized}
+use Rattle.yq_expr.{specs.Oversized.{items_limit, item_ops, GivesOversizedOps}, specs.Parts.{document_ops, rest_ops}}
+use Rattle.yq_expr.proofs.PartLaws.{changes_both, ops_join, ops_there, rest_there}
 use Rattle.yq_documents.specs.Documents.{Document}
-use Rattle.yq_nodes.specs.Nodes.{text_of}
 use Rattle.yq_core.specs.Tree as tree
-use Rattle.yq_core.specs.declared.kind.Kind.TheVariants as kinds
 use Rattle.yq_semantics.specs.declared.program.Operator.TheVariants as operator
 
 -- ---- others after them
@@ -31,11 +28,11 @@ begins_still _ ys (appends doc path items ops valid more is) =
 
 -- ---- a value that is put
 
-nested_size : (ms : List PathStep) (v : Node) → node_size v ≤ node_size (nested ms v)
-nested_size [] v = omega arith
-nested_size (key k ∷ ms) v = omega (arith, nested_size ms v)
-nested_size (index i ∷ ms) v = nested_size ms v
-nested_size (each ∷ ms) v = nested_size ms v
+nested_items : (ms : List PathStep) (v : Node) → items_in v ≤ items_in (nested ms v)
+nested_items [] v = omega arith
+nested_items (key k ∷ ms) v = omega (arith, nested_items ms v)
+nested_items (index i ∷ ms) v = nested_items ms v
+nested_items (each ∷ ms) v = nested_items ms v
 
 nested_valid : (ms : List PathStep) (v : Node) → HaveUtf8Keys ms → IsValueTree v → IsValueTree (nested ms v)
 nested_valid [] v keys valid = valid
@@ -43,17 +40,23 @@ nested_valid (key k ∷ ms) v keys valid = (refl, ((k, refl, keys.0), nested_val
 nested_valid (index i ∷ ms) v keys valid = nested_valid ms v keys valid
 nested_valid (each ∷ ms) v keys valid = nested_valid ms v keys valid
 
--- for a value that is too large
-module _ (doc : ℕ) (v : Node) (valid : IsValueTree v) (more : size_limit < node_size v) where
+-- for the list of items that are too many
+module _ (doc : ℕ) (items : Children) (valid : AreValueTrees false items) (more : items_limit < items_among items) where
+  abbrev v : Node
+  v = list None items
+
+  tree_valid : IsValueTree v
+  tree_valid = (refl, valid)
+
   -- put below a mapping as an entry more
   entry_begins : (path : List Step) (m : PathStep) (ms : List PathStep) (a : Option (List ℕ)) (cs : Children) → HaveUtf8Keys (m ∷ ms) → BeginsOversized (change_ops doc (path, created (tree.map a cs) m ms v))
-  entry_begins path (key k) ms a cs keys = adding keys.0 (nested_valid ms v keys.1 valid) (omega (arith, more, nested_size ms v))
-  entry_begins path (index i) ms a cs keys = adding tt (nested_valid ms v keys valid) (omega (arith, more, nested_size ms v))
-  entry_begins path each ms a cs keys = adding tt (nested_valid ms v keys valid) (omega (arith, more, nested_size ms v))
+  entry_begins path (key k) ms a cs keys = adding keys.0 (nested_valid ms v keys.1 tree_valid) (omega (arith, more, nested_items ms v))
+  entry_begins path (index i) ms a cs keys = adding tt (nested_valid ms v keys tree_valid) (omega (arith, more, nested_items ms v))
+  entry_begins path each ms a cs keys = adding tt (nested_valid ms v keys tree_valid) (omega (arith, more, nested_items ms v))
 
   -- or in the place of what is there
   place_begins : (path : List Step) (ms : List PathStep) → HaveUtf8Keys ms → BeginsOversized (change_ops doc (path, replaces (nested ms v)))
-  place_begins path ms keys = puts (nested_valid ms v keys valid) (omega (arith, more, nested_size ms v))
+  place_begins path ms keys = puts (nested_valid ms v keys tree_valid) (omega (arith, more, nested_items ms v))
 
   created_begins : (path : List Step) (n : Node) (m : PathStep) (ms : List PathStep) → HaveUtf8Keys (m ∷ ms) → BeginsOversized (change_ops doc (path, created n m ms v))
   created_begins path (tree.map a cs) m ms keys = entry_begins path m ms a cs keys
@@ -81,48 +84,24 @@ module _ (doc : ℕ) (v : Node) (valid : IsValueTree v) (more : size_limit < nod
   put_path : (p : FoundPlace) (cs : List Changed) → HaveUtf8Keys p.missing → put_with_path p v ≡ gives cs → BeginsOversized (ops_of doc cs)
   put_path p cs keys h = at_path p.path (put_below p.node p.missing v) cs (λ c is. put_begins p.path p.node p.missing c keys is) h
 
--- ---- a value that is added
+  -- ---- a value that is added
 
-module _ (doc : ℕ) (path : List Step) where
-  abbrev BeginsThere : Change → Type 0
-  BeginsThere c = BeginsOversized (change_ops doc (path, c))
+  scalar_begins : (path : List Step) (n : Node) (c : Change) → (null : Bool) → and_then (λ w. gives (replaces w)) (if null then gives v else refuses KindMismatch) ≡ gives c → Begins path c
+  scalar_begins path n c true h = subst (Begins path) (gives_same h) (place_begins path [] tt)
+  scalar_begins path n c false h = absurd (cc)
 
-  list_added : (items : Children) (n : Node) (c : Change) → AreValueTrees false items → size_limit < children_size items → added n (list None items) ≡ gives c → BeginsThere c
-  list_added items (alias name) c valid more h = absurd (cc)
-  list_added items (scalar a k t) c valid more h = go (is_null (scalar None k t)) h
+  added_begins : (path : List Step) (n : Node) (c : Change) → added n v ≡ gives c → Begins path c
+  added_begins path (alias name) c h = absurd (cc)
+  added_begins path (scalar a k t) c h = scalar_begins path (scalar a k t) c (is_null (scalar None k t)) h
+  added_begins path (list a cs) c h = subst (Begins path) (gives_same h) (appends doc path items [] valid more (sym (append-nil (item_ops doc path items))))
+  added_begins path (tree.map a cs) c h = absurd (cc)
+
+  add_path : (p : FoundPlace) (cs : List Changed) → HaveUtf8Keys p.missing → add_at p v ≡ gives cs → BeginsOversized (ops_of doc cs)
+  add_path p cs keys h = go p.missing refl h
     where
-      go : (null : Bool) → and_then (λ w. gives (replaces w)) (if null then gives (list None items) else refuses KindMismatch) ≡ gives c → BeginsThere c
-      go true e = subst BeginsThere (gives_same e) (place_begins doc (list None items) (refl, valid) more path [] tt)
-      go false e = absurd (cc)
-  list_added items (list a cs) c valid more h = subst BeginsThere (gives_same h) (appends doc path items [] valid more (sym (append-nil (item_ops doc path items))))
-  list_added items (tree.map a cs) c valid more h = absurd (cc)
-
-  text_added : (t : List ℕ) (n : Node) (c : Change) → IsUtf8 t → size_limit < length t - 2 → IsUtf8 (text_of n) → added n (scalar None kinds.Text t) ≡ gives c → BeginsThere c
-  text_added t (alias name) c valid more utf8 h = absurd (cc)
-  text_added t (scalar a kinds.Null u) c valid more utf8 h = subst BeginsThere (gives_same h) (puts (refl, record { kind = tt; utf8 = valid }) more)
-  text_added t (scalar a kinds.Bool u) c valid more utf8 h = absurd (cc)
-  text_added t (scalar a kinds.Int u) c valid more utf8 h = absurd (cc)
-  text_added t (scalar a kinds.Float u) c valid more utf8 h = absurd (cc)
-  text_added t (scalar a kinds.Text u) c valid more utf8 h =
-      subst BeginsThere (gives_same h) (puts (refl, record { kind = tt; utf8 = IsUtf8-append u t utf8 valid }) (omega (arith, more, length-append u t)))
-  text_added t (list a cs) c valid more utf8 h = subst BeginsThere (gives_same h) (adding tt (refl, record { kind = tt; utf8 = valid }) more)
-  text_added t (tree.map a cs) c valid more utf8 h = absurd (cc)
-
-added_begins : (doc : ℕ) (path : List Step) (v n : Node) (c : Change) → IsListOrText v → IsValueTree v → size_limit < node_size v → IsUtf8 (text_of n) → added n v ≡ gives c →
-    BeginsOversized (change_ops doc (path, c))
-added_begins doc path _ n c (is_list {cs}) valid more utf8 h = list_added doc path cs n c valid.1 more h
-added_begins doc path _ n c (is_text {t}) valid more utf8 h = text_added doc path t n c valid.1.utf8 more utf8 h
-
-not_null : {v : Node} → IsListOrText v → is_null v ≡ false
-not_null is_list = refl
-not_null is_text = refl
-
-add_path : (doc : ℕ) (v : Node) (big : IsOversized v) (p : FoundPlace) (cs : List Changed) → HaveUtf8Keys p.missing → IsUtf8 (text_of p.node) → add_at p v ≡ gives cs → BeginsOversized (ops_of doc cs)
-add_path doc v big p cs keys utf8 h = go p.missing refl (sym (ap (λ b. if b then gives [] else add_below p.missing p v) (not_null big.kind)) ∙ h)
-  where
-    go : (ms : List PathStep) → p.missing ≡ ms → add_below ms p v ≡ gives cs → BeginsOversized (ops_of doc cs)
-    go [] is e = at_path doc v big.valid big.large p.path (added p.node v) cs (λ c same. added_begins doc p.path v p.node c big.kind big.valid big.large utf8 same) e
-    go (m ∷ ms) is e = put_path doc v big.valid big.large p cs keys e
+      go : (ms : List PathStep) → p.missing ≡ ms → add_below ms p v ≡ gives cs → BeginsOversized (ops_of doc cs)
+      go [] is e = at_path p.path (added p.node v) cs (λ c same. added_begins p.path p.node c same) e
+      go (m ∷ ms) is e = put_path p cs keys e
 
 -- ---- at the first of places
 
@@ -137,33 +116,40 @@ first_begins doc root f p cs begins h =
     let all : first.0 ≡ cs = sym (append-nil first.0) ∙ (ap (λ xs. first.0 ++ xs) others ∙ (ap (λ xs. xs ++ w.1) same ∙ w.4)) in
     subst (λ xs. BeginsOversized (ops_of doc xs)) all (begins first.0 first.1)
 
-module _ (doc : ℕ) (room : Room) (root : Node) (p : FoundPlace) (keys : HaveUtf8Keys p.missing) (utf8 : IsUtf8 (text_of p.node)) where
+module _ (doc : ℕ) (room : Room) (root : Node) (p : FoundPlace) (keys : HaveUtf8Keys p.missing) where
   -- by one value for all places
   by_value : (right : Judgement Node) (f : FoundPlace → Node → Judgement (List Changed)) (cs : List Changed) → (big : GivesOversized right) →
-      ((ds : List Changed) → f p big.0 ≡ gives ds → BeginsOversized (ops_of doc ds)) → with_value root right f (p ∷ []) ≡ gives cs → BeginsOversized (ops_of doc cs)
+      ((ds : List Changed) → f p (list None big.2.items) ≡ gives ds → BeginsOversized (ops_of doc ds)) → with_value root right f (p ∷ []) ≡ gives cs → BeginsOversized (ops_of doc cs)
   by_value right f cs big begins h =
-      first_begins doc root (λ q. f q big.0) p cs begins (sym (ap (and_then (λ v. at_each root (λ q. f q v) (p ∷ []))) big.1) ∙ h)
+      let is : right ≡ gives (list None big.2.items) = big.1 ∙ ap gives big.2.is in
+      first_begins doc root (λ q. f q (list None big.2.items)) p cs begins (sym (ap (and_then (λ v. at_each root (λ q. f q v) (p ∷ []))) is) ∙ h)
+
+  items_valid : (v : Node) (big : IsOversized v) → AreValueTrees false big.items
+  items_valid v big = (subst IsValueTree big.is big.valid).1
+
+  items_more : (v : Node) (big : IsOversized v) → items_limit < items_among big.items
+  items_more v big = subst (λ x. items_limit < items_in x) big.is big.more
 
   pub place_begins_big : (u : Update) (cs : List Changed) → GivesAt doc root u p → changes_at doc room root u (p ∷ []) ≡ gives cs → BeginsOversized (ops_of doc cs)
   place_begins_big (assign left operator.Set right) cs big h =
-      by_value (right_value doc right (root_place root)) put_with_path cs big (λ ds e. put_path doc big.0 big.2.valid big.2.large p ds keys e) h
+      by_value (right_value doc right (root_place root)) put_with_path cs big (λ ds e. put_path doc big.2.items (items_valid big.0 big.2) (items_more big.0 big.2) p ds keys e) h
   place_begins_big (assign left operator.Add right) cs big h =
-      by_value (right_value doc right (root_place root)) add_at cs big (λ ds e. add_path doc big.0 big.2 p ds keys utf8 e) h
+      by_value (right_value doc right (root_place root)) add_at cs big (λ ds e. add_path doc big.2.items (items_valid big.0 big.2) (items_more big.0 big.2) p ds keys e) h
   place_begins_big (assign left operator.Modify right) cs big h =
       first_begins doc root (λ q. and_then (put_with_path q) (right_value doc right q)) p cs
-      (λ ds e. put_path doc big.0 big.2.valid big.2.large p ds keys (sym (ap (and_then (put_with_path p)) big.1) ∙ e)) h
+      (λ ds e. put_path doc big.2.items (items_valid big.0 big.2) (items_more big.0 big.2) p ds keys (sym (ap (and_then (put_with_path p)) (big.1 ∙ ap gives big.2.is)) ∙ e)) h
   place_begins_big (delete left) cs big h = absurd big
   place_begins_big (comment left place text) cs big h = absurd big
 
 -- the operations in a document, from a place on
 pub document_begins : (u : Update) (doc : ℕ) (room : Room) (root : Node) (ps : List FoundPlace) → places doc (left_pipe u) root ≡ gives ps → (place : ℕ) (p : FoundPlace) (qs : List FoundPlace) →
-    drop place ps ≡ p ∷ qs → HaveUtf8Keys p.missing → IsUtf8 (text_of p.node) → GivesAt doc root u p → GivesOversizedOps (document_ops u doc room root place)
-document_begins u doc room root ps found place p qs there keys utf8 big ops h =
+    drop place ps ≡ p ∷ qs → HaveUtf8Keys p.missing → GivesAt doc root u p → GivesOversizedOps (document_ops u doc room root place)
+document_begins u doc room root ps found place p qs there keys big ops h =
     let all = sym (ops_there u doc room root ps found place) ∙ h in
     let cs = then_gives (λ xs. gives (ops_of doc xs)) (changes_at doc room root u (drop place ps)) ops all in
     let split = sym (ap (changes_at doc room root u) there ∙ changes_both doc room root u (p ∷ []) qs) ∙ cs.1 in
     let w = joined_gives (changes_at doc room root u (p ∷ [])) (changes_at doc room root u qs) cs.0 split in
-    let first = place_begins_big doc room root p keys utf8 u w.0 big w.2 in
+    let first = place_begins_big doc room root p keys u w.0 big w.2 in
     subst BeginsOversized (sym (ops_join doc w.0 w.1) ∙ (ap (ops_of doc) w.4 ∙ gives_same cs.2)) (begins_still (ops_of doc w.0) (ops_of doc w.1) first)
 
 -- and those in the documents after it

@@ -1,12 +1,11 @@
--- Values that no text can hold, by their sizes (own).
-use Rattle.std.specs.Prelude.{◌≡◌, ◌<◌, ℕ, false, length, List, [], ◌∷◌, ◌++◌, map, Option, Some, None, ⊤, Result, ◌≤◌, true, IfOk, IfSome}
+-- Values that no text can hold, since they have more items and entries than a text may have (own).
+use Rattle.std.specs.Prelude.{◌≡◌, ◌<◌, ℕ, false, List, [], ◌∷◌, ◌++◌, map, Option, Some, None, ⊤, Result, ◌≤◌, true, IfOk, IfSome}
 use Rattle.std.{specs.Str.IsUtf8, specs.declared.alloc.AllocError.AllocError}
-use Rattle.yq_core.{specs.Tree.{Node, scalar, list, Children, none}, specs.Paths.Step, specs.Values.value_node}
-use Rattle.yq_core.specs.declared.value.Value.{Value}
+use Rattle.yq_core.{specs.Tree.{Node, list, Children, none}, specs.Paths.Step, specs.Values.value_node, specs.declared.value.Value.Value}
 use Rattle.yq_flow_edits.specs.Valued.{IsValueTree, AreValueTrees}
 use Rattle.yq_planner.{specs.ListSizes.HasSize, specs.StandIns.IsStandIn, specs.declared.updating.list_size.ListSize.ListSize}
 use Rattle.yq_semantics.specs.Judgement.{Judgement, gives, ExprError}
-use Rattle.yq_semantics.{specs.RightValues.{is_null, as_items, right_value, sum_from, term_value}, specs.Sizes.{node_size, children_size}}
+use Rattle.yq_semantics.{specs.RightValues.{is_null, as_items, right_value, sum_from, term_value}, specs.Sizes.{items_in, items_among}}
 use Rattle.yq_semantics.{specs.Changes.additions, specs.Operations.{Operation, replace, append}, specs.Plans.add_op}
 use Rattle.yq_semantics.{specs.Program.{PathStep, key, index, each, Update, assign, delete, comment}, specs.Places.{FoundPlace, root_place}}
 use Rattle.yq_semantics.{specs.View.{update_of, term_of}, specs.declared.program.Operator.Operator}
@@ -14,8 +13,7 @@ use Rattle.yq_eval.specs.PlaceView.{place_of, places_of}
 use Rattle.yq_expr.{specs.FixedPaths.IfAny, specs.Parts.{IsLater, values_limit}, specs.PlannedUpdates.{ops_inside, rest_in}}
 use Rattle.yq_expr.{specs.declared.parts.PlanPart.PlanPart, specs.declared.parts.OpenPart.OpenPart}
 use Rattle.yq_expr.specs.declared.document.DocumentRoot.{DocumentRoot}
-use Rattle.yq_nodes.specs.Nodes.{node_of, text_of}
-use Rattle.yq_core.specs.declared.kind.Kind.TheVariants as kinds
+use Rattle.yq_nodes.specs.Nodes.{node_of}
 use Rattle.yq_eval.specs.declared.matching.place.FoundPlace as place
 use Rattle.yq_semantics.specs.declared.program.Term as term
 use Rattle.yq_semantics.specs.declared.program.Operator.TheVariants as operator
@@ -34,34 +32,22 @@ AddsItems j size = (v : Node) × (j ≡ gives v) × (is_null v ≡ false) × Are
 abbrev pub GivesList : Judgement Node → ListSize → Type 0
 GivesList j size = (cs : Children) × (j ≡ gives (list None cs)) × AreItemsOf cs size
 
--- a value is a text of such a length at least, which is UTF-8 (own)
-abbrev pub IsTextOf : Node → ℕ → Type 0
-IsTextOf v n = (t : List ℕ) × (v ≡ scalar None kinds.Text t) × IsUtf8 t × (n ≤ length t)
+-- how many items and entries a text may have: each takes two bytes at least (own)
+abbrev pub items_limit : ℕ
+items_limit = 8388608
 
--- a judgement gives such a text (own)
-abbrev pub GivesTextOf : Judgement Node → ℕ → Type 0
-GivesTextOf j n = (v : Node) × (j ≡ gives v) × IsTextOf v n
-
--- how many half bytes a text may have, with a last break that it lacks (own)
-abbrev pub size_limit : ℕ
-size_limit = 33554434
-
--- a value is a list or a text (own)
-pub data IsListOrText : Node → Type 0 where
-  is_list : {cs : Children} → IsListOrText (list None cs)
-  is_text : {t : List ℕ} → IsListOrText (scalar None kinds.Text t)
-
--- A list or a text is larger than a text may be, and valid (own).
+-- A list has more items and entries than a text may have, and is valid (own).
 pub record IsOversized (v : Node) : Type 0 where
-  pub kind : IsListOrText v
+  pub items : Children
+  pub is : v ≡ list None items
   pub valid : IsValueTree v
-  pub large : size_limit < node_size v
+  pub more : items_limit < items_in v
 
--- a judgement gives such a value (own)
+-- a judgement gives such a list (own)
 abbrev pub GivesOversized : Judgement Node → Type 0
 GivesOversized j = (v : Node) × (j ≡ gives v) × IsOversized v
 
--- a judgement gives such a value, and a small one is refused where that is (own)
+-- a judgement gives such a list, and a small one is refused where that is (own)
 abbrev pub StandsForOversized : Judgement Node → Node → Type 0
 StandsForOversized j w = (v : Node) × (j ≡ gives v) × IsOversized v × IsStandIn v w
 
@@ -76,10 +62,6 @@ found_sum doc p ts = right_value doc (map term_of ts) (place_of p)
 -- an answer's size is that of the sum of a list of such a size and of terms (own)
 abbrev pub SumsFrom : ℕ → place.FoundPlace → ListSize → List term.Term → Result (Option ListSize) AllocError → Type 0
 SumsFrom doc p first ts result = (cs : Children) → AreItemsOf cs first → IfAny result (GivesList (sum_from doc (place_of p) (list None cs) (map term_of ts)))
-
--- an answer is a length of the sum of a text of such a length and of terms (own)
-abbrev pub SumsTexts : ℕ → place.FoundPlace → ℕ → List term.Term → Result (Option ℕ) AllocError → Type 0
-SumsTexts doc p first ts result = (v : Node) → IsTextOf v first → IfAny result (GivesTextOf (sum_from doc (place_of p) v (map term_of ts)))
 
 -- the keys of steps are UTF-8 (own)
 abbrev pub HaveUtf8Keys : List PathStep → Type 0
@@ -100,9 +82,9 @@ GivesAt doc root (assign left op right) p = GivesOversized (right_value doc righ
 GivesAt doc root (delete left) p = ⊥
 GivesAt doc root (comment left place text) p = ⊥
 
--- an update gives a value at a place of a document that no text can hold; the text there is UTF-8, and so are keys that are missing on the way (own)
+-- an update gives a value at a place of a document that no text can hold, and keys that are missing on the way are UTF-8 (own)
 abbrev pub MakesOversized : DocumentRoot → declared.Update → FoundPlace → Type 0
-MakesOversized d u p = HaveUtf8Keys p.missing × IsUtf8 (text_of p.node) × GivesAt d.doc (node_of d.root) (update_of u) p
+MakesOversized d u p = HaveUtf8Keys p.missing × GivesAt d.doc (node_of d.root) (update_of u) p
 
 -- the same at the first of places (own)
 abbrev pub FirstMakesOversized : DocumentRoot → declared.Update → List FoundPlace → Type 0
@@ -125,11 +107,11 @@ MayBeUtf8 (Some k) = IsUtf8 k
 abbrev pub item_ops : ℕ → List Step → Children → List Operation
 item_ops doc path items = map (add_op doc path) (additions none items)
 
--- Operations begin with one that puts or adds what is larger than a text may be, or with some that append so much (own).
+-- Operations begin with one that puts or adds more items and entries than a text may have, or with some that append so many (own).
 pub data BeginsOversized : List Operation → Type 0 where
-  puts : {doc : ℕ} {path : List Step} {v : Node} {ops : List Operation} → IsValueTree v → size_limit < node_size v → BeginsOversized (replace doc path v ∷ ops)
-  adds : {doc : ℕ} {path : List Step} {k : Option (List ℕ)} {v : Node} {ops : List Operation} → MayBeUtf8 k → IsValueTree v → size_limit < node_size v → BeginsOversized (append doc path k v ∷ ops)
-  appends : {all : List Operation} (doc : ℕ) (path : List Step) (items : Children) (ops : List Operation) → AreValueTrees false items → size_limit < children_size items → all ≡ item_ops doc path items ++ ops → BeginsOversized all
+  puts : {doc : ℕ} {path : List Step} {v : Node} {ops : List Operation} → IsValueTree v → items_limit < items_in v → BeginsOversized (replace doc path v ∷ ops)
+  adds : {doc : ℕ} {path : List Step} {k : Option (List ℕ)} {v : Node} {ops : List Operation} → MayBeUtf8 k → IsValueTree v → items_limit < items_in v → BeginsOversized (append doc path k v ∷ ops)
+  appends : {all : List Operation} (doc : ℕ) (path : List Step) (items : Children) (ops : List Operation) → AreValueTrees false items → items_limit < items_among items → all ≡ item_ops doc path items ++ ops → BeginsOversized all
 
 -- the operations that a judgement gives, if it does, begin so (own)
 abbrev pub GivesOversizedOps : Judgement (List Operation) → Type 0

@@ -11,7 +11,6 @@ mod judging;
 mod many_keys;
 mod modified;
 mod oversized;
-mod oversized_text;
 mod parts;
 mod placed;
 mod planning;
@@ -19,7 +18,6 @@ mod put;
 mod right_value;
 mod same_term;
 mod steps;
-mod value_weight;
 mod weights;
 
 pub use fixed::{is_sole, plan_by_rows};

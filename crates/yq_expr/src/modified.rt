@@ -9,8 +9,7 @@ ghost use Rattle.yq_failure.specs.declared.failure.Failure.TheVariants as failur
 use crate::document::DocumentRoot;
 use crate::oversized::oversized;
 use crate::right_value::right_value;
-use crate::value_weight::weight;
-use crate::weights::VALUES_LIMIT;
+use crate::weights::{VALUES_LIMIT, weight};
 use bumpalo::Bump;
 use std::alloc::Global;
 use yq_documents::Documents;

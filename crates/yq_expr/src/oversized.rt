@@ -1,14 +1,12 @@
-//! Sums that no text can hold: lists that are larger than a text may be, known by their sizes, and texts; they are
-//! never made.
-ghost use Rattle.std.specs.Prelude.{◌≡◌, ◌∷◌, [], IfOk, IsUtf8, map, true};
+//! Sums that no text can hold: lists of more items than a text may have, known by their sizes and never made.
+ghost use Rattle.std.specs.Prelude.{◌≡◌, ◌∷◌, [], IfOk, map, true};
 ghost use Rattle.yq_expr.{specs.FixedPaths.IfAny, specs.Oversized.{AddsItems, GivesList, HaveUtf8Keys, MakesFirst, MakesThere, SumsFrom}};
-ghost use Rattle.yq_nodes.specs.Nodes.{node_of, text_of};
+ghost use Rattle.yq_nodes.specs.Nodes.{node_of};
 ghost use Rattle.yq_semantics.specs.View.{program_step};
 ghost use Rattle.yq_eval.{specs.PlaceView.{place_of, places_of}, specs.TreeScalars.{HasScalars, HaveScalars}};
 ghost use Rattle.yq_expr.specs.Oversized as spec;
 
 use crate::document::DocumentRoot;
-use crate::oversized_text::oversized_text;
 use crate::right_value::term_value;
 use crate::same_term::is_same_term;
 use crate::steps::missing_steps;
@@ -22,8 +20,8 @@ use yq_planner::{ListSize, added_size, is_null, list_of_size};
 use yq_semantics::{ExprError, Operator, PathStep, Term, Update};
 use yq_text::TEXT_LIMIT;
 
-/// How many half bytes a text may have, with a last break that it lacks.
-pub(crate) const SIZE_LIMIT: usize = 2 * (TEXT_LIMIT + 1);
+/// How many items a text may have: each takes two bytes at least.
+const ITEMS_LIMIT: usize = TEXT_LIMIT / 2;
 
 /// How large the list is of what a list gets from the value of a term; nothing, where the term is refused, or
 /// its value is null, or may not be written.
@@ -115,28 +113,8 @@ fn size_of_sum<'a, 't>(
     size_with_terms(alloc, doc, (first, size), others, place)
 }
 
-/// A small list that is refused where the sum of terms is, if that is a list that no text can hold.
-fn oversized_list<'a, 't>(
-    alloc: Global,
-    doc: usize,
-    terms: &'a [Term],
-    place: &FoundPlace<'a, 't>,
-) -> Result<Option<Value>, AllocError>
-    requires { HasScalars (place_of place.now).node }
-    ensures { IfAny result (spec.StandsForSum doc place.now terms.now) }
-{
-    let Some(size) = size_of_sum(alloc, doc, terms, place)? else {
-        return Ok(None);
-    };
-    if size.half_bytes <= SIZE_LIMIT {
-        return Ok(None);
-    }
-    let small = list_of_size(alloc, &size)?;
-    Ok(Some(small))
-}
-
-/// A small value that is refused where the sum of terms is, if no text can hold that. The terms are looked at only
-/// where so many of them may make one, in a text of that length.
+/// A small list that is refused where the sum of terms is, if that is a list that no text can hold. The terms
+/// are looked at only where so many of them may make one, in a text of that length.
 pub(crate) fn oversized<'a, 't>(
     alloc: Global,
     doc: usize,
@@ -150,10 +128,14 @@ pub(crate) fn oversized<'a, 't>(
     if terms.len().saturating_mul(length) <= TEXT_LIMIT {
         return Ok(None);
     }
-    match oversized_list(alloc, doc, terms, place)? {
-        Some(small) => Ok(Some(small)),
-        None => oversized_text(alloc, doc, terms, place),
+    let Some(size) = size_of_sum(alloc, doc, terms, place)? else {
+        return Ok(None);
+    };
+    if size.items <= ITEMS_LIMIT {
+        return Ok(None);
     }
+    let small = list_of_size(alloc, &size)?;
+    Ok(Some(small))
 }
 
 /// The key of a step is UTF-8, as each is that the code holds.
@@ -173,13 +155,6 @@ fn steps_hold(steps: &[&PathStep])
     'steps: for step in steps {
         step_holds(step);
     }
-}
-
-/// The text of a node is UTF-8.
-fn node_holds(node: &Node<'_, '_>)
-    ensures { IsUtf8 (text_of (node_of node.now)) }
-{
-    let _text = node.text();
 }
 
 /// The place from which the value of an assignment is found that a place gets.
@@ -217,7 +192,6 @@ fn is_oversized_at<'a, 't>(
         None => Ok(false),
         Some(_small) => {
             steps_hold(&missing_steps(alloc, place.missing)?);
-            node_holds(&place.node);
             Ok(true)
         }
     }

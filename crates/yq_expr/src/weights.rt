@@ -13,19 +13,68 @@ use crate::document::DocumentRoot;
 use crate::modified::are_many;
 use crate::oversized::oversized;
 use crate::right_value::right_value;
-use crate::value_weight::{ADDITION_WEIGHT, additions_weight, weight};
 use bumpalo::Bump;
 use std::alloc::{AllocError, Global};
+use yq_core::Value;
 use yq_documents::Documents;
 use yq_eval::{FoundPlace, FoundPlaces, find_places};
 use yq_nodes::Node;
 use yq_semantics::{Assignment, ExprError, Operator, Program, Syntax, Term, Update};
 
-/// How many bytes what is found takes at most for each byte of the text.
-const FOUND_WEIGHT: usize = 88;
+/// How many bytes a scalar takes without its text, a key without its text, and a collection without what is
+/// in it.
+const SCALAR_WEIGHT: usize = 88;
+
+const KEY_WEIGHT: usize = 40;
+
+const COLLECTION_WEIGHT: usize = 64;
+
+/// How many bytes an item or entry takes that is added, without its value.
+const ADDITION_WEIGHT: usize = 384;
 
 /// How many bytes the values of an update may take at once, more or less.
 pub(crate) const VALUES_LIMIT: usize = 1 << 28;
+
+/// How many bytes a value takes, more or less.
+#[cycle(weight)]
+pub(crate) fn weight(value: &Value) -> usize {
+    match value {
+        Value::Scalar(scalar) => scalar.text().len().saturating_add(SCALAR_WEIGHT),
+        Value::List(items) => items_weight(items),
+        Value::Map(entries) => entries_weight(entries),
+    }
+}
+
+/// The same of items.
+#[cycle(weight)]
+fn items_weight(items: &Vec<Value>) -> usize {
+    let mut sum = COLLECTION_WEIGHT;
+    'each: for item in items {
+        sum = sum.saturating_add(weight(item));
+    }
+    sum
+}
+
+/// The same of entries.
+#[cycle(weight)]
+fn entries_weight(entries: &Vec<(String, Value)>) -> usize {
+    let mut sum = COLLECTION_WEIGHT;
+    'each: for entry in entries {
+        sum = sum.saturating_add(entry.0.len().saturating_add(KEY_WEIGHT));
+        sum = sum.saturating_add(weight(&entry.1));
+    }
+    sum
+}
+
+/// How many bytes operations take that add a value, without that value.
+fn additions_weight(value: &Value) -> usize {
+    let count = match value {
+        Value::Scalar(_) => 1,
+        Value::List(items) => items.len(),
+        Value::Map(entries) => entries.len(),
+    };
+    count.saturating_mul(ADDITION_WEIGHT)
+}
 
 /// An update that is an assignment.
 pub(crate) fn assignment(update: &Update) -> Option<&Assignment>
@@ -60,7 +109,7 @@ pub(crate) fn modified(update: &Update) -> Option<&[Term]> {
 fn most_of_term(term: &Term, length: usize) -> usize {
     match term {
         Term::Literal(value) => weight(value),
-        Term::Pipe(_) => length.saturating_mul(FOUND_WEIGHT),
+        Term::Pipe(_) => length.saturating_mul(SCALAR_WEIGHT),
     }
 }
 

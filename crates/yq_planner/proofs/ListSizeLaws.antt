@@ -1,10 +1,11 @@
 -- How large the list of several lists' items is, and what is refused where it is.
 use Rattle.std.proofs.Common.{◌≡◌, ℕ, ◌+◌, ◌-◌, ◌<◌, ◌≤◌, min, max, Bool, false, ◌||◌, List, [], ◌∷◌, length, None, refl, sym, ap, ◌∙◌}
 use Rattle.std.proofs.Common.{subst, arith, rules}
-use Rattle.yq_core.{specs.Keys.{depth, deepest}, specs.Paths.append_children, specs.Tree.{Node, list, Children, none, child, plain_label}}
-use Rattle.yq_core.specs.Values.{items}
+use Rattle.yq_core.{specs.Keys.{depth, deepest}, specs.Paths.append_children}
+use Rattle.yq_core.{specs.Tree.{Node, list, Children, none, child, key_label, plain_label}, specs.Values.items}
 use Rattle.yq_planner.{specs.ListSizes.HasSize, specs.StandIns.{IsStandIn, lists}, specs.declared.updating.list_size.ListSize.ListSize}
-use Rattle.yq_semantics.{specs.Changes.{is_overlong_key, has_long_key, have_long_key}, specs.Sizes.{node_size, children_size}}
+use Rattle.yq_semantics.{specs.Changes.{is_overlong_key, has_long_key, have_long_key}, specs.Sizes.items_among}
+use Rattle.yq_core.specs.Tree as tree
 
 or_parts : (a b c : Bool) → (a || (b || c)) ≡ false → (a ≡ false) × (b ≡ false) × (c ≡ false)
 or_parts a b c h = search rules
@@ -22,50 +23,53 @@ deepest_of : (cs ds : Children) → deepest (append_children cs ds) ≡ max (dee
 deepest_of none ds = omega arith
 deepest_of (child l n cs) ds = omega (arith, deepest_of cs ds)
 
-children_of_both : (cs ds : Children) → children_size (append_children cs ds) ≡ children_size cs + children_size ds
-children_of_both none ds = omega arith
-children_of_both (child l n cs) ds = omega (arith, children_of_both cs ds)
+items_of_both : (cs ds : Children) → items_among (append_children cs ds) ≡ items_among cs + items_among ds
+items_of_both none ds = omega arith
+items_of_both (child l n cs) ds = omega (arith, items_of_both cs ds)
 
 -- the sizes of two lists give that of the list of both lists' items
-pub both_sizes : (cs ds : Children) (a b c : ListSize) → HasSize (list None cs) a → HasSize (list None ds) b → c.depth ≡ max a.depth b.depth → c.half_bytes ≤ a.half_bytes + b.half_bytes →
+pub both_sizes : (cs ds : Children) (a b c : ListSize) → HasSize (list None cs) a → HasSize (list None ds) b → c.depth ≡ max a.depth b.depth → c.items ≤ a.items + b.items →
     HasSize (list None (append_children cs ds)) c
-both_sizes none ds a b c h k deep large = absurd (let is = h.is in cc)
-both_sizes (child l n cs) ds a b c h k deep large = record {
+both_sizes none ds a b c h k deep many = absurd (let is = h.is in cc)
+both_sizes (child l n cs) ds a b c h k deep many = record {
   label = l;
   first = n;
   others = append_children cs ds;
   is = refl;
   fit = neither (child l n cs) ds h.fit k.fit;
   deep = omega (arith, deep, h.deep, k.deep, deepest_of (child l n cs) ds);
-  large = omega (arith, large, h.large, k.large, children_of_both (child l n cs) ds);
+  many = omega (arith, many, h.many, k.many, items_of_both (child l n cs) ds);
 }
 
 -- the size of a list of one item
-pub one_size : (v : Node) (d : ℕ) (size : ListSize) → has_long_key v ≡ false → d ≡ min 65 (depth v) → size.depth ≡ min (d + 1) 65 → size.half_bytes ≤ 4 + node_size v →
-    HasSize (list None (child plain_label v none)) size
-one_size v d size fit is deep large = record {
-  label = plain_label;
+pub one_size : (v : Node) (d : ℕ) (size : ListSize) → has_long_key v ≡ false → d ≡ min 65 (depth v) → size.depth ≡ min (d + 1) 65 → size.items ≡ 1 → HasSize (list None (child (key_label None) v none)) size
+one_size v d size fit is deep many = record {
+  label = key_label None;
   first = v;
   others = none;
   is = refl;
   fit = ap (λ b. b || false) fit;
   deep = omega (arith, is, deep);
-  large = omega (arith, large);
+  many = omega (arith, many);
 }
 
 -- the size of a list with the items of the code's list
-pub list_size : (ns : List Node) (size : ListSize) → 0 < length ns → has_long_key (list None (items ns)) ≡ false → size.depth ≡ min 65 (depth (list None (items ns))) → size.half_bytes ≤ children_size (items ns) →
+pub list_size : (ns : List Node) (d : ℕ) (size : ListSize) → 0 < length ns → has_long_key (list None (items ns)) ≡ false → d ≡ min 65 (depth (list None (items ns))) → size.depth ≡ d → size.items ≡ length ns →
     HasSize (list None (items ns)) size
-list_size [] size some fit deep large = absurd (omega (arith, some))
-list_size (n ∷ ns) size some fit deep large = record {
+list_size [] d size some fit is deep many = absurd (omega (arith, some))
+list_size (n ∷ ns) d size some fit is deep many = record {
   label = plain_label;
   first = n;
   others = items ns;
   is = refl;
   fit = fit;
-  deep = deep;
-  large = large;
+  deep = omega (arith, is, deep);
+  many = omega (arith, many, some_of (n ∷ ns));
 }
+  where
+    some_of : (ms : List Node) → length ms ≤ items_among (items ms)
+    some_of [] = omega arith
+    some_of (m ∷ ms) = omega (arith, some_of ms)
 
 -- a small list stands for one of that size
 pub small_for : (v inside w : Node) (size : ListSize) → w ≡ list None (child plain_label inside none) → depth inside ≡ size.depth - 1 → has_long_key inside ≡ false → HasSize v size → IsStandIn v w

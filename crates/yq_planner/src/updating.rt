@@ -17,4 +17,3 @@ pub(crate) mod repeated;
 pub(crate) mod same_value;
 pub(crate) mod stand_in;
 pub(crate) mod sum;
-pub(crate) mod value_size;

@@ -1,4 +1,3 @@
-pub mod ContentSizes
 pub mod FlowSizes
 pub mod RowSizes
 pub mod AfterSizes

@@ -4,41 +4,41 @@ use Rattle.yq_core.{specs.Paths.Step, specs.Tree.{Label, Node, Children, none, c
 use Rattle.yq_documents.{specs.Documents.{Document, ReadsDocuments}, proofs.ReadLaws.one_reading, specs.Reading.{cut_of, read_at}}
 use Rattle.yq_flow_edits.specs.Valued.{AreValueTrees, IsValueTree}
 use Rattle.yq_semantics.{specs.After.{after_op, all_after}, specs.Operations.{Operation, replace, append}, specs.Rooms.room_of}
-use Rattle.yq_semantics.specs.Sizes.{label_size, node_size, children_size, documents_size}
-use Rattle.yq_semantics.{specs.declared.refusal.Refusal.TheVariants.TooLarge, proofs.sizes.RowSizes.text_size}
-use Rattle.yq_semantics.{proofs.sizes.AfterSizes.{appended_size, replaced_size}, specs.Program.{Update, UpdatesHold}}
+use Rattle.yq_semantics.{specs.Sizes.{items_in, items_among, items_of_all}, specs.declared.refusal.Refusal.TheVariants.TooLarge}
+use Rattle.yq_semantics.{proofs.sizes.RowSizes.text_size, proofs.sizes.AfterSizes.{appended_size, replaced_size}}
+use Rattle.yq_semantics.specs.Program.{Update, UpdatesHold}
 use Rattle.yq_text.specs.Splice.{Splice}
 use Rattle.yq_edit_rules.specs.Operands.{HasOperand, KeyIsUtf8}
 use Rattle.yq_edit_laws.{specs.Carried.{carried, carry_all}, specs.Edit.{Edit, edit_after}, specs.Theorems.IsApplied}
 use Rattle.yq_edit_laws.{specs.Valid.{AreServed, FailsAt, HaveOperands}, proofs.ApplyLaws.applied_by}
 use Rattle.yq_edit_laws.proofs.ServeLaws.{OperationsCome, all_come}
-use Rattle.yq_expr.specs.Oversized.{size_limit, BeginsOversized, puts, adds, appends, item_ops, MayBeUtf8}
+use Rattle.yq_expr.specs.Oversized.{items_limit, BeginsOversized, puts, adds, appends, item_ops, MayBeUtf8}
 use Rattle.yq_splice.specs.Parts.{Awaits}
 use Rattle.yq_splice.proofs.PartLaws.{IsUnderWay, first_served, fitting, gave_between, next_await, rest_awaits, some_fail}
 use Rattle.yq_failure.specs.declared.failure.Failure.TheVariants as failure
 use Rattle.yq_edit_laws.specs.Edit as edits
 
--- a text that reads is no larger than it may be
-within : (t : List ℕ) (docs : List Document) → ReadsDocuments t docs → documents_size docs ≤ size_limit
+-- a text that reads has no more items and entries than it may have
+within : (t : List ℕ) (docs : List Document) → ReadsDocuments t docs → items_of_all docs ≤ items_limit
 within t docs h = omega (arith, text_size t docs h, h.cut.size)
 
 -- what an operation on awaiting documents leads to
-after_size : (op : Operation) (ops : List Operation) (m n : List ℕ) (cs : List Splice) (h : Awaits (op ∷ ops) m) → HasOperand op → carried op m ≡ edits.gives n cs → documents_size (after_op (room_of m) op h.documents) ≤ size_limit
+after_size : (op : Operation) (ops : List Operation) (m n : List ℕ) (cs : List Splice) (h : Awaits (op ∷ ops) m) → HasOperand op → carried op m ≡ edits.gives n cs → items_of_all (after_op (room_of m) op h.documents) ≤ items_limit
 after_size op ops m n cs h operand is =
     let a : IsApplied op m n cs = applied_by op m operand (fitting op ops m h) n cs is in
     let same : a.before ≡ h.documents = one_reading m a.before h.documents a.read h.read in
-    subst (λ (docs : List Document). documents_size (after_op (room_of m) op docs) ≤ size_limit) same (within n _ a.reads)
+    subst (λ (docs : List Document). items_of_all (after_op (room_of m) op docs) ≤ items_limit) same (within n _ a.reads)
 
 -- ---- items that are appended, one after the other
 
 first_op : (doc : ℕ) (path : List Step) (label : Label) (v : Node) (items : Children) → label ≡ key_label None → item_ops doc path (child label v items) ≡ append doc path None v ∷ item_ops doc path items
 first_op doc path label v items is = ap (λ l. item_ops doc path (child l v items)) is
 
--- no text that they give is larger than it may be, with what is counted
+-- no text that they give has more items and entries than it may have
 abbrev AddUp : List Operation → ℕ → Type 0
-AddUp xs count = (ops : List Operation) (m n : List ℕ) (cs : List Splice) (h : Awaits (xs ++ ops) m) → carry_all xs m ≡ edits.gives n cs → documents_size h.documents + count ≤ size_limit
+AddUp xs count = (ops : List Operation) (m n : List ℕ) (cs : List Splice) (h : Awaits (xs ++ ops) m) → carry_all xs m ≡ edits.gives n cs → items_of_all h.documents + count ≤ items_limit
 
-one_more : (doc : ℕ) (path : List Step) (v : Node) (xs : List Operation) (count : ℕ) → IsValueTree v → AddUp xs count → AddUp (append doc path None v ∷ xs) (4 + (node_size v + count))
+one_more : (doc : ℕ) (path : List Step) (v : Node) (xs : List Operation) (count : ℕ) → IsValueTree v → AddUp xs count → AddUp (append doc path None v ∷ xs) (suc (items_in v + count))
 one_more doc path v xs count valid more ops m n cs h is =
     let op = append doc path None v in
     let g = gave_between (carry_all xs) (carried op m) n cs is in
@@ -46,14 +46,13 @@ one_more doc path v xs count valid more ops m n cs h is =
     let next = next_await op (xs ++ ops) m g.between g.first h a in
     let before : a.before ≡ h.documents = one_reading m a.before h.documents a.read h.read in
     let same : next.documents ≡ after_op (room_of m) op a.before = one_reading g.between next.documents (after_op (room_of m) op a.before) next.read a.reads in
-    omega (arith, more ops g.between n g.later next g.then_gave, ap documents_size same, ap (λ (ds : List Document). documents_size (after_op (room_of m) op ds)) before, appended_size (room_of m) doc path None v h.documents h.follow.fit.0)
+    omega (arith, more ops g.between n g.later next g.then_gave, ap items_of_all same, ap (λ (ds : List Document). items_of_all (after_op (room_of m) op ds)) before, appended_size (room_of m) doc path None v h.documents h.follow.fit.0)
 
-add_up : (doc : ℕ) (path : List Step) (items : Children) → AreValueTrees false items → AddUp (item_ops doc path items) (children_size items)
+add_up : (doc : ℕ) (path : List Step) (items : Children) → AreValueTrees false items → AddUp (item_ops doc path items) (items_among items)
 add_up doc path none valid = λ ops m n cs h is. omega (arith, within m h.documents h.read)
 add_up doc path (child label v items) valid =
-    rw valid.0 (
-    subst (λ xs. AddUp xs (4 + (node_size v + children_size items))) (sym (first_op doc path (key_label None) v items refl))
-    (one_more doc path v (item_ops doc path items) (children_size items) valid.1 (add_up doc path items valid.2)))
+    subst (λ xs. AddUp xs (suc (items_in v + items_among items))) (sym (first_op doc path label v items valid.0))
+    (one_more doc path v (item_ops doc path items) (items_among items) valid.1 (add_up doc path items valid.2))
 
 items_operands : (doc : ℕ) (path : List Step) (items : Children) → AreValueTrees false items → HaveOperands (item_ops doc path items)
 items_operands doc path none valid = tt
@@ -86,7 +85,7 @@ utf8_key : (k : Option (List ℕ)) → MayBeUtf8 k → KeyIsUtf8 k
 utf8_key None h = h
 utf8_key (Some k) h = h
 
-first_refused : (op : Operation) (ops : List Operation) (m : List ℕ) (h : Awaits (op ∷ ops) m) → HasOperand op → size_limit < documents_size (after_op (room_of m) op h.documents) → IsRefused (op ∷ ops) m
+first_refused : (op : Operation) (ops : List Operation) (m : List ℕ) (h : Awaits (op ∷ ops) m) → HasOperand op → items_limit < items_of_all (after_op (room_of m) op h.documents) → IsRefused (op ∷ ops) m
 first_refused op ops m h operand more = record {
   first = op ∷ [];
   others = ops;

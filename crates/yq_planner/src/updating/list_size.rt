@@ -1,12 +1,11 @@
 //! How large lists are that sums give, known without a copy of their items.
-ghost use Rattle.std.specs.Prelude.{◌≡◌, None, IfOk, IfSome, false};
-ghost use Rattle.yq_core.{specs.Tree.{Node, child, list, none, plain_label}, specs.Values.value_node};
+ghost use Rattle.std.specs.Prelude.{◌≡◌, ◌≤◌, None, IfOk, IfSome, false, suc};
+ghost use Rattle.yq_core.{specs.Inline.depth_limit, specs.Tree.{Node, list}, specs.Values.value_node};
 ghost use Rattle.yq_semantics.{specs.Changes.has_long_key, specs.RightValues.as_items};
-ghost use Rattle.yq_planner.{specs.ListSizes.{HasSize, IsSizeOfBoth}, specs.StandIns.IsStandIn};
+ghost use Rattle.yq_planner.{specs.ListSizes.{HasSize, IsSizeAround, IsSizeOfBoth}, specs.StandIns.IsStandIn};
 
 use crate::updating::limits::holds_long_key;
 use crate::updating::stand_in::{depth_of, in_list, nested_lists};
-use crate::updating::value_size::{ITEM_SIZE, items_size, value_size};
 use std::alloc::{AllocError, Global};
 use yq_core::{DEPTH_LIMIT, Value};
 
@@ -15,8 +14,8 @@ use yq_core::{DEPTH_LIMIT, Value};
 pub struct ListSize {
     /// How many collections are nested in it, itself among them: at most one more than may be.
     pub depth: usize,
-    /// How long a text is in which it is, in half bytes: so long at least.
-    pub half_bytes: usize,
+    /// How many items and entries are in it, at any depth: so many at least.
+    pub items: usize,
 }
 
 impl ListSize {
@@ -26,19 +25,19 @@ impl ListSize {
     {
         ListSize {
             depth: self.depth.max(other.depth),
-            half_bytes: self.half_bytes.saturating_add(other.half_bytes),
+            items: self.items.saturating_add(other.items),
         }
     }
 }
 
-/// The size of a list of that one item, which has no too long key.
-fn size_around(item: &Value) -> ListSize
-    requires { has_long_key (value_node item.now) ≡ false }
-    ensures { HasSize (list None (child plain_label (value_node item.now) none)) result }
+/// The size of a list of one item, in which so many collections are nested.
+fn size_around(nested: usize) -> ListSize
+    requires { nested ≤ suc depth_limit }
+    ensures { IsSizeAround nested result }
 {
     ListSize {
-        depth: (depth_of(item) + 1).min(DEPTH_LIMIT + 1),
-        half_bytes: ITEM_SIZE.saturating_add(value_size(item)),
+        depth: (nested + 1).min(DEPTH_LIMIT + 1),
+        items: 1,
     }
 }
 
@@ -48,17 +47,19 @@ fn size_of_added(value: &Value) -> Option<ListSize>
     requires { has_long_key (value_node value.now) ≡ false }
     ensures { IfSome result (HasSize (list None (as_items (value_node value.now)))) }
 {
+    let depth = depth_of(value);
     match value {
         Value::List(items) => {
             if items.is_empty() {
                 return None;
             }
             Some(ListSize {
-                depth: depth_of(value),
-                half_bytes: items_size(items),
+                depth,
+                items: items.len(),
             })
         }
-        Value::Scalar(_) | Value::Map(_) => Some(size_around(value)),
+        Value::Scalar(_) => Some(size_around(depth)),
+        Value::Map(_) => Some(size_around(depth)),
     }
 }
 

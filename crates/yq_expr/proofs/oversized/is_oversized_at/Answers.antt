@@ -7,4 +7,4 @@ returns-in_ok-missing_steps-in-Some-2 c = λ _.
     let root = node_of c.args.document.now.root in
     let a = c.in-Some.assignment.now in
     let large = rw c.in-Some-2.is at c.in_ok-oversized.ensures in
-    search (rules, c.steps_hold.ensures, c.node_holds.ensures, c.in_ok-missing_steps-in-Some-2.ensures, c.assignment.ensures, c.value_start-from.ensures, large)
+    search (rules, c.steps_hold.ensures, c.in_ok-missing_steps-in-Some-2.ensures, c.assignment.ensures, c.value_start-from.ensures, large)

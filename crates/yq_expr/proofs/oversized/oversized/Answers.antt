@@ -3,9 +3,9 @@ use Rattle.yq_core.specs.Values.{value_node}
 use Rattle.yq_eval.specs.PlaceView.{place_of}
 use Rattle.yq_semantics.{specs.RightValues.right_value, specs.View.term_of}
 use Rattle.yq_expr.proofs.OversizedLaws.{too_large}
-use Rattle.yq_expr.proofs.oversized.oversized_list.Goals as goal
+use Rattle.yq_expr.proofs.oversized.oversized.Goals as goal
 
 pub returns : goal.returns
 returns c =
     too_large (right_value c.args.doc (map term_of c.args.terms.now) (place_of c.args.place.now)) c.in-Some.size (value_node c.in_ok-small.small)
-    (rw c.in-Some.is at c.in_ok-size.ensures) (omega (arith, c.if-size-le-SIZE_LIMIT.false)) c.in_ok-small.ensures
+    (rw c.in-Some.is at c.in_ok-size.ensures) (omega (arith, c.if-size-le-ITEMS_LIMIT.false)) c.in_ok-small.ensures
