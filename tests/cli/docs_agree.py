@@ -11,7 +11,7 @@ from pages import examples, lines_of
 MAN = os.path.join("man", "yq.1")
 LINK = re.compile(r"\]\(([^)\s]+)\)")
 CODE = re.compile(r'"([A-Z]\d+)\b')
-FAULT = re.compile(r'(?:\b(?:Fault|Refusal)::\w+(?:\(_\))? => |#\[error\()"([A-Z]\d+ [a-z ]+)"')
+FAULT = re.compile(r'(?:\b(?:Fault|Refusal)::\w+(?:\(.*\))? => |#\[error\()"([A-Z]\d+ [a-z ]+)"')
 NUMBERED = re.compile(r'FaultKind::\w+ => \("(Y\d+)", "([\w ]+)"\)')
 
 
