@@ -126,7 +126,7 @@ fn first_added(ops: &[Op]) -> Option<&Path> {
     None
 }
 
-/// Where the mapping ends into which operations put entries; nothing, where none does. Whether it is known.
+/// Where the mapping ends into which operations put entries, if one of them does; `None` where that end isn't known.
 pub(crate) fn end_for<'o>(cut: &CutText<'_, '_>, ops: &'o [Op]) -> Option<Option<EntriesEnd<'o>>>
     ensures { IfSome result (λ o. IfSome o (spec.IsEndThere cut.now)) }
 {
