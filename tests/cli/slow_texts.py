@@ -128,7 +128,7 @@ def check_entries_put_into_a_mapping_by_turns(folder):
     root = "".join(f"{key}: 1\n" for key in keys)
     lines = "".join(f"  {key}: 1\n" for key in keys)
     added = "b:\n" + "".join(f"  {key}: 2\n  n{n}: x y\n" for n, key in enumerate(keys))
-    for text, update in ((f"---\n{root}", ". += .b"), (f"a:\n{lines}", ".a += .b"), (f"a:\n-{lines[1:]}", ".a[0] += .b")):
+    for text, update in ((root, ". += .b"), (f"a:\n{lines}", ".a += .b"), (f"a:\n-{lines[1:]}", ".a[0] += .b")):
         for line_break in ("\n", "\r\n"):
             folder.write("f", f"{text}{added}".replace("\n", line_break).encode())
             each_within_a_second(folder, [update])

@@ -10,7 +10,8 @@ use Rattle.yq_core.{proofs.NodesWrittenLaws.items_append, proofs.NodeAgain.items
 use Rattle.yq_flow_edits.proofs.EditLaws.{Around, around_is}
 use Rattle.yq_row_table.specs.Rows.{Cut, cut_text}
 use Rattle.yq_places.{specs.FlowViews.{behind_anchor, placed_collection}, specs.declared.places.flow_node.FlowHead.FlowHead}
-use Rattle.yq_edit_laws.{proofs.FlowAnswers.CollFound, proofs.FlowHeads.whole_is, proofs.FlowLonger.with_more, specs.NearParts.LeadsToPart}
+use Rattle.yq_places.proofs.FlowNodeLaws.{with_more}
+use Rattle.yq_edit_laws.{proofs.FlowAnswers.CollFound, proofs.FlowHeads.whole_is, specs.NearParts.LeadsToPart}
 use Rattle.yq_edit_laws.proofs.SoleEntries.{empty_bytes}
 use Rattle.yq_batch.specs.LeftItems.{Ending, closing, others, LeadsToIndex, TakesOut, front_text, gap_at, left_items, text_of_item}
 use Rattle.yq_batch.specs.LeftItems.{place_of_part, ending_items, items_after, upto_text}

@@ -48,6 +48,7 @@ pub mod RowsUnder
 pub mod RowShapes
 pub mod RowEndLaws
 pub mod SlotEnds
+pub mod KeptBreakLaws
 pub mod RowOpens
 pub mod RowAdds
 pub mod RowEndAnswers

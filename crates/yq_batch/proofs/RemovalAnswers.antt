@@ -13,11 +13,11 @@ use Rattle.yq_outline.specs.Counts.{count}
 use Rattle.yq_row_table.specs.Rows.{Cut, cut_text}
 use Rattle.yq_documents.specs.Reading.{cut_of, read_at}
 use Rattle.yq_places.{specs.FlowNodes.flow_collection, specs.FlowViews.{FlowAgrees, LeadsToHead}, specs.Standings.last_step}
-use Rattle.yq_places.specs.declared.places.flow_node.FlowHead.{FlowHead}
+use Rattle.yq_places.{specs.declared.places.flow_node.FlowHead.FlowHead, proofs.FlowNodeLaws.with_more}
 use Rattle.yq_semantics.{specs.Operations.{Operation, operations_of, remove}, specs.declared.op.Op.Op}
 use Rattle.yq_edit_laws.{proofs.CutLaws.text_read, proofs.TextFaults.text_utf8, proofs.FlowAnswers.{CollFound, coll_found}}
-use Rattle.yq_edit_laws.{proofs.FlowLonger.with_more, specs.Carried.carry_all, specs.Edit.edit_after, specs.Theorems.IsFitting}
-use Rattle.yq_edit_laws.{specs.Valid.AreServed, specs.NearParts.LeadsToPart}
+use Rattle.yq_edit_laws.{specs.Carried.carry_all, specs.Edit.edit_after, specs.Theorems.IsFitting, specs.Valid.AreServed}
+use Rattle.yq_edit_laws.specs.NearParts.{LeadsToPart}
 use Rattle.yq_batch.specs.LeftItems.{closing, count_items, count_parts}
 use Rattle.yq_batch.specs.RemovalRuns.{AreFirstLeft, GoesInHead, IsKnownLeft, IsLeftIn, IsLeftOf, IsRemovalRun, PartGoes, SoleGoes}
 use Rattle.yq_batch.specs.RemovalRuns.{content_of, empty_text, RemovesSo, CarriesTogether, left_coll, text_exchanged}

@@ -7,16 +7,16 @@ use Rattle.yq_text.{specs.Limit.text_limit, specs.Script.{Segment, changes, new_
 use Rattle.yq_core.specs.Paths.{Step}
 use Rattle.yq_row_table.specs.Rows.{Cut, cut_text}
 use Rattle.yq_documents.{specs.Reading.{documents, read_at}, proofs.ReadLaws.parts_read}
-use Rattle.yq_places.{specs.FirstBreak.first_break, specs.Standings.RowsOfEntry}
+use Rattle.yq_places.specs.Standings.{RowsOfEntry}
 use Rattle.yq_semantics.{specs.Fits.Fits, specs.Operations.{Operation, append}, specs.Rooms.room_of}
 use Rattle.yq_edit_rules.{specs.Edits.or_stay, specs.EntryEdits.more_lines, specs.Layouts.layout_of, specs.RowChanges.HoldsInline}
 use Rattle.yq_edit_laws.{proofs.CutLaws.text_read, specs.Carried.{carried, carry_one}}
 use Rattle.yq_edit_laws.{specs.Edit.{by_reading, edit_of_segments, exchange_edit, gives}, specs.Theorems.IsFitting, proofs.ApplyLaws.fits}
 use Rattle.yq_batch.{specs.OpenRows.{AreRowsStill, IsOpenRows, IsRowStill, IsRowThere}, specs.OpenRuns.AreCharEdges}
-use Rattle.yq_batch.specs.RowEnds.{AddsAtEnd, LeaveRoom, EndOfEntries, IsEndStill}
-use Rattle.yq_batch.proofs.RowEndLaws.{adds, after, end_after, lines_are, read_new, row_stays, text_upto, upto}
+use Rattle.yq_batch.{specs.KeptBreaks.KeepsFirstBreak, specs.RowEnds.{AddsAtEnd, LeaveRoom, EndOfEntries, IsEndStill}}
+use Rattle.yq_batch.proofs.RowEndLaws.{adds, after, end_after, end_breaks, lines_are, read_new, row_stays, text_upto, upto}
 use Rattle.yq_batch.{proofs.RowOrder.StaysInFront, proofs.RowStills.{holds_now, row_in_front, some_between}}
-use Rattle.yq_batch.{proofs.SlotEnds.{apart_from, last_alone}, proofs.SlotLaws.{front_length, front_of, places_same, starts_at}}
+use Rattle.yq_batch.{proofs.SlotEnds.{apart_from, last_alone}, proofs.SlotLaws.{front_length, front_of, places_same}}
 use Rattle.yq_batch.{proofs.SlotPuts.edges_put, proofs.SlotStills.{new_text_is, old_text}, specs.declared.change.HeadChange.HeadChange}
 use Rattle.yq_batch.specs.declared.slots.SlotPlace.{SlotPlace}
 use Rattle.yq_batch.specs.Slots.{AreInOrder, IsPutIn, SlotView, count_of, put_or, put_text, slot_places, slot_text, text_from}
@@ -150,9 +150,6 @@ module _ (op : Operation) (c : Cut) (m : ℕ) (slots slots2 : List SlotView) (wh
         length-append (put_text s) rest,
       )
 
-  breaks : first_break (cut_text d) ≡ first_break t
-  breaks = ap first_break (text ∙ starts_at t 0 es.lead slots (omega arith) es.order) ∙ es.near (text_from t es.lead slots)
-
   order2 : AreInOrder 0 (slot_places slots2) (length t)
   order2 =
       subst (λ (ss : List SlotView). AreInOrder 0 (slot_places ss) (length t)) (sym slots2_are)
@@ -174,7 +171,7 @@ module _ (op : Operation) (c : Cut) (m : ℕ) (slots slots2 : List SlotView) (wh
   ss = (adds z m d rest read es.here a.key a.value).segments
 
   lines_new : more_lines (layout_of m d) (Some a.key) a.value z.column (10 ∷ []) ≡ new
-  lines_new = lines_are z m d rest read es.here a.key a.value c a.plain breaks ∙ (sym a.lines ∙ sym (append-nil (string_bytes a.written)))
+  lines_new = lines_are z m d rest read es.here a.key a.value c a.plain es.breaks ∙ (sym a.lines ∙ sym (append-nil (string_bytes a.written)))
 
   new_is : new_text ss ≡ text_from t 0 slots2
   new_is =
@@ -253,10 +250,9 @@ module _ (op : Operation) (c : Cut) (m : ℕ) (slots slots2 : List SlotView) (wh
       slots_are = slots2_are;
       start = ap (λ (x : SlotPlace). x.start) put.put.same ∙ a.start;
       end = ap (λ (x : SlotPlace). x.end) put.put.same ∙ a.finish;
-      lead = es.lead;
-      near = es.near;
-      order = subst (λ (ss : List SlotView). AreInOrder es.lead (slot_places ss) (length t)) (sym slots2_are)
-          (subst (λ (ps : List SlotPlace). AreInOrder es.lead ps (length t)) (sym (places_same put.front s s2 [] same_place)) (subst (λ (ss : List SlotView). AreInOrder es.lead (slot_places ss) (length t)) slots_are es.order));
+      keeps = subst (KeepsFirstBreak t) (sym (ap slot_places slots2_are ∙ places_same put.front s s2 [] same_place))
+          (subst (λ (ss : List SlotView). KeepsFirstBreak t (slot_places ss)) slots_are es.keeps);
+      breaks = end_breaks z m d rest read es.here a.key a.value a.plain a.valid fit low ∙ es.breaks;
       here = end_after z m d rest read es.here a.key a.value a.plain a.valid fit low;
     }
 

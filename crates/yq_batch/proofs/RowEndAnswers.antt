@@ -5,17 +5,18 @@ use Rattle.std.{proofs.Common.{append_assoc, append-nil, length-append}, proofs.
 use Rattle.std.{proofs.Math.Seq.drop-append_seam, proofs.lemmas.Option.same_Some, proofs.lemmas.Str.IsCharBoundary-at_seam}
 use Rattle.std.specs.Str.{IsCharBoundary, IsUtf8}
 use Rattle.yq_core.{specs.Paths.Step, specs.Text.is_empty, proofs.Bools.bind_some}
-use Rattle.yq_outline.{specs.Extents.dash_at, specs.Outline.null_node, specs.RowWalk.{line_level, line_rank}, proofs.WalkLevels.to_dash}
+use Rattle.yq_outline.{specs.declared.line_position.Position.Position, specs.Extents.dash_at, specs.Outline.null_node}
+use Rattle.yq_outline.{specs.RowWalk.{line_level, line_rank}, proofs.WalkLevels.to_dash}
 use Rattle.yq_row_table.specs.Rows.{Block, Content, Cut, Inline, Nothing, Part, Row, RowMark, behind_columns, cut_text, dashes_text}
 use Rattle.yq_row_table.{specs.Rows.{mark_column, print_row, rows_text}, specs.Seams.is_block}
 use Rattle.yq_row_table.specs.View.{Slices, content_cut, last_dash, slices}
 use Rattle.yq_documents.{specs.LinesInRows.{document_row, row_line_at}, specs.Located.steps_of, specs.Reading.{cut_of, read_at}}
 use Rattle.yq_documents.specs.declared.path.Path.{Path}
-use Rattle.yq_places.{specs.PlacedRows.{PlacedPart, placed_document}, specs.RowLineReading.{line_view, numbers}}
+use Rattle.yq_places.{specs.PlacedRows.{PlacedPart, placed_document}, specs.RowLineReading.position_in}
 use Rattle.yq_places.specs.Standings.{Held, LinesIn, MarkPieces, RowsOfEntry, alone, before_entry, behind_entry, behind_mark, below, beside}
 use Rattle.yq_places.specs.Standings.{compact, compact_in, compact_lines, entry_standing, held, is_alone, lone, root, root_lines}
-use Rattle.yq_places.{specs.Standings.{root_standing, rows_of_entry, standing_at, under}, specs.declared.places.stretch.RowLine.RowLine}
-use Rattle.yq_places.{proofs.DashLaws.line_within, proofs.PlacedPartLaws.map_some}
+use Rattle.yq_places.{specs.Standings.{root_standing, rows_of_entry, standing_at, under}, proofs.DashLaws.line_within}
+use Rattle.yq_places.proofs.PlacedPartLaws.{map_some}
 use Rattle.yq_edit_rules.{specs.StandingLaws.StandsThere, proofs.AppendPlaces.kept_pieces}
 use Rattle.yq_edit_rules.{proofs.CommentRowLaws.{entry_is_row, entry_row, rows_front}, proofs.PlacedPartLaws.document_stands_at}
 use Rattle.yq_edit_rules.proofs.StandingRows.{rows_stand}
@@ -199,8 +200,8 @@ no_dash_root q (r ∷ us) k column l is = go (is_alone r) is
     go false same = absurd (cc)
 
 -- what the code tells of the end of a mapping under a key or dash
-pub under_there : (t : List ℕ) (p : Path) (steps : List Step) (x : RowLine) (h : Held) (w : EntriesEnd) → steps_of p ≡ steps → read_at t ≡ Some (cut_of t) → standing_at p.doc steps (cut_of t) ≡ Some (under h w.column) →
-    Some (line_view x) ≡ option_map (numbers (document_row p.doc (cut_of t))) (row_line_at p (cut_of t)) →
+pub under_there : (t : List ℕ) (p : Path) (steps : List Step) (x : Position) (h : Held) (w : EntriesEnd) → steps_of p ≡ steps → read_at t ≡ Some (cut_of t) → standing_at p.doc steps (cut_of t) ≡ Some (under h w.column) →
+    Some x ≡ option_map (position_in (document_row p.doc (cut_of t))) (row_line_at p (cut_of t)) →
     h.mark.column < w.column → w.path.now ≡ p → w.first ≡ suc x.row → EndsLineAt t h.last h.behind w.at → (z : EndOfEntries) × IsEndAt (cut_of t) w.path.now.doc w z
 under_there t p [] x h w steps read at line less path first ends =
     let q = map_some (λ (y : PlacedPart). root_standing y y.part.rows) (placed_document p.doc (cut_of t)) (under h w.column) at in absurd (no_entry_root q.0 q.0.part.rows h w.column q.2)
@@ -245,9 +246,9 @@ dash_by e k column l is = go (eqb e.line (length e.row.dashes)) refl is
     go false at same = (eqb-false e.line (length e.row.dashes) at, cc, cc)
 
 -- what the code tells of the end of one
-pub dash_there : (t : List ℕ) (p : Path) (steps : List Step) (x : RowLine) (k : MarkPieces) (l : LinesIn) (w : EntriesEnd) → steps_of p ≡ steps →
+pub dash_there : (t : List ℕ) (p : Path) (steps : List Step) (x : Position) (k : MarkPieces) (l : LinesIn) (w : EntriesEnd) → steps_of p ≡ steps →
     read_at t ≡ Some (cut_of t) → standing_at p.doc steps (cut_of t) ≡ Some (compact k w.column l) →
-    Some (line_view x) ≡ option_map (numbers (document_row p.doc (cut_of t))) (row_line_at p (cut_of t)) →
+    Some x ≡ option_map (position_in (document_row p.doc (cut_of t))) (row_line_at p (cut_of t)) →
     w.path.now ≡ p → w.first ≡ x.row → EndsLineAt t l.last l.behind w.at → (z : EndOfEntries) × IsEndAt (cut_of t) w.path.now.doc w z
 dash_there t p [] x k l w steps read at line path first ends =
     let q = map_some (λ (y : PlacedPart). root_standing y y.part.rows) (placed_document p.doc (cut_of t)) (compact k w.column l) at in absurd (no_dash_root q.0 q.0.part.rows k w.column l q.2)

@@ -9,8 +9,8 @@ use Rattle.yq_outline.{specs.Extents.dash_at, specs.RowWalk.{deeper_rows, line_l
 use Rattle.yq_row_table.{specs.Rows.{Cut, Inline, Part, Row, behind_columns, cut_text, print_row, rows_text}, specs.Seams.is_block}
 use Rattle.yq_row_table.{specs.Splices.behind_part, specs.View.slices}
 use Rattle.yq_documents.{specs.Documents.document_parts, specs.PartNumbers.part_number, specs.Reading.{documents, read_at}}
-use Rattle.yq_places.{specs.FirstBreak.first_break, specs.PlacedRows.{PlacedPart, before_part, placed_document}}
-use Rattle.yq_places.specs.Standings.{RowsOfEntry, before_entry, behind_entry, held, rows_of_entry}
+use Rattle.yq_places.{specs.FirstBreak.first_break, specs.PlacedRows.{PlacedPart, before_part}}
+use Rattle.yq_places.specs.Standings.{RowsOfEntry, before_entry, behind_entry, rows_of_entry}
 use Rattle.yq_semantics.{specs.Fits.Fits, specs.Operations.append, specs.Rooms.room_of}
 use Rattle.yq_edit_rules.{specs.Appends.inserted, specs.BlockReading.is_filled, specs.BlockRows.key_row, specs.Changed.put_document}
 use Rattle.yq_edit_rules.{specs.EntryEdits.{entry_lines, more_lines}, specs.Layouts.layout_of, specs.Operands.HasOperand}
@@ -20,7 +20,7 @@ use Rattle.yq_edit_rules.{proofs.LayoutLaws.more_like, proofs.PlacedPartLaws.doc
 use Rattle.yq_edit_laws.{proofs.CutLaws.text_read, proofs.EntryAdds.{AddsEntry, adds_as, new, next, read_next, row_is, unfilled_alike}}
 use Rattle.yq_edit_laws.proofs.LinesAppends.{compact_adds, compact_last_some, dash_stands, root_adds, root_last_some}
 use Rattle.yq_edit_laws.proofs.UnderAppends.{last_some, stands, under_adds}
-use Rattle.yq_batch.specs.OpenRows.{head_front}
+use Rattle.yq_batch.{specs.OpenRows.head_front, proofs.KeptBreakLaws.{break_before, holds_after}}
 use Rattle.yq_batch.specs.RowEnds.{AreMappingRows, EndOfEntries, EndsAfterRows, EndsHere, EndsInEntry, HasNoHead, IsAfterDash, IsUnderMark}
 use Rattle.yq_batch.proofs.RowOrder.{StaysInFront, begins_within, entry_placed, front_stays, one_end, one_keeps, one_rows, others_stay}
 use Rattle.yq_batch.{proofs.RowOrder.{part_put, q, stays_in_front}, proofs.RowsTakenOn.placed_put}
@@ -318,3 +318,11 @@ module _ (z : EndOfEntries) (m : ℕ) (d : Cut) (rest : List ℕ) (read_d : read
                   ∙ (ap (λ (b : List ℕ). upto ++ ((lines ++ b) ++ rest)) br.1
                   ∙ (ap (λ (t : List ℕ). upto ++ t) (ap (λ (t : List ℕ). t ++ rest) (sym (append_assoc lines br.0 (10 ∷ []))) ∙ append_assoc (lines ++ br.0) (10 ∷ []) rest) ∙ sym (append_assoc upto (lines ++ br.0) (10 ∷ rest)))));
             }
+
+        -- the first break of the text is like the one before
+        pub end_breaks : first_break (cut_text after) ≡ first_break (cut_text d)
+        end_breaks =
+            let on : List ℕ = more_lines (layout_of m d) (Some key) v z.column (10 ∷ []) ++ rest in
+            ap first_break (text_read (new_text adds.segments) after read_new ∙ (adds.puts.new_is ∙ ap (λ (l : List ℕ). l ++ on) ended))
+            ∙ (break_before (h.text ++ (10 ∷ [])) on rest (holds_after h.text (10 ∷ []) refl)
+            ∙ ap first_break (append_assoc h.text (10 ∷ []) rest ∙ sym h.ended))

@@ -10,8 +10,8 @@ use Rattle.yq_row_table.specs.Rows.{Cut, cut_text}
 use Rattle.yq_documents.{specs.declared.path.Path.Path, specs.Documents.document_parts, specs.Located.steps_of}
 use Rattle.yq_documents.{specs.LinesInRows.{document_row, row_line_at}, specs.Reading.{cut_of, read_at}, specs.Pieces.TextPiece}
 use Rattle.yq_places.{specs.CommentPlaces.{above_row, lines_above}, specs.FirstBreak.first_break, specs.PlacedRows.PlacedRow}
-use Rattle.yq_places.{specs.RowLineReading.{LineCounts, line_view, numbers}, specs.declared.places.stretch.RowLine.RowLine}
-use Rattle.yq_places.{proofs.PrintedTexts.map_some, specs.Standings.{RowsOfEntry, rows_of_entry}}
+use Rattle.yq_places.{specs.RowLineReading.position_in, proofs.PrintedTexts.map_some, specs.Standings.{RowsOfEntry, rows_of_entry}}
+use Rattle.yq_outline.specs.declared.line_position.Position.{Position}
 use Rattle.yq_edit_rules.{specs.RowStays.StandsStill, specs.CommentEdits.{above_rows, head_comment_segments, head_lines}}
 use Rattle.yq_edit_rules.{specs.Operands.HasOperand, proofs.CommentRowLaws.{entry_found, entry_is_row, entry_row, rows_same}}
 use Rattle.yq_semantics.{specs.Meaning.head_comment_lines, specs.Operations.head_comment}
@@ -87,13 +87,13 @@ is_above t p w read is = go (rows_of_entry p.doc (steps_of p) (cut_of t)) refl
         }
 
 -- the row of its line, among those of the text
-pub row_number : (c : Cut) (p : Path) (e : RowsOfEntry) (x : RowLine) → rows_of_entry p.doc (steps_of p) c ≡ Some e → Some (line_view x) ≡ option_map (numbers (document_row p.doc c)) (row_line_at p c) →
+pub row_number : (c : Cut) (p : Path) (e : RowsOfEntry) (x : Position) → rows_of_entry p.doc (steps_of p) c ≡ Some e → Some x ≡ option_map (position_in (document_row p.doc c)) (row_line_at p c) →
     x.row ≡ document_row p.doc c + length e.front
 row_number c p e x at is =
     let s = map_some (row_line_at p c) (sym is) in
     let d = bind_some (slice_get (document_parts c) p.doc) s.1 in
     let same = same_Some _ _ (sym d.2 ∙ (entry_found p.doc (steps_of p) c e at).line_is d.0 d.1) in
-    ap (λ (n : LineCounts). n.0) (sym s.2) ∙ ap (λ (y : lines.RowLine). document_row p.doc c + y.before) same
+    ap (λ (q : Position). q.row) (sym s.2) ∙ ap (λ (y : lines.RowLine). document_row p.doc c + y.before) same
 
 -- lines above a row end within a text's limit
 pub above_fits : (t : List ℕ) (p : Path) (w : ℕ × TextPiece) → read_at t ≡ Some (cut_of t) → Some w ≡ lines_above p.doc (steps_of p) (cut_of t) → length w.1.before + length w.1.text ≤ text_limit
@@ -104,8 +104,8 @@ above_fits t p w read is =
     omega (arith, (cut_read (cut_text c) c again).size, text, length-append w.1.before (w.1.text ++ w.1.behind), length-append w.1.text w.1.behind)
 
 -- a head comment that is put in their place
-pub head_comment_puts_there : (t : List ℕ) (p : Path) (text : List ℕ) (x : RowLine) (w : ℕ × TextPiece) (put : RowPut) → read_at t ≡ Some (cut_of t) →
-    Some (line_view x) ≡ option_map (numbers (document_row p.doc (cut_of t))) (row_line_at p (cut_of t)) → Some w ≡ lines_above p.doc (steps_of p) (cut_of t) →
+pub head_comment_puts_there : (t : List ℕ) (p : Path) (text : List ℕ) (x : Position) (w : ℕ × TextPiece) (put : RowPut) → read_at t ≡ Some (cut_of t) →
+    Some x ≡ option_map (position_in (document_row p.doc (cut_of t))) (row_line_at p (cut_of t)) → Some w ≡ lines_above p.doc (steps_of p) (cut_of t) →
     HasOperand (head_comment p.doc (steps_of p) text) → IsUtf8 w.1.text → IsUtf8 w.1.behind → put.doc ≡ p.doc → put.row ≡ x.row → put.start ≡ length w.1.before → put.end ≡ length w.1.before + length w.1.text →
     bytes_in string_bytes put.written ≡ Some (head_lines w.0 (break_text (first_break (cut_text (cut_of t)))) (head_comment_lines text)) →
     PutsInRow (head_comment p.doc (steps_of p) text) (cut_of t) put

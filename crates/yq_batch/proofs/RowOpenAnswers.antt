@@ -17,7 +17,7 @@ use Rattle.yq_batch.specs.OpenRows.{IsBeforeEnds, IsEndsDocument, IsOpenRows, Ma
 use Rattle.yq_batch.specs.OpenRows.{head_front}
 use Rattle.yq_batch.specs.RowEnds.{AddsAtEnd, AddsThere, LeaveRoom, EndOfEntries, IsEndBelow, IsBeforeEnd, IsEndAt, IsKnownEnd, IsEndStill}
 use Rattle.yq_batch.{specs.RowEnds.IsEndThere, specs.declared.row_ends.EntriesEnd.EntriesEnd, specs.RowRuns.{IsWrittenSo, bytes_in}}
-use Rattle.yq_batch.specs.OpenRuns.{HasKept, HasOpened, OpensAt, OpensRowsBy, Lands, OpensSo, open_text}
+use Rattle.yq_batch.{specs.KeptBreaks.KeepsFirstBreak, specs.OpenRuns.{HasKept, HasOpened, OpensAt, OpensRowsBy, Lands, OpensSo, open_text}}
 use Rattle.yq_batch.{specs.Slots.{AreInOrder, HasCounts, empty_slot, slots_of, text_from}, specs.declared.any_order.SlotRun.SlotRun}
 use Rattle.yq_batch.{specs.declared.change.HeadChange.HeadChange, specs.declared.slots.SlotPlace.SlotPlace, proofs.SlotEnds.last_of}
 use Rattle.yq_batch.{proofs.SlotLaws.{places_empty, text_empty}, proofs.UnorderedAnswers.edges_empty}
@@ -174,7 +174,6 @@ end_begins c m ps (Some w) None order last is = absurd is
 end_begins c m [] (Some w) (Some z) order last is = absurd last.1
 end_begins c m (p ∷ ps) (Some w) (Some z) order last is =
     let x = last_of w.at p ps last.0 in
-    let near = last.1 in
     record {
       known = is.known;
       front = map empty_slot x.0;
@@ -182,9 +181,8 @@ end_begins c m (p ∷ ps) (Some w) (Some z) order last is =
       slots_are = ap (map empty_slot) x.2 ∙ map-append empty_slot x.0 (x.1 ∷ []);
       start = x.3 ∙ is.at;
       end = x.4 ∙ is.at;
-      lead = near.0;
-      near = near.1.1;
-      order = subst (λ (qs : List SlotPlace). AreInOrder near.0 qs (length (cut_text c))) (sym (places_empty (p ∷ ps))) (near.1.0, order.1, order.2, order.3);
+      keeps = subst (KeepsFirstBreak (cut_text c)) (sym (places_empty (p ∷ ps))) last.1;
+      breaks = refl;
       here = is.known.here;
     }
 

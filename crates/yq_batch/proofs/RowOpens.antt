@@ -8,7 +8,7 @@ use Rattle.yq_core.{specs.Paths.Step, specs.Tree.Node, specs.declared.style.Plac
 use Rattle.yq_outline.{specs.Outline.anchored, specs.Lines.{content_anchor, head_of}}
 use Rattle.yq_row_table.{specs.Rows.{Cut, Row, cut_text}, specs.View.slices}
 use Rattle.yq_documents.{specs.Reading.{documents, read_at}, proofs.ReadLaws.parts_read}
-use Rattle.yq_places.{specs.NodesAt.node_in, specs.Standings.{RowsOfEntry, held, rows_of_entry}}
+use Rattle.yq_places.{specs.FirstBreak.first_break, specs.NodesAt.node_in, specs.Standings.{RowsOfEntry, held, rows_of_entry}}
 use Rattle.yq_semantics.{specs.Fits.Fits, specs.Operations.replace, specs.Rooms.room_of}
 use Rattle.yq_edit_rules.{specs.BlockReading.is_filled, specs.Edits.{op_edits, or_stay}, specs.Operands.HasOperand}
 use Rattle.yq_edit_rules.{specs.Replacing.keeps_scalar, specs.RowChanges.{ChangesRow, HoldsInline}, specs.RowStays.StandsStill}
@@ -23,6 +23,7 @@ use Rattle.yq_batch.{proofs.SlotLaws.{front_length, front_of, order_at, places_s
 use Rattle.yq_batch.{proofs.RowsInFront.split_front, proofs.SlotEnds.{apart_from, last_behind, more_left}}
 use Rattle.yq_batch.{specs.RowEnds.{LeaveRoom, EndOfEntries, EndsHere, IsBeforeEnd, IsEndStill}, proofs.SlotPuts.{edges_put, none_put}}
 use Rattle.yq_batch.{proofs.SlotStills.{new_text_is, old_text}, specs.declared.slots.SlotPlace.SlotPlace}
+use Rattle.yq_batch.{specs.KeptBreaks.{IsUnbroken, KeepsFirstBreak}, proofs.KeptBreakLaws.{put_keeps, value_unbroken}}
 use Rattle.yq_batch.specs.Slots.{AreInOrder, IsPutIn, SlotView, count_of, put_or, slot_places, slot_text, text_from}
 use Rattle.yq_text.specs.Exchanging as exchange
 
@@ -179,8 +180,9 @@ module _ (c : Cut) (m : ℕ) (u : Step) (us : List Step) (v : Node) (slots slots
       last_behind put.front s put.back k.front k.last (sym put.old_is ∙ k.slots_are)
       (λ same. absurd (omega (arith, less.0, k.end, ap (λ (x : SlotView). x.place.end) same, ap (λ (x : SlotPlace). x.end) put.put.place_is)))
 
-  end_in : (d : Cut) (z : EndOfEntries) → IsBeforeEnd e p z → IsEndStill c run.cut m slots z → EndThere d z → IsEndStill c d m slots2 z
-  end_in d z less k there =
+  end_in : (d : Cut) (z : EndOfEntries) → IsBeforeEnd e p z → IsEndStill c run.cut m slots z → EndThere d z →
+      first_break (cut_text d) ≡ first_break t → IsEndStill c d m slots2 z
+  end_in d z less k there breaks =
       let h = last_after z less k in
       record {
         known = k.known;
@@ -189,17 +191,17 @@ module _ (c : Cut) (m : ℕ) (u : Step) (us : List Step) (v : Node) (slots slots
         slots_are = put.new_is ∙ (ap (λ (bs : List SlotView). put.front ++ (s2 ∷ bs)) h.1 ∙ sym (append_assoc put.front (s2 ∷ h.0) (k.last ∷ [])));
         start = k.start;
         end = k.end;
-        lead = k.lead;
-        near = k.near;
-        order = subst (λ (ss : List SlotView). AreInOrder k.lead (slot_places ss) (length t)) (sym put.new_is)
-            (subst (λ (ps : List SlotPlace). AreInOrder k.lead ps (length t)) (sym (places_same put.front s s2 put.back same_place)) (subst (λ (ss : List SlotView). AreInOrder k.lead (slot_places ss) (length t)) put.old_is k.order));
+        keeps = subst (KeepsFirstBreak t)
+            (ap slot_places put.old_is ∙ sym (ap slot_places put.new_is ∙ places_same put.front s s2 put.back same_place)) k.keeps;
+        breaks = breaks;
         here = there;
       }
 
   ends_in : (d : Cut) (x : Option EndOfEntries) → IfSome x (IsBeforeEnd e p) → IfSome x (IsEndStill c run.cut m slots) →
-      ((z : EndOfEntries) → IsBeforeEnd e p z → IsEndStill c run.cut m slots z → EndThere d z) → IfSome x (IsEndStill c d m slots2)
-  ends_in d None less k there = tt
-  ends_in d (Some z) less k there = end_in d z less k (there z less k)
+      ((z : EndOfEntries) → IsBeforeEnd e p z → IsEndStill c run.cut m slots z → EndThere d z × (first_break (cut_text d) ≡ first_break t)) →
+      IfSome x (IsEndStill c d m slots2)
+  ends_in d None less k at = tt
+  ends_in d (Some z) less k at = let x = at z less k in end_in d z less k x.0 x.1
 
   module _ (starts : IsCharBoundary t p.start) (ends : IsCharBoundary t p.end) where
     edges2 : AreCharEdges t slots2
@@ -241,7 +243,7 @@ module _ (c : Cut) (m : ℕ) (u : Step) (us : List Step) (v : Node) (slots slots
         cut = run.cut;
         read = ap read_at row_same ∙ run.read;
         still = subst (AreRowsStill c run.cut m) (sym put.new_is) (kept_stills 0 put.front order still);
-        ends = ends_in run.cut o before_end run.ends (λ z less k. k.here);
+        ends = ends_in run.cut o before_end run.ends (λ z less k. (k.here, k.breaks));
       }
 
     -- another value
@@ -304,6 +306,12 @@ module _ (c : Cut) (m : ℕ) (u : Step) (us : List Step) (v : Node) (slots slots
           ∙ (ap (λ (l : List ℕ). before ++ (written ++ l)) g.2
           ∙ (ap (λ (l : List ℕ). before ++ l) (sym (append_assoc written g.0 (10 ∷ drop z.at t))) ∙ sym (append_assoc before (written ++ g.0) (10 ∷ drop z.at t))))))
 
+      breaks_there : (z : EndOfEntries) → IsEndStill c run.cut m slots z → first_break (cut_text next) ≡ first_break t
+      breaks_there z known =
+          ap first_break (text_next ∙ next_split)
+          ∙ put_keeps t put.front s put.back old written order (subst (λ (ss : List SlotView). KeepsFirstBreak t (slot_places ss)) put.old_is known.keeps)
+          (subst IsUnbroken (sym is) (value_unbroken old v operand plain)) (ap first_break (sym (text ∙ now_split)) ∙ known.breaks)
+
       pub row_goes_on : IsOpenRows c m o slots2
       row_goes_on = record {
         order = order2;
@@ -315,5 +323,5 @@ module _ (c : Cut) (m : ℕ) (u : Step) (us : List Step) (v : Node) (slots slots
             subst (AreRowsStill c next m) (sym put.new_is)
             (rows_around c run.cut m whole read u us e found holds k there.size x.segments y (ap read_at text_next ∙ read_next) before (old ++ rest) (written ++ rest)
             (text ∙ now_split) (text_next ∙ next_split) s s2 put.back same_place old written slot_old slot_new refl refl (own_after next) here 0 put.front order still);
-        ends = ends_in next o before_end run.ends end_there;
+        ends = ends_in next o before_end run.ends (λ z less known. (end_there z less known, breaks_there z known));
       }

@@ -1,10 +1,10 @@
 -- The rows of an item or entry where those of its document are exchanged for others of their shapes.
 use Rattle.std.proofs.Common.{◌≡◌, ℕ, zero, suc, ◌-◌, nat_lt, Bool, true, false, cond, List, [], ◌∷◌, drop, length, map, take, Option, Some}
-use Rattle.std.{proofs.Common.{None, option_map, refl, sym, ap, ◌∙◌, subst}, proofs.lemmas.List.length-map}
+use Rattle.std.{proofs.Common.{option_map, refl, sym, ap, ◌∙◌, subst}, proofs.lemmas.List.length-map}
 use Rattle.std.{proofs.lemmas.Option.{none-some, same_Some}, specs.List.slice_get}
 use mathlib.Core.List.{head-eq_of_cons-eq, tail-eq_of_cons-eq}
 use Rattle.yq_core.{specs.Answers.◌>>=◌, specs.Paths.Step}
-use Rattle.yq_outline.{specs.Ends.line_at_steps, specs.Lines.lines_of_rows, specs.RowWalk.{deeper_rows, line_level}}
+use Rattle.yq_outline.{specs.Ends.line_at_steps, specs.Lines.lines_of_rows, specs.RowWalk.deeper_rows}
 use Rattle.yq_row_table.{specs.Rows.{Cut, Part, Row}, specs.Splices.behind_part, specs.View.slices}
 use Rattle.yq_documents.{specs.Documents.document_parts, specs.LinesInRows.{RowLine, behind_one, row_line, row_line_of}}
 use Rattle.yq_documents.{specs.PartNumbers.part_number, proofs.PartNumberLaws.part_there}

@@ -12,11 +12,11 @@ use Rattle.yq_semantics.{specs.Operations.{Operation, replace}, specs.declared.r
 use Rattle.yq_semantics.specs.Judgement.{ExprError}
 use Rattle.yq_text.{specs.Limit.text_limit, specs.Script.splice_at, specs.Splice.Splice}
 use Rattle.yq_edit_rules.{specs.Operands.HasOperand, specs.Replacing.keeps_scalar}
-use Rattle.yq_edit_laws.{specs.EditPlaces.LiesIn, specs.PartPuts.{IsPlaceOf, ArePuts, IsWrittenPart, place_after, put_edit}}
-use Rattle.yq_edit_laws.{specs.declared.put.PartPut.PartPut, proofs.CutLaws.text_read, specs.Carried.carried, specs.Answers.EditFails}
-use Rattle.yq_edit_laws.{specs.Edit.{gives, refuses}, specs.Theorems.IsFitting, proofs.ApplyLaws.applied_by, proofs.TextFaults.text_utf8}
-use Rattle.yq_edit_laws.{proofs.LaterEnds.ends_same, specs.NearParts.{IsUniqueNode, head_with}, proofs.FlowKeys.collection_unique}
-use Rattle.yq_edit_laws.proofs.NearCollections.{own_along}
+use Rattle.yq_edit_laws.{specs.EditPlaces.LiesIn, specs.PartPuts.{IsPlaceOf, IsValuePut, IsWrittenPart, place_after, put_edit}}
+use Rattle.yq_edit_laws.{proofs.CutLaws.text_read, specs.Carried.carried, specs.Answers.EditFails, specs.Edit.{gives, refuses}}
+use Rattle.yq_edit_laws.{specs.Theorems.IsFitting, proofs.ApplyLaws.applied_by, proofs.TextFaults.text_utf8, proofs.LaterEnds.ends_same}
+use Rattle.yq_edit_laws.{specs.NearParts.{IsUniqueNode, head_with}, proofs.FlowKeys.collection_unique, proofs.NearCollections.own_along}
+use Rattle.yq_flow_edits.specs.declared.flow_place.EditPlace.{EditPlace}
 use Rattle.yq_batch.specs.Runs.{ChangesAt, ChangesBy, EndsAt, EndsInCollection, HasPut, IsInText, IsPutRun, PutFails, PutsAt, Runs, RunsOn}
 use Rattle.yq_batch.{specs.Runs.{change_place, cut_with, now_text, run_front, stem_of, text_with_run}, specs.FilledRuns.IsKnownFilled}
 use Rattle.yq_batch.{specs.declared.adding.Filled.Filled, specs.declared.change.HeadChange.HeadChange}
@@ -76,10 +76,10 @@ unique_head x there is =
     collection_unique x.cut.now x.doc (stem_of x ++ []) root there.read (there.reports.reports root refl refl refl) (inline_view x.head.node.value) (own_along [] (inline_view x.head.node.value) (None, inline_view x.head.node.value) refl is)
 
 -- a value is put at a part in that collection
-pub puts_at : (x : HeadInText) (op : Operation) (m : ℕ) (path : List Step) (v : Node) (p : PartPut) (y : HeadChange) → op ≡ replace m path v → HasOperand op → (m ≡ x.doc) × EndsInCollection (stem_of x) path →
-    ArePuts m path v (cut_with x) x.head.before (Some p) → change_place y ≡ place_after x.head.before p.place → y.written ≡ p.written → PutsAt op x y
-puts_at x op m path v p y is operand beside h place written =
-    let a : ArePuts x.doc path v (cut_with x) x.head.before (Some p) = subst (λ (k : ℕ). ArePuts k path v (cut_with x) x.head.before (Some p)) beside.0 h in
+pub puts_at : (x : HeadInText) (op : Operation) (m : ℕ) (path : List Step) (v : Node) (r : EditPlace) (o : Option (String Global)) (y : HeadChange) → op ≡ replace m path v → HasOperand op → (m ≡ x.doc) × EndsInCollection (stem_of x) path →
+    IsValuePut m path v (cut_with x) (place_after x.head.before r) o → change_place y ≡ place_after x.head.before r → y.written ≡ o → PutsAt op x y
+puts_at x op m path v r o y is operand beside h place written =
+    let a : IsValuePut x.doc path v (cut_with x) (place_after x.head.before r) o = subst (λ (k : ℕ). IsValuePut k path v (cut_with x) (place_after x.head.before r) o) beside.0 h in
     record {
       path = path;
       value = v;

@@ -9,5 +9,6 @@ pub mod LeftPlaces
 pub mod RowRemovals
 pub mod Slots
 pub mod OpenRuns
+pub mod KeptBreaks
 pub mod RowEnds
 pub mod OpenRows

@@ -1,15 +1,15 @@
 -- Values on one line put in rows of one document in any order, on the rows as they were read (YAML 1.2.2, 8.2; own).
-use Rattle.std.specs.Prelude.{◌≡◌, ⊤, ℕ, Bool, true, Vec, ◌+◌, ◌≤◌, false, List, [], ◌∷◌, ◌++◌, length, take, Option, Some, None, IfSome}
-use Rattle.std.{specs.Prelude.string_bytes, specs.Str.IsCharBoundary, specs.declared.alloc.Global.Global}
+use Rattle.std.specs.Prelude.{◌≡◌, ⊤, ℕ, Bool, true, Vec, ◌+◌, false, List, [], ◌∷◌, ◌++◌, length, Option, Some, None, IfSome, string_bytes}
+use Rattle.std.{specs.Str.IsCharBoundary, specs.declared.alloc.Global.Global}
 use Rattle.yq_text.specs.Splice.{Splice}
 use Rattle.yq_core.{specs.Paths.Step, specs.Tree.Node}
 use Rattle.yq_row_table.specs.Rows.{Cut, cut_text}
 use Rattle.yq_documents.specs.Reading.{cut_of, read_at}
-use Rattle.yq_places.{specs.FirstBreak.first_break, specs.NodesAt.node_in, specs.Standings.{RowsOfEntry, held, rows_of_entry}}
+use Rattle.yq_places.{specs.NodesAt.node_in, specs.Standings.{RowsOfEntry, held, rows_of_entry}}
 use Rattle.yq_semantics.{specs.Operations.{Operation, operation_of, replace}, specs.declared.op.Op.Op}
 use Rattle.yq_edit_rules.{specs.BlockReading.is_filled, specs.Operands.HasOperand, specs.RowChanges.HoldsInline}
 use Rattle.yq_edit_laws.{specs.Carried.carried, specs.Edit.gives, specs.Theorems.IsApplied}
-use Rattle.yq_batch.{specs.OpenRuns.{AreCharEdges, open_text}, specs.RowRuns.{IsWrittenSo, bytes_in}}
+use Rattle.yq_batch.{specs.KeptBreaks.KeepsFirstBreak, specs.OpenRuns.{AreCharEdges, open_text}, specs.RowRuns.{IsWrittenSo, bytes_in}}
 use Rattle.yq_batch.specs.Slots.{AreInOrder, HasCounts, SlotView, slot_places, slots_of, text_from}
 use Rattle.yq_batch.specs.RowEnds.{AddsAtEnd, LeaveRoom, EndAt, EndOfEntries, IsBeforeEnd, IsKnownEnd, IsEndStill}
 use Rattle.yq_batch.{specs.declared.row_ends.EntriesEnd.EntriesEnd, specs.declared.any_order.SlotRun.SlotRun}
@@ -129,18 +129,9 @@ pub record BeginsInAnyRow (c : Cut) (m : ℕ) (o : Option EndOfEntries) (t : Lis
   pub text : open_text c r ≡ t
   pub none : r.splices.items ≡ []
 
--- the first break of a text is in so many first bytes, up to a place (5.4)
-abbrev pub HasNearBreak : List ℕ → (place len : ℕ) → Type 0
-HasNearBreak t place len = (len ≤ place) × ((more : List ℕ) → first_break (take len t ++ more) ≡ first_break t)
-
--- it is in front of the first one of places (own)
-abbrev pub IsNearFirst : List ℕ → List SlotPlace → Type 0
-IsNearFirst t [] = ⊥
-IsNearFirst t (p ∷ ps) = (len : ℕ) × HasNearBreak t p.start len
-
--- the last one of places is an offset, and the text's first break comes before them (own)
+-- the last one of places is an offset, and the text keeps its first break (own)
 abbrev pub EndsNear : List ℕ → ℕ → List SlotPlace → Type 0
-EndsNear t at ps = EndAt at ps × IsNearFirst t ps
+EndsNear t at ps = EndAt at ps × KeepsFirstBreak t ps
 
 -- the same of the end of a mapping (own)
 abbrev pub IsBeforeEnds : List ℕ → List SlotPlace → EntriesEnd → Type 0

@@ -9,7 +9,7 @@ use Rattle.yq_places.{specs.FirstBreak.first_break, specs.PlacedRows.{PlacedPart
 use Rattle.yq_places.specs.Standings.{RowsOfEntry, Standing, is_alone, rows_of_entry, standing_at}
 use Rattle.yq_semantics.specs.Operations.{Operation, append}
 use Rattle.yq_edit_rules.{specs.BlockReading.is_filled, specs.EntryEdits.more_lines, specs.Layouts.layout_of, specs.Operands.HasOperand}
-use Rattle.yq_batch.{specs.Slots.{AreInOrder, SlotView, slot_places}, specs.declared.change.HeadChange.HeadChange}
+use Rattle.yq_batch.{specs.KeptBreaks.KeepsFirstBreak, specs.Slots.{SlotView, slot_places}, specs.declared.change.HeadChange.HeadChange}
 use Rattle.yq_batch.{specs.declared.row_ends.EntriesEnd.EntriesEnd, specs.declared.slots.SlotPlace.SlotPlace}
 
 -- A block mapping on lines of its own: the steps to it, how many rows of its document come before the first one of its entries, its column, and where it
@@ -98,7 +98,7 @@ abbrev pub EndAt : ℕ → List SlotPlace → Type 0
 EndAt at [] = ⊤
 EndAt at (p ∷ ps) = IsLastAt at p ps × EndAt at ps
 
--- The last one of places is where it ends, it does so in another cut too, and the text's first break is in front of all places (own).
+-- The last one of places is where it ends, it does so in another cut too, and the first break of that is like the text's, which keeps it (own).
 pub record IsEndStill (c d : Cut) (m : ℕ) (slots : List SlotView) (z : EndOfEntries) : Type 0 where
   pub known : IsEndIn c m z
   pub front : List SlotView
@@ -106,9 +106,8 @@ pub record IsEndStill (c d : Cut) (m : ℕ) (slots : List SlotView) (z : EndOfEn
   pub slots_are : slots ≡ front ++ (last ∷ [])
   pub start : last.place.start ≡ z.at
   pub end : last.place.end ≡ z.at
-  pub lead : ℕ
-  pub near : (more : List ℕ) → first_break (take lead (cut_text c) ++ more) ≡ first_break (cut_text c)
-  pub order : AreInOrder lead (slot_places slots) (length (cut_text c))
+  pub keeps : KeepsFirstBreak (cut_text c) (slot_places slots)
+  pub breaks : first_break (cut_text d) ≡ first_break (cut_text c)
   pub here : EndsHere z m d (drop z.at (cut_text c))
 
 -- a place in the row of an item or entry comes before the end of a mapping, in one of the rows of its entries (own)

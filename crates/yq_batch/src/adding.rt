@@ -2,6 +2,7 @@
 ghost use Rattle.std.specs.Prelude.{◌≡◌, ◌++◌, [], true, false, None, map, IfErr, IfOk, IfSome, string_bytes};
 ghost use Rattle.yq_core.specs.Entries.{tree_step};
 ghost use Rattle.yq_semantics.specs.Operations.{operation_of};
+ghost use Rattle.yq_edit_rules.specs.Operands.{HasOperand};
 ghost use Rattle.yq_edit_laws.{specs.Answers.EditFails, specs.Carried.carried, specs.Theorems.IsFitting};
 ghost use Rattle.yq_batch.specs.FilledRuns as spec;
 ghost use Rattle.yq_batch.specs.Runs as runs;
@@ -85,6 +86,7 @@ pub(crate) fn carry_next<'s>(
     requires there { runs.IsInText at.now }
     requires run { spec.FillsSo at.now run.old }
     requires fits { IsFitting (operation_of op.now) (spec.filled_text at.now run.old) }
+    requires operand { HasOperand (operation_of op.now) }
     ensures ok { IfOk result (λ b. b ≡ true →
         spec.FillsOn (operation_of op.now) at.now run.old run.new) }
     ensures err { IfErr result (λ e. EditFails e (carried (operation_of op.now)

@@ -9,7 +9,8 @@ ghost use Rattle.yq_batch.specs.OpenRows as spec;
 
 use crate::any_order::{SlotRun, ended};
 use crate::change::HeadChange;
-use crate::in_rows::{near_break, put_each, value_written};
+use crate::in_rows::{put_each, value_written};
+use crate::kept_breaks::keeps_first_break;
 use crate::row_ends::{EntriesEnd, added_at_end, end_for, is_before_end};
 use crate::row_order::in_row_order;
 use crate::slots::{SlotPlace, are_apart, are_in_order, each_once, end_at, slots_at};
@@ -140,36 +141,14 @@ fn places_of(
     Ok(Some(each_once(alloc, &places)?))
 }
 
-/// Whether the first break of a text is near, and in front of a place.
-fn is_near(text: Halves<'_>, place: usize) -> bool
-    ensures { result ≡ true → (len : ℕ) × spec.HasNearBreak (whole text.entry) place len }
-{
-    let front = text.front.as_bytes();
-    let len = place.min(front.len());
-    match near_break(front.split_at(len).0) {
-        Some(_) => true,
-        None => false,
-    }
-}
-
-/// The same of the first one of places.
-fn is_near_first(text: Halves<'_>, places: &[SlotPlace]) -> bool
-    ensures { result ≡ true → spec.IsNearFirst (whole text.entry) places.now }
-{
-    match places {
-        [first, ..] => is_near(text, first.start),
-        [] => false,
-    }
-}
-
-/// Whether the last one of places is an offset, and the text's first break is near, and in front of them.
+/// Whether the last one of places is an offset, and the text's first break is near, and stays what it is.
 fn ends_near(text: Halves<'_>, places: &[SlotPlace], at: usize) -> bool
     ensures { result ≡ true → spec.EndsNear (whole text.entry) at places.now }
 {
     if !end_at(places, at) {
         return false;
     }
-    is_near_first(text, places)
+    keeps_first_break(text, places)
 }
 
 /// Whether something is between places, of which the last one is the end of a mapping, if that is known.

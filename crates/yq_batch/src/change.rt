@@ -3,6 +3,7 @@ ghost use Rattle.std.specs.Prelude.{◌≡◌, ◌+◌, ◌<◌, ◌≤◌, ◌^
 ghost use Rattle.yq_core.specs.Entries.{tree_step};
 ghost use Rattle.yq_documents.specs.Located.{steps_of};
 ghost use Rattle.yq_semantics.specs.Operations.{operation_of};
+ghost use Rattle.yq_edit_rules.specs.Operands.{HasOperand};
 ghost use Rattle.yq_batch.specs.Runs as spec;
 
 use crate::head::HeadInText;
@@ -11,10 +12,8 @@ use crate::slots::SlotPlace;
 use std::alloc::{AllocError, Global};
 use yq_core::Step;
 use yq_documents::Path;
-use yq_edit_laws::{
-    PartPut, collection_near, last_step, more_in_node, operand_holds, part_near, put_in_node,
-};
-use yq_flow_edits::EditPlace;
+use yq_edit_laws::{collection_near, last_step, more_in_node, part_near, put_in_node};
+use yq_flow_edits::{EditPlace, replace_place};
 use yq_semantics::Op;
 
 /// What an operation changes in a collection of a head.
@@ -110,10 +109,10 @@ fn part_change<'s>(
     op: &'s Op,
     near: &mut Near<'s>,
 ) -> Result<Option<HeadChange<'s>>, AllocError>
-    requires { spec.IsInText at.now }
+    requires there { spec.IsInText at.now }
+    requires operand { HasOperand (operation_of op.now) }
     ensures { IfOk result (λ o. IfSome o (spec.ChangesAt (operation_of op.now) at.now)) }
 {
-    operand_holds(op);
     let Op::Replace(path, value) = op else {
         return Ok(None);
     };
@@ -130,8 +129,8 @@ fn part_change<'s>(
     let Some(entry) = part_near(node, last, &mut near.last) else {
         return Ok(None);
     };
-    let put = put_in_node(alloc, at.head.text, entry.node, value)?;
-    let PartPut { place, written } = put;
+    let written = put_in_node(alloc, at.head.text, entry.node, value)?;
+    let place = replace_place(entry.node);
     Ok(Some(HeadChange {
         place: moved_place(at.head.before, place, false),
         lead: place.lead,
@@ -148,10 +147,10 @@ fn more_change<'s>(
     op: &'s Op,
     near: &mut Near<'s>,
 ) -> Result<Option<HeadChange<'s>>, AllocError>
-    requires { spec.IsInText at.now }
+    requires there { spec.IsInText at.now }
+    requires operand { HasOperand (operation_of op.now) }
     ensures { IfOk result (λ o. IfSome o (spec.ChangesAt (operation_of op.now) at.now)) }
 {
-    operand_holds(op);
     let Op::Append(path, key, value) = op else {
         return Ok(None);
     };
@@ -183,7 +182,8 @@ pub(crate) fn change_of<'s>(
     op: &'s Op,
     near: &mut Near<'s>,
 ) -> Result<Option<HeadChange<'s>>, AllocError>
-    requires { spec.IsInText at.now }
+    requires there { spec.IsInText at.now }
+    requires operand { HasOperand (operation_of op.now) }
     ensures { IfOk result (λ o. IfSome o (spec.ChangesAt (operation_of op.now) at.now)) }
 {
     match op {

@@ -18,7 +18,6 @@ use yq_block_edits::{comment_written, head_comment_written, is_kept_in_row};
 use yq_core::lines::text_len;
 use yq_core::{Break, Place, Value, first_is};
 use yq_documents::Path;
-use yq_edit_laws::operand_holds;
 use yq_edit_rules::{is_filled, value_text};
 use yq_lookup::CutText;
 use yq_places::{HeldRow, is_text, line_end};
@@ -171,11 +170,11 @@ fn row_put<'d>(
     cut: &mut CutText<'d, '_>,
     op: &'d Op,
 ) -> Result<Option<RowPut>, AllocError>
+    requires { HasOperand (operation_of op.now) }
     ensures same { cut.new ≡ cut.old }
     ensures puts { IfOk result (λ o. IfSome o (spec.PutsInRow (operation_of op.now)
         (cut_of cut.old))) }
 {
-    operand_holds(op);
     match op {
         Op::Replace(path, value) => match cut.to_held_row(alloc, path) {
             Some(at) => value_in_row(alloc, cut, path, &at, value),
@@ -250,6 +249,7 @@ fn put_one<'d>(
 ) -> Result<Option<Option<(usize, usize)>>, ExprError>
     requires run { spec.IsRowsRun (cut_of cut.old) last run.old }
     requires fits { IsFitting (operation_of op.now) (now_text (cut_of cut.old) run.old) }
+    requires operand { HasOperand (operation_of op.now) }
     ensures same { cut.new ≡ cut.old }
     ensures ok { IfOk result (λ o. IfSome o (λ next. spec.RowsGoOn (operation_of op.now)
         (cut_of cut.old) run.old next run.new)) }

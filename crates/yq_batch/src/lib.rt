@@ -9,6 +9,7 @@ mod gone;
 mod head;
 mod heads;
 mod in_rows;
+mod kept_breaks;
 mod left;
 mod near;
 mod removals;

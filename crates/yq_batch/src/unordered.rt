@@ -2,7 +2,7 @@
 //! into these.
 ghost use Rattle.std.specs.Prelude.{IfOk, IfSome};
 ghost use Rattle.yq_semantics.specs.Operations.{operations_of};
-ghost use Rattle.yq_edit_laws.specs.Valid.{AreServed};
+ghost use Rattle.yq_edit_laws.specs.Valid.{AreServed, HaveOperands};
 ghost use Rattle.yq_batch.{specs.RemovalRuns.CarriesTogether, specs.Runs.IsInText};
 ghost use Rattle.yq_batch.specs.OpenRuns as spec;
 
@@ -21,7 +21,8 @@ fn places_of<'s>(
     at: &HeadInText<'_, '_, '_, '_, '_, '_>,
     ops: &'s [Op],
 ) -> Result<Option<Vec<SlotPlace>>, AllocError>
-    requires { IsInText at.now }
+    requires there { IsInText at.now }
+    requires operands { HaveOperands (operations_of ops.now) }
 {
     let mut near = Near::new(alloc, true)?;
     let mut places = Vec::with_capacity(alloc, ops.len())?;
@@ -45,7 +46,8 @@ fn begun<'s>(
     at: &HeadInText<'_, '_, '_, '_, '_, '_>,
     ops: &'s [Op],
 ) -> Result<Option<SlotRun>, AllocError>
-    requires { IsInText at.now }
+    requires there { IsInText at.now }
+    requires operands { HaveOperands (operations_of ops.now) }
     ensures { IfOk result (λ o. IfSome o (spec.BeginsOpen at.now)) }
 {
     let Some(places) = places_of(alloc, at, ops)? else {

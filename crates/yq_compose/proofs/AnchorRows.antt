@@ -23,13 +23,13 @@ first_of a [] l ys e = absurd (cc)
 first_of a (x ∷ xs) l ys e = ap (λ (y : Line). may_take y.mark y.anchor y.head) (same_Some _ _ e)
 
 -- an alias is in front
-opens : (k : ℕ) (t : List ℕ) → begins_with 42 (cond (eqb k 125) 123 91 ∷ t) ≡ false
+pub opens : (k : ℕ) (t : List ℕ) → begins_with 42 (cond (eqb k 125) 123 91 ∷ t) ≡ false
 opens k t = cond_both (eqb k 125) 123 91 (λ b. begins_with 42 (b ∷ t) ≡ false) (λ _. refl) (λ _. refl)
 
 not_alias : (k : ℕ) (cs : tree.Children) → is_no_alias (Some (tree_collection k cs)) ≡ true
 not_alias k cs = elim (eqb k 125) as (λ x. is_no_alias (Some (cond x (tree.map None cs) (tree.list None cs))) ≡ true) [ true ↦ refl | false ↦ refl ]
 
-scalar_star : (n : ℤ) (p rest : List ℕ) → IsScalarAt false (Some (deeper n)) p rest → begins_with 42 p ≡ false
+pub scalar_star : (n : ℤ) (p rest : List ℕ) → IsScalarAt false (Some (deeper n)) p rest → begins_with 42 p ≡ false
 scalar_star n [] rest h = refl
 scalar_star n (b ∷ bs) rest h = front_not (begins_scalar false) 42 (λ cs. refl) (b ∷ (bs ++ rest)) (scalar_begins false (Some (deeper n)) (b ∷ bs) rest h)
 
@@ -41,7 +41,7 @@ node_star : (n : ℤ) (node : FlowNode) (rest : List ℕ) → IsFlowNode false (
 unfolding IsFlowNode tree_of node_text
 node_star n node rest h = search (rules, unnamed_star, takes_unanchored)
 
-block_star : (style : BlockStyle) (t : List ℕ) → begins_with 42 (block_mark style ∷ t) ≡ false
+pub block_star : (style : BlockStyle) (t : List ℕ) → begins_with 42 (block_mark style ∷ t) ≡ false
 block_star styles.Literal t = refl
 block_star styles.Folded t = refl
 

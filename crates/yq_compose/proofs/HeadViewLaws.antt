@@ -2,7 +2,7 @@
 use Rattle.std.proofs.Common.{rules, ◌≡◌, ℕ, zero, suc, ◌+◌, ◌-◌, Bool, true, false, List, [], ◌∷◌, take, drop, Option, Some, None, refl}
 use Rattle.std.{proofs.Common.{sym, ap, ◌∙◌, arith}, proofs.lemmas.Bool.{false≢true, le-leb}, proofs.lemmas.Option.same_Some}
 use Rattle.std.{specs.List.slice_get, specs.Prelude.{is_some, option_and_then, option_map}}
-use Rattle.yq_core.{specs.Tree.Node, specs.Places.Placed, specs.Trees.placed_tree}
+use Rattle.yq_core.{specs.Tree.{Node, alias}, specs.Places.Placed, specs.Trees.placed_tree}
 use Rattle.yq_outline.{specs.Outline.Line, specs.Sound.head_is_sound, specs.Lines.lines_of_rows, specs.RowWalk.{IsLine, line_number}}
 use Rattle.yq_outline.{specs.declared.line_position.Position.Position, specs.declared.line_position.Stretch.Stretch}
 use Rattle.yq_outline.{proofs.KnownLaws.get_dropped, proofs.WalkPositions.located}
@@ -59,6 +59,10 @@ head_flat : (d : ℕ) (m : Option Decoded) (h : List ℕ) → decoded_flow m ≡
 head_flat d None h e = borrowed_flat d h
 head_flat d (Some x) h e = flat_of d x.head h e
 
+-- an alias holds no collection
+pub alias_sound : (d : ℕ) (n : List ℕ) → head_is_sound d (Some (alias n)) ≡ true
+alias_sound d n = search (rules, le-leb)
+
 -- a line without a head
 pub headless : (d : ℕ) (o : Option Node) → false ≡ is_some o → head_is_sound d o ≡ true
 headless d None e = refl
@@ -72,4 +76,16 @@ head_free t s ms d k q at l is depth none = go (is_some l.head) refl
   where
     go : (b : Bool) → is_some l.head ≡ b → head_is_sound depth l.head ≡ true
     go true e = ap (head_is_sound depth) (sym (head_line t s ms d k q at l is (sym e))) ∙ head_flat depth (decoded_at q.row ms) (slices (located s d k.document q at).row).head none
+    go false e = headless depth l.head (sym e)
+
+-- a line with one made of its row, which is sound
+pub head_sound : (t : List ℕ) (s : RowsView) (ms : List Decoded) (d : Stretch) (k : IsCheckable t s ms d) (q : Position) (at : IsLine s d q)
+    (l : Line) → slice_get (lines_of_rows k.document.rows) (line_number d k.document.rows q) ≡ Some l → (depth : ℕ) (p : Placed) →
+    decoded_flow (decoded_at q.row ms) ≡ Some p → head_is_sound depth (Some (placed_tree p)) ≡ true → head_is_sound depth l.head ≡ true
+head_sound t s ms d k q at l is depth p flow sound = go (is_some l.head) refl
+  where
+    go : (b : Bool) → is_some l.head ≡ b → head_is_sound depth l.head ≡ true
+    go true e =
+        let made = head_some (decoded_at q.row ms) (slices (located s d k.document q at).row).head p flow in
+        ap (head_is_sound depth) (sym (made ∙ head_line t s ms d k q at l is (sym e))) ∙ sound
     go false e = headless depth l.head (sym e)

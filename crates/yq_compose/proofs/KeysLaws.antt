@@ -1,7 +1,9 @@
 -- Keys of mappings, one in the other.
-use Rattle.std.proofs.Common.{◌≡◌, ℕ, zero, suc, ◌≤◌, List, [], ◌∷◌, ◌++◌, drop, length, take, ap, ◌∙◌, arith}
-use Rattle.std.proofs.lemmas.List.{drop-append-le, drop_all, length-map, take-append-le, take_all}
+use Rattle.std.proofs.Common.{◌≡◌, ℕ, zero, suc, ◌≤◌, List, [], ◌∷◌, ◌++◌, drop, length, take, sym, ap, ◌∙◌, arith, ◌↔◌, ◌<◌, Bool, true}
+use Rattle.std.{proofs.Common.refl, specs.Bool.IsTrue, proofs.lemmas.List.{drop-append-le, drop_all, length-map, take-append-le, take_all}}
 use denote.Bor.{Bor}
+use Rattle.yq_core.specs.Keys.{AreDistinct, are_distinct}
+use Rattle.yq_outline.proofs.KeyLaws.{distinct_is, is_distinct}
 use Rattle.yq_compose.specs.Keys.{key_texts}
 
 -- So many keys in front stay as they were.
@@ -30,3 +32,13 @@ more_stay n before old more ks k e = record {
 
 pub more_own : (n : ℕ) (before old more ks : List (List ℕ)) → KeysStay n before old → ks ≡ old ++ more → drop n ks ≡ drop n old ++ more
 more_own n before old more ks k e = ap (drop n) e ∙ drop-append-le n old more k.within
+
+-- what a test of keys tells
+pub differ_agrees : (ks : List (List ℕ)) (b : Bool) → b ≡ are_distinct ks → IsTrue b ↔ AreDistinct ks
+differ_agrees ks b e = (λ yes. distinct_is ks (sym e ∙ yes), λ h. e ∙ is_distinct ks h)
+
+-- fewer than two keys
+pub few_keys : (ks : List (Bor (List ℕ))) → length ks < 2 → true ≡ are_distinct (key_texts ks)
+few_keys [] h = refl
+few_keys (a ∷ []) h = refl
+few_keys (a ∷ b ∷ ks) h = absurd (omega (arith, h))

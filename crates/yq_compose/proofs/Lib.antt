@@ -13,6 +13,7 @@ pub mod ReachedLaws
 pub mod HeadViewLaws
 pub mod FitLaws
 pub mod AnchorRows
+pub mod AliasHeads
 pub mod RowContents
 pub mod NameRows
 pub mod NoReferenceLaws

@@ -4,20 +4,20 @@ use Rattle.std.proofs.Common.{refl, sym, ap, ◌∙◌, subst, arith, append_ass
 use Rattle.std.{proofs.Math.Seq.{drop-append_seam, get_or-append_seam}, proofs.lemmas.Bool.{cond-false, false≢true}}
 use Rattle.std.{proofs.lemmas.List.length-map, proofs.lemmas.Option.{cond_some, slice_get-map}, proofs.lemmas.Str.IsCharBoundary-start}
 use Rattle.std.{specs.List.slice_get, specs.Prelude.option_map, specs.Str.{IsCharBoundary, IsUtf8}}
-use Rattle.yq_core.{specs.Answers.{ReadFails, ReadError}, specs.Quoted.IsQuotedText, specs.Text.is_empty}
+use Rattle.yq_core.{specs.Answers.{ReadFails, ReadError}, specs.Quoted.IsQuotedText, specs.Nodes.begins_with, specs.Text.is_empty}
 use Rattle.yq_core.{specs.Scalars.{scalar_content, is_quoted}, specs.Borrowed.borrows_text, proofs.OneLine.kept}
 use Rattle.yq_outline.{specs.Lines.head_of, proofs.RowLaws.{colon_some, mark_quoted}}
 use Rattle.yq_row_table.{specs.Exchange.{before_content, behind_row, rows_behind}, specs.Grammar.IsMark}
 use Rattle.yq_row_table.{specs.Rows.{Row, Cut, parent_indent}, specs.View.{Slices, colon_of, key_of_mark, slices, rows_of, RowsView}}
 use Rattle.yq_row_table.{proofs.PlaceLaws.{RowIn, place, row_in}, proofs.SliceLaws.content_slices}
 use Rattle.yq_documents.{specs.FlowReading.{head_flow_at, row_flow}, specs.KeyReading.EndsIn}
-use Rattle.yq_documents.specs.Decoded.{borrowed_head, borrowed_text, decoded_view, decoded_head_flow}
+use Rattle.yq_documents.specs.Decoded.{alias_from, borrowed_head, borrowed_text, decoded_view, decoded_head_flow}
 use Rattle.yq_documents.{specs.declared.decoded.DecodedHead.DecodedHead, specs.Reading.{content_is_fit, cut_of, mark_is_fit}}
 use Rattle.yq_documents.{specs.RowReading.read_head, proofs.HeadLaws.{fitting, head_is, head_text}, proofs.RowFlowLaws.flow_is}
 use Rattle.yq_documents.proofs.RowLineLaws.{content_quoted}
 use Rattle.yq_compose.{specs.Checking.borrows_head, specs.Deciding.Denies, specs.FitReading.key_fits}
 use Rattle.yq_compose.{specs.Decoding.{IsCutInto, IsHeadDecoded, IsKeyDecoded}, proofs.RowBegins.mark_plain}
-use Rattle.yq_compose.proofs.BorrowLaws.{borrows_key, borrowed_read}
+use Rattle.yq_compose.{proofs.AliasHeads.{MeansAlias, means_alias}, proofs.BorrowLaws.{borrows_key, borrowed_read}}
 use Rattle.yq_core.specs.Tree as trees
 use Rattle.yq_failure.specs.declared.failure.Failure.TheVariants as errors
 use Rattle.yq_row_table.specs.Rows as rows
@@ -135,6 +135,23 @@ module _ (t : List ℕ) (s : RowsView) (k : IsCutInto t s) (i : ℕ) (r : Row) (
 
     pub none_decoded : IsHeadDecoded t i None r
     none_decoded = record { head = sym (cond_some (content_is_fit r.content) _ _ borrowed_so.0).1; flow = borrowed_so.1 }
+
+  -- the head is an alias
+  module _ (h m : List ℕ) (head : h ≡ (slices r).head) (star : begins_with 42 h ≡ true) (rest : m ≡ drop 1 h) where
+    means : MeansAlias (behind_row i c) r.content
+    means = means_alias (parent_indent r) r.content (behind_row i c) row_here.row.content (ap (begins_with 42) (sym head) ∙ star)
+
+    name_is : m ≡ drop 1 (slices r).head
+    name_is = rest ∙ ap (drop 1) head
+
+    pub alias_fit : content_is_fit r.content ≡ true
+    alias_fit = means.fit
+
+    pub alias_view : Some (trees.alias m) ≡ head_of r.content
+    alias_view = ap (λ x. Some (trees.alias x)) name_is ∙ means.head
+
+    pub alias_flow : (at : ℕ) → at ≡ length before → Some (alias_from m at) ≡ row_flow (length t) r (behind_row i c)
+    alias_flow at place_is = ap (λ x. Some (alias_from x at)) name_is ∙ means.flow (length t) at (omega (arith, place_is, ap length text_there, length-append before behind))
 
   pub place_whole : (h : List ℕ) (n : ℕ) → h ≡ (slices r).head → borrows_head h ≡ false → IsUtf8 h → n ≡ length before → IsCharBoundary t n
   place_whole h n e unlent u at =

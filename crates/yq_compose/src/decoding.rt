@@ -15,7 +15,7 @@ use crate::keys::Keys;
 use crate::nested::{Flow, flow_decoded};
 use std::alloc::Global;
 use yq_core::fault_place::fault_at;
-use yq_core::{FaultKind, ReadError, Run, first_is, is_quoted, run_len};
+use yq_core::{FaultKind, ReadError, Run, first_is, is_quoted, run_len, strip};
 use yq_documents::{Decoded, DecodedHead, borrowed_text, node_refers};
 use yq_row_heads::read_head;
 use yq_row_table::Rows;
@@ -148,13 +148,16 @@ fn decode_head<'t>(
         return Ok(None);
     }
     let head = rows.head(i);
-    if is_word_head(head, rows.from_head(i)) {
+    if begins_word(head.as_bytes()) && is_word_head(head, rows.from_head(i)) {
         return Ok(None);
     }
     if borrows_head(head) {
         return Ok(None);
     }
     let (start, _) = head_place(rows, i);
+    if let Some(name) = strip(b'*', head) {
+        return Ok(Some(DecodedHead::Alias(name, start)));
+    }
     let behind = text.split_at(start).1;
     if let Some(node) = borrow_head(keys, text, head, behind) {
         return Ok(Some(DecodedHead::Borrowed(node)));
@@ -220,6 +223,7 @@ fn row_refers(row: &Decoded<'_>) -> bool
     match flow_decoded(Some(row)) {
         Some(Flow::Owned(node)) => node_refers(node),
         Some(Flow::Borrowed(_)) => false,
+        Some(Flow::Alias(..)) => true,
         None => false,
     }
 }

@@ -21,6 +21,10 @@ fn push_flow<'t>(names: &mut Vec<Name<'t>>, flow: Option<Flow<'_, 't>>) -> Resul
     match flow {
         Flow::Owned(node) => push_node(names, node),
         Flow::Borrowed(_) => Ok(()),
+        Flow::Alias(name, start) => {
+            names.push(Name::Refers(name, start))?;
+            Ok(())
+        }
     }
 }
 

@@ -1,11 +1,13 @@
 //! What is asked of flow collections: how deep they are nested, and the keys of each.
-ghost use Rattle.std.specs.Prelude.{◌&&◌, Some, IfErr};
+ghost use Rattle.std.specs.Prelude.{◌≡◌, ◌&&◌, Some, IfErr, IsTrue, true};
 ghost use Rattle.yq_core.{specs.Answers.IsOfText, specs.Keys.{are_distinct, keys_of}, specs.Trees.{parts_tree, placed_tree}};
 ghost use Rattle.yq_core.specs.View.{borrowed_view, entries_end, items_end, inline_view};
-ghost use Rattle.yq_compose.specs.Deciding.{Decides};
+ghost use Rattle.yq_compose.{specs.Deciding.Decides, specs.Flows.flow_view};
+ghost use Rattle.yq_outline.specs.Sound.{head_is_sound};
 ghost use Rattle.yq_outline.specs.Sound as spec;
 
 use crate::keys::Keys;
+use crate::nested::Flow;
 use std::alloc::{AllocError, Global};
 use std::collections::BTreeMap;
 use yq_core::fault_place::fault_at;
@@ -116,8 +118,18 @@ fn entries_fault(
     Ok(())
 }
 
-/// A node that the text lends, in which at most so many collections may be nested. Where more may be in it,
-/// it is read.
+/// Whether the text lends a node, and it says that no more than so many collections are nested in it.
+#[inline(always)]
+pub(crate) fn is_shallow(node: Flow<'_, '_>, depth: usize) -> bool
+    ensures { IsTrue result → head_is_sound depth (Some (placed_tree (flow_view node.entry))) ≡ true }
+{
+    match node {
+        Flow::Borrowed(node) => node.depth <= depth,
+        _ => false,
+    }
+}
+
+/// A node that the text lends, in which at most so many collections may be nested: it is read.
 pub(crate) fn borrowed_fault<'t>(
     alloc: Global,
     text: &'t str,
@@ -128,9 +140,6 @@ pub(crate) fn borrowed_fault<'t>(
         (Some (placed_tree (borrowed_view node.entry)))) }
     ensures fault { IfErr result IsOfText }
 {
-    if node.depth <= depth {
-        return Ok(());
-    }
     let whole = if node.text.len() <= text.len() {
         text
     } else {

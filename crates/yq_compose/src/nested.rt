@@ -9,7 +9,7 @@ ghost use Rattle.yq_outline.specs.Sound as spec;
 
 use crate::ahead::decoded_here;
 use crate::checked::Checked;
-use crate::inline_fault::{borrowed_fault, node_fault};
+use crate::inline_fault::{borrowed_fault, is_shallow, node_fault};
 use crate::reached::Reached;
 use std::alloc::Global;
 use yq_core::{BorrowedNode, Inline, ReadError};
@@ -24,6 +24,8 @@ pub(crate) enum Flow<'a, 't> {
     Owned(&'a Inline<'t>),
     /// The text lends each key and scalar of it.
     Borrowed(BorrowedNode<'t>),
+    /// It is an alias, by its name and the byte where it begins.
+    Alias(&'t str, usize),
 }
 
 /// The alias or flow collection of a row by what is made of it, if there is one.
@@ -34,6 +36,7 @@ pub(crate) fn flow_decoded<'a, 't>(decoded: Option<&'a Decoded<'t>>) -> Option<F
     match decoded {
         Some(row) => match &row.head {
             Some(DecodedHead::Borrowed(node)) => Some(Flow::Borrowed(*node)),
+            Some(DecodedHead::Alias(name, start)) => Some(Flow::Alias(name, *start)),
             Some(DecodedHead::Owned(Head::Inline(node))) => Some(Flow::Owned(node)),
             Some(DecodedHead::Owned(Head::Scalar(..))) => None,
             Some(DecodedHead::Owned(Head::Nothing)) => None,
@@ -71,11 +74,15 @@ pub(crate) fn head_fault(
         Some(node) => node,
         None => return Ok(()),
     };
+    if is_shallow(node, depth) {
+        return Ok(());
+    }
     if !has_head(x.rows, x.document, at.position) {
         return Ok(());
     }
     match node {
         Flow::Owned(node) => node_fault(alloc, x.text, node, depth),
         Flow::Borrowed(node) => borrowed_fault(alloc, x.text, node, depth),
+        Flow::Alias(..) => Ok(()),
     }
 }

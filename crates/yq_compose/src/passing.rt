@@ -104,6 +104,7 @@ fn pass_content<'t>(keys: &mut Keys<'t>, depth: usize, text: &'t str) -> Option<
 }
 
 /// The same, most often a collection.
+#[inline(always)]
 #[cycle(passing)]
 fn pass_collection<'t>(keys: &mut Keys<'t>, depth: usize, text: &'t str) -> Option<Passed<'t>>
     ensures shorter { IfSome result (λ p. length p.rest.now < length text.now) }

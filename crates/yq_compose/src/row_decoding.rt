@@ -1,5 +1,5 @@
 //! What rows spell, made one after the other where their text doesn't lend it.
-ghost use Rattle.std.specs.Prelude.{◌≡◌, ◌++◌, IfErr, IfOk};
+ghost use Rattle.std.specs.Prelude.{◌≡◌, ◌++◌, IfErr, IfOk, OnOk};
 ghost use Rattle.yq_core.specs.Answers.{IsOfText};
 ghost use Rattle.yq_row_table.{specs.View.rows_of, specs.WordRows.AreOtherRows};
 ghost use Rattle.yq_documents.specs.Reading.{cut_of, have_fit_keys};
@@ -15,18 +15,17 @@ use yq_row_table::Rows;
 /// Adds what is made of one more row, if anything is.
 #[inline(always)]
 fn push_decoded<'t>(
-    decoded: Vec<Decoded<'t>>,
+    decoded: &mut Vec<Decoded<'t>>,
     row: Option<Decoded<'t>>,
-) -> Result<Vec<Decoded<'t>>, AllocError>
-    ensures { IfOk result (λ ms. ms.items ≡ decoded.entry.items ++ list_of_option row.entry) }
+) -> Result<(), AllocError>
+    ensures { OnOk result (decoded.new.items ≡ decoded.old.items ++ list_of_option row.entry) }
 {
-    let mut decoded = decoded;
     match row {
         Some(found) => {
             decoded.push(found)?;
-            Ok(decoded)
+            Ok(())
         }
-        None => Ok(decoded),
+        None => Ok(()),
     }
 }
 
@@ -51,7 +50,7 @@ fn decode_others<'t>(
             Ok(found) => found,
             Err(e) => return Err(e),
         };
-        decoded = push_decoded(decoded, found)?;
+        push_decoded(&mut decoded, found)?;
         left = behind;
     }
     decoded.shrink_to_fit();
@@ -77,7 +76,7 @@ fn decode_each<'t>(
             Ok(row) => row,
             Err(e) => return Err(e),
         };
-        decoded = push_decoded(decoded, row)?;
+        push_decoded(&mut decoded, row)?;
         at += 1;
     }
     decoded.shrink_to_fit();

@@ -9,6 +9,7 @@ pub mod PlainReading
 pub mod Runs
 pub mod PlainText
 pub mod Scalar
+pub mod ScalarData
 pub mod Schema
 pub mod SchemaReading
 pub mod Text

@@ -1,7 +1,7 @@
 -- Reading (own; a reader may skip it): what rows spell, as it is borrowed, or made where the text doesn't lend it.
-use Rattle.std.specs.Prelude.{◌≡◌, ℕ, suc, ◌-◌, ◌≤◌, ◌==◌, List, [], ◌∷◌, drop, length, take, Option, Some, None, option_and_then}
+use Rattle.std.specs.Prelude.{◌≡◌, ℕ, suc, ◌+◌, ◌-◌, ◌≤◌, ◌==◌, List, [], ◌∷◌, drop, length, take, Option, Some, None, option_and_then}
 use Rattle.std.specs.Prelude.{option_map, string_bytes, if◌then◌else◌, ⊤}
-use Rattle.yq_core.{specs.Scalar.plain_of, specs.Text.is_empty, specs.Tree.Node, specs.Places.Placed}
+use Rattle.yq_core.{specs.Scalar.plain_of, specs.Text.is_empty, specs.Tree.Node, specs.Places.{Placed, placed, name}}
 use Rattle.yq_core.{specs.Scalars.{is_quoted, scalar_content}, specs.Trees.{placed_tree, scalar_node}, specs.View.borrowed_view}
 use Rattle.yq_outline.{specs.View.{head_flow, head_view}, specs.Lines.head_of}
 use Rattle.yq_row_table.{specs.Exchange.behind_row, specs.Rows.{Row, Cut}, specs.View.slices}
@@ -35,15 +35,21 @@ decoded_or (Some x) borrowed = x
 abbrev pub decoded_key : Option Decoded → List ℕ → List ℕ
 decoded_key m key = decoded_or (option_and_then (λ x. option_map string_bytes x.key) m) (borrowed_text key)
 
+-- the alias of that name from a place on (YAML 1.2.2, section 7.1)
+abbrev pub alias_from : List ℕ → ℕ → Placed
+alias_from n start = placed None start start (start + suc (length n)) (name n)
+
 -- what a head spells that is decoded, if it is anything (own)
 abbrev pub decoded_view : heads.DecodedHead → Option Node
 decoded_view (heads.TheVariants.Owned head) = head_view head
 decoded_view (heads.TheVariants.Borrowed node) = Some (placed_tree (borrowed_view node))
+decoded_view (heads.TheVariants.Alias n start) = Some (placed_tree (alias_from n.now start))
 
 -- the alias or flow collection that it is, with its places (own)
 abbrev pub decoded_head_flow : heads.DecodedHead → Option Placed
 decoded_head_flow (heads.TheVariants.Owned head) = head_flow head
 decoded_head_flow (heads.TheVariants.Borrowed node) = Some (borrowed_view node)
+decoded_head_flow (heads.TheVariants.Alias n start) = Some (alias_from n.now start)
 
 -- what a row's head spells, by what is made of the row and by its head (own)
 abbrev pub decoded_head : Option Decoded → List ℕ → Option Node

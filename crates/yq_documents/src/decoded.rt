@@ -6,10 +6,12 @@ use yq_outline::Head;
 /// What a row's head spells that its text doesn't lend as one slice.
 #[derive(Drop)]
 pub enum DecodedHead<'t> {
-    /// A scalar, an alias or a flow collection, made.
+    /// A scalar or a flow collection, made.
     Owned(Head<'t>),
     /// A flow collection of which the text lends each key and scalar.
     Borrowed(BorrowedNode<'t>),
+    /// An alias, by its name and the byte where it begins.
+    Alias(&'t str, usize),
 }
 
 /// What a row spells that its text doesn't lend: a key with escapes, a scalar with escapes or of several

@@ -1,7 +1,8 @@
 -- What putting an item or entry into a flow collection comes to, by what the code finds.
-use Rattle.std.proofs.Common.{rules, ◌≡◌, inl, inr, ℕ, Bool, true, false, cond, List, length, Option, Some, None, sym, ap, ◌∙◌, subst, refl}
-use Rattle.std.{proofs.lemmas.Option.{none-some, same_Some}, specs.Prelude.String, specs.declared.alloc.Global.Global}
-use Rattle.yq_core.{specs.Answers.◌>>=◌, specs.Paths.Step, specs.Tree.Node, specs.Collections.CollPieces}
+use Rattle.std.proofs.Common.{rules, ◌≡◌, inl, inr, ℕ, ◌-◌, Bool, true, false, cond, List, length, Option, Some, None, option_map, sym, ap}
+use Rattle.std.{proofs.Common.{◌∙◌, subst, refl}, proofs.lemmas.Option.{none-some, same_Some}, specs.Prelude.String}
+use Rattle.std.specs.declared.alloc.Global.{Global}
+use Rattle.yq_core.{specs.Answers.◌>>=◌, specs.Paths.Step, specs.Tree.Node, specs.Collections.{CollAt, CollPieces}}
 use Rattle.yq_core.{specs.Places.{Placed, placed, locate}, specs.Nodes.key_text, specs.NodesWritten.{flow_key, flow_of, flow_text}}
 use Rattle.yq_flow_edits.{specs.FlowEdits.{FlowEdit, appending}, specs.FlowPlaces.{PlacedEdit, append_place, edit_view, place_edit}}
 use Rattle.yq_flow_edits.specs.declared.flow_place.EditPlace.{EditPlace}
@@ -9,14 +10,16 @@ use Rattle.yq_text.specs.Script.{Segment}
 use Rattle.yq_row_table.specs.Rows.{Cut, cut_text}
 use Rattle.yq_documents.specs.Reading.{cut_of, read_at}
 use Rattle.yq_places.{specs.FlowNodes.flow_collection, specs.FlowViews.{behind_anchor, placed_collection}}
-use Rattle.yq_places.specs.declared.places.flow_node.FlowHead.{FlowHead}
-use Rattle.yq_lookup.{specs.FlowEnds.{FlowEndAgrees, IsFlowEnd, IsInPiece}, specs.declared.flow_ends.FlowEnd.FlowEnd}
+use Rattle.yq_places.{specs.declared.places.flow_node.FlowHead.FlowHead, proofs.PrintedTexts.map_some, proofs.FlowNodeLaws.with_more}
+use Rattle.yq_lookup.specs.RowFronts.{IsFlowFront}
+use Rattle.yq_inline.{specs.Neighbours.{coll_end, end_view}, specs.declared.neighbours.CollectionEnd.CollectionEnd}
 use Rattle.yq_edit_rules.specs.FlowParts.{flow_more, flow_segments, takes_key}
 use Rattle.yq_edit_laws.specs.EditPlaces.{end_place, keyed_takes, moved_on, placed_takes}
-use Rattle.yq_edit_laws.{specs.PartPuts.{AreMore, IsEditPlace, PutsMoreIn, more_edit, place_after}, proofs.CutLaws.text_read}
+use Rattle.yq_edit_laws.specs.PartPuts.{AreMore, IsEditPlace, PutsMoreIn, more_edit, place_after}
 use Rattle.yq_edit_laws.{proofs.FlowAnswers.{CollFound, EditFound, edit_lies, edit_moved}, proofs.NeighbourPlaces.end_is_there}
-use Rattle.yq_edit_laws.{proofs.PiecePlaces.{place_found, whole_of}, proofs.FlowAppendLaws.{bounds, there}}
-use Rattle.yq_edit_laws.{proofs.FlowHeads.{append_found, appended_within, whole_is}, proofs.FlowLonger.appending_more}
+use Rattle.yq_edit_laws.proofs.PiecePlaces.{Front, all_is, at_front, front_coll, piece_found, place_found}
+use Rattle.yq_edit_laws.{proofs.FlowAppendLaws.{bounds, there}, proofs.FlowHeads.{append_found, appended_within, whole_is}}
+use Rattle.yq_edit_laws.proofs.FlowLonger.{appending_more}
 
 -- whether the collection takes it
 core_takes : (q : Placed) (key : Option (List ℕ)) → placed_takes (behind_anchor q) key ≡ placed_takes q key
@@ -70,43 +73,44 @@ module _ (c : Cut) (n : ℕ) (steps : List Step) (key : Option (List ℕ)) (v : 
 
 -- ---- by the end of the collection
 
--- The code finds the end of the flow collection at a path.
-pub record EndFound (c : Cut) (n : ℕ) (steps : List Step) (x : FlowEnd) : Type 0 where
-  pub read : read_at (cut_text c) ≡ Some c
-  pub coll : CollPieces
-  pub found : flow_collection n steps c ≡ Some coll
-  pub agrees : IsFlowEnd (cut_text c) coll x
+module _ (t : List ℕ) (n : ℕ) (steps : List Step) (x : Front) (w : IsFlowFront t n steps x) (key : Option (List ℕ)) (v : Node) where
+  abbrev put : Option (List Segment)
+  put = flow_collection n steps (cut_of t) >>= flow_more (cut_text (cut_of t)) key v
 
-pub end_found : (t : List ℕ) (n : ℕ) (steps : List Step) (x : FlowEnd) → read_at t ≡ Some (cut_of t) → FlowEndAgrees t (flow_collection n steps (cut_of t)) (Some x) → EndFound (cut_of t) n steps x
-end_found t n steps x read agrees =
-    let same = sym (text_read t (cut_of t) read) in
-    go (subst (λ (u : List ℕ). read_at u ≡ Some (cut_of t)) same read) (flow_collection n steps (cut_of t)) refl (subst (λ (u : List ℕ). FlowEndAgrees u (flow_collection n steps (cut_of t)) (Some x)) same agrees)
-  where
-    go : read_at (cut_text (cut_of t)) ≡ Some (cut_of t) → (o : Option CollPieces) → flow_collection n steps (cut_of t) ≡ o → FlowEndAgrees (cut_text (cut_of t)) o (Some x) → EndFound (cut_of t) n steps x
-    go read None found agrees = absurd agrees
-    go read (Some w) found agrees = record { read = read; coll = w; found = found; agrees = agrees }
+  -- there is none
+  pub no_collection : None ≡ option_map coll_end (front_coll x) → put ≡ None
+  no_collection e = search (rules, all_is t n steps x w, none-some)
 
-module _ (c : Cut) (n : ℕ) (steps : List Step) (key : Option (List ℕ)) (v : Node) (x : FlowEnd) (f : EndFound c n steps x) where
-  abbrev place : IsInPiece (cut_text c) f.coll x.text.now x.before
-  place = f.agrees.place
+  module _ (y : CollectionEnd) (is : Some (end_view y) ≡ option_map coll_end (front_coll x)) where
+    abbrev z : (z : CollPieces) × (front_coll x ≡ Some z) × (coll_end z ≡ end_view y)
+    z = map_some (front_coll x) (sym is)
 
-  abbrev edited : CollPieces → FlowEdit
-  edited = appending (flow_key key) (flow_of v)
+    abbrev whole_coll : CollPieces
+    whole_coll = with_more w.behind z.0
 
-  -- whether the collection takes it
-  keyed_is : keyed_takes x.keyed key ≡ takes_key f.coll.close key
-  keyed_is =
-      ap (λ (y : Bool × Bool × ℕ). keyed_takes y.0 key) f.agrees.end ∙ ap (λ (z : CollPieces). takes_key z.close key) place.coll_is
+    abbrev edited : CollPieces → FlowEdit
+    edited = appending (flow_key key) (flow_of v)
 
-  -- where it is written
-  pub taken : (whole : List ℕ) (p : PlacedEdit) → whole ≡ cut_text c → p ≡ end_place x.some x.at → keyed_takes x.keyed key ≡ true →
-      EditFound (flow_collection n steps c >>= flow_more (cut_text c) key v) whole (moved_on x.before p) (key_text (flow_key key) (flow_text v))
-  taken whole p all is takes =
-      let same = ap edited (whole_of (cut_text c) f.coll x.text.now x.before place) ∙ appending_more (flow_key key) (flow_of v) place.behind place.at.coll in
-      let s = there c n steps key v f.coll f.read f.found in
-      let at : p ≡ place_edit (length x.text.now) (edited place.at.coll) =
-      is ∙ (ap (λ (y : Bool × Bool × ℕ). end_place y.1 y.2) f.agrees.end ∙ end_is_there (length x.text.now) (flow_key key) (flow_of v) place.at.coll) in
-      subst (λ (o : Option (List Segment)). EditFound o whole (moved_on x.before p) (key_text (flow_key key) (flow_text v)))
-      (sym (ap (λ (y : Option CollPieces). y >>= flow_more (cut_text c) key v) f.found ∙ ap (λ (k : Bool). cond k (Some (flow_segments (cut_text c) (edited f.coll))) None) (sym keyed_is ∙ takes)))
-      (place_found c f.coll x.text.now x.before f.read place (edited f.coll) (edited place.at.coll) s.before whole p same (appended_within place.at place.stands (flow_key key) (flow_of v))
-      (bounds c n steps key v f.coll f.read f.found) s.text at all)
+    put_is : put ≡ cond (takes_key z.0.close key) (Some (flow_segments (cut_text (cut_of t)) (edited whole_coll))) None
+    put_is = ap (λ (o : Option CollPieces). o >>= flow_more (cut_text (cut_of t)) key v) (all_is t n steps x w ∙ ap (option_map (with_more w.behind)) z.1)
+
+    -- whether the collection takes it
+    keyed_is : keyed_takes y.keyed key ≡ takes_key z.0.close key
+    keyed_is = ap (λ (e : Bool × Bool × List ℕ). keyed_takes e.0 key) (sym z.2)
+
+    pub kept_apart : keyed_takes y.keyed key ≡ false → put ≡ None
+    kept_apart takes = put_is ∙ ap (λ (k : Bool). cond k (Some (flow_segments (cut_text (cut_of t)) (edited whole_coll))) None) (sym keyed_is ∙ takes)
+
+    -- where it is written
+    pub taken : read_at t ≡ Some (cut_of t) → (whole : List ℕ) (p : PlacedEdit) → whole ≡ cut_text (cut_of t) → p ≡ end_place y.some (length x.0.text.now - length y.rest.now) → keyed_takes y.keyed key ≡ true →
+        EditFound put whole (moved_on x.1 p) (key_text (flow_key key) (flow_text v))
+    taken read whole p all is takes =
+        let f = piece_found t n steps x w read z.0 z.1 in
+        let at : CollAt = at_front t n steps x w z.0 in
+        let s = there (cut_of t) n steps key v whole_coll f.read f.found in
+        let place : p ≡ place_edit (length x.0.text.now) (edited z.0) =
+        is ∙ (ap (λ (e : Bool × Bool × List ℕ). end_place e.1 (length x.0.text.now - length e.2)) (sym z.2) ∙ end_is_there (length x.0.text.now) (flow_key key) (flow_of v) z.0) in
+        subst (λ (o : Option (List Segment)). EditFound o whole (moved_on x.1 p) (key_text (flow_key key) (flow_text v)))
+        (sym (put_is ∙ ap (λ (k : Bool). cond k (Some (flow_segments (cut_text (cut_of t)) (edited whole_coll))) None) (sym keyed_is ∙ takes)))
+        (place_found (cut_of t) n steps x.0.text.now x.1 w.behind at f (edited whole_coll) (edited z.0) s.before whole p (appending_more (flow_key key) (flow_of v) w.behind z.0)
+        (appended_within at f.stands (flow_key key) (flow_of v)) (bounds (cut_of t) n steps key v whole_coll f.read f.found) s.text place all)

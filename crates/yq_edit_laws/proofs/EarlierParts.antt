@@ -10,8 +10,8 @@ use Rattle.yq_core.{specs.Nodes.{node_text, opening_bracket, sep_text, without_a
 use Rattle.yq_core.{proofs.NodeAgain.{node_longer, sep_longer}, proofs.NodesWrittenLaws.{key_append, sep_append}, proofs.PathLaws.then_some}
 use Rattle.yq_flow_edits.specs.FlowEdits.{FlowEdit, IsFlowEdited, add_item, behind_appended, behind_last, put_content, put_item}
 use Rattle.yq_flow_edits.{proofs.EditLaws.around_is, proofs.ItemSwaps.{item_cut, text_cut}}
-use Rattle.yq_places.proofs.FlowNodeLaws.{item_more}
-use Rattle.yq_edit_laws.{proofs.FlowLonger.entry_more, proofs.LaterEnds.{items_end, node_end, own_end, rest_in}}
+use Rattle.yq_places.proofs.FlowNodeLaws.{item_more, entry_more}
+use Rattle.yq_edit_laws.proofs.LaterEnds.{items_end, node_end, own_end, rest_in}
 use Rattle.yq_edit_laws.proofs.LaterParts.{content_within, inside_within, node_in_items, with_node}
 use Rattle.yq_core.specs.Tree as tree
 

@@ -10,11 +10,11 @@ use Rattle.yq_documents.specs.Reading.{cut_of, read_at}
 use Rattle.yq_places.specs.FlowNodes.{flow_collection}
 use Rattle.yq_places.specs.FlowViews.{IsHeadOfSteps, FlowAgrees, behind_anchor, collection_view, placed_collection}
 use Rattle.yq_places.{specs.Standings.{FlowPart, flow_part, flow_standing, last_step}, specs.declared.places.flow_node.FlowHead.FlowHead}
+use Rattle.yq_places.proofs.FlowNodeLaws.{entry_more}
 use Rattle.yq_text.specs.Script.{Segment, keep, put}
 use Rattle.yq_edit_rules.specs.FlowParts.{flow_segments}
 use Rattle.yq_edit_laws.{specs.EditPlaces.{LiesIn, edit_segments, moved_on}, proofs.CutLaws.{text_read, text_small}}
-use Rattle.yq_edit_laws.{proofs.FlowHeads.{in_text, item_whole, agrees_there}, proofs.FlowLonger.{edit_more, entry_more}}
-use Rattle.yq_edit_laws.proofs.FlowStandings.{EntryAt}
+use Rattle.yq_edit_laws.{proofs.FlowHeads.{in_text, item_whole, agrees_there}, proofs.FlowLonger.edit_more, proofs.FlowStandings.EntryAt}
 
 -- ---- the last step
 

@@ -8,10 +8,10 @@ use Rattle.yq_flow_edits.specs.FlowEdits.{FlowEdit, appending, replacing}
 use Rattle.yq_flow_edits.{specs.FlowPlaces.{append_place, place_edit, remove_place, replace_place}, specs.Removals.removing}
 use Rattle.yq_flow_edits.{proofs.EditLaws.{Around, around_is}, proofs.PlacedEdits.{append_placed, replace_placed}}
 use Rattle.yq_flow_edits.{proofs.RemovePlaces.remove_placed, proofs.RemoveTexts.removed_text}
-use Rattle.yq_places.proofs.FlowNodeLaws.{item_more}
+use Rattle.yq_places.proofs.FlowNodeLaws.{item_more, entry_more, with_more}
 use Rattle.yq_places.specs.FlowViews.{IsHeadOfSteps, FlowAgrees, behind_anchor, collection_view, placed_collection}
 use Rattle.yq_places.specs.declared.places.flow_node.FlowHead.{FlowHead}
-use Rattle.yq_edit_laws.{proofs.FlowLonger.{edit_more, entry_more, place_moved, with_more}, specs.EditPlaces.moved_on}
+use Rattle.yq_edit_laws.{proofs.FlowLonger.{edit_more, place_moved}, specs.EditPlaces.moved_on}
 use Rattle.yq_edit_laws.proofs.FlowWholeLaws.{StandsBefore, appended_stands, replaced_stands}
 
 -- ---- lengths

@@ -1,23 +1,13 @@
 -- Edits of a flow collection in a part of a text, as edits of the text.
 use Rattle.std.proofs.Common.{rules, ◌≡◌, ℕ, ◌≤◌, true, false, cond, List, [], ◌∷◌, ◌++◌, length, Option, Some, None, option_map, refl, sym}
 use Rattle.std.proofs.Common.{ap, arith, append_assoc, length-append}
-use Rattle.yq_core.{specs.Paths.{Step, is_here, further}, specs.Collections.CollPieces, specs.Entries.EntryPieces}
-use Rattle.yq_core.{specs.Nodes.{Key, Sep, FlowNode, Items, none, item}, specs.Trees.key_content, specs.Tree.key_label}
-use Rattle.yq_core.proofs.NodesWrittenLaws.{items_append, sep_append}
+use Rattle.yq_core.{specs.Paths.{Step, is_here, further}, specs.Collections.CollPieces, specs.Nodes.{Key, Sep, FlowNode, Items, none, item}}
+use Rattle.yq_core.{specs.Trees.key_content, specs.Tree.key_label, proofs.NodesWrittenLaws.{items_append, sep_append}}
 use Rattle.yq_flow_edits.{specs.FlowEdits.{FlowEdit, appending, behind_last}, specs.FlowPlaces.place_edit}
 use Rattle.yq_flow_edits.specs.Removals.{before_next, edit_from_item, gap_of, last_gone, last_out, last_removed, next_text, removing_from}
 use Rattle.yq_flow_edits.proofs.RemovePlaces.{or_mapped}
+use Rattle.yq_places.proofs.FlowNodeLaws.{with_more}
 use Rattle.yq_edit_laws.specs.EditPlaces.{moved_on}
-
--- ---- more text after a collection
-
--- an item or entry before a longer rest
-abbrev pub entry_more : List ℕ → EntryPieces → EntryPieces
-entry_more more y = record { key = y.key; node = y.node; rest = y.rest ++ more }
-
--- a collection before a longer rest
-abbrev pub with_more : List ℕ → CollPieces → CollPieces
-with_more more w = record { close = w.close; gap = w.gap; items = w.items; rest = w.rest ++ more }
 
 -- ---- the same edit before a longer rest
 

@@ -1,3 +1,4 @@
+pub mod OperandLaws
 pub mod CutLaws
 pub mod DocumentParts
 pub mod FlowEditLaws

@@ -6,9 +6,8 @@ use Rattle.yq_row_table.{specs.Rows.{Content, Nothing, Inline, Block, Row, Cut, 
 use Rattle.yq_row_table.specs.View.{content_cut, slices}
 use Rattle.yq_documents.specs.Reading.{read_at}
 use Rattle.yq_places.{specs.NodesAt.node_in, specs.PlacedRows.{PlacedPart, placed_document}}
-use Rattle.yq_places.specs.Standings.{RowsOfEntry, Standing, before_entry, behind_entry, behind_mark, below, compact_in, compact_lines}
-use Rattle.yq_places.specs.Standings.{compact_mark, entry_standing, held, is_alone, lone, rows_of_entry, root_standing}
-use Rattle.yq_places.proofs.PrintedTexts.{map_some}
+use Rattle.yq_places.specs.Standings.{RowsOfEntry, Standing, before_entry, behind_entry, behind_mark, below, compact_in, compact_mark}
+use Rattle.yq_places.{specs.Standings.{entry_standing, held, is_alone, lone, rows_of_entry, root_standing}, proofs.PrintedTexts.map_some}
 use Rattle.yq_edit_rules.{specs.StandingLaws.StandsThere, proofs.StandingRows.{entry_within, rows_stand}, specs.EditLaws.IsEdit}
 use Rattle.yq_edit_rules.{specs.Layouts.layout_of, specs.ReplaceEdits.{has_text, value_put}, specs.WrittenValues.written_at}
 use Rattle.yq_edit_rules.proofs.EditsFitLaws.{fits_replace}

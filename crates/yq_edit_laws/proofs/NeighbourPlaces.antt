@@ -5,26 +5,22 @@ use Rattle.yq_core.{specs.Answers.◌>>=◌, specs.Collections.{CollAt, CollPiec
 use Rattle.yq_core.specs.Nodes.{FlowNode, Items, Key, Sep, coll, flow_items_text, item, key_text, node_text, none, sep_text}
 use Rattle.yq_core.{specs.Paths.{Step, further, is_here}, specs.Places.{Parts, key_placed, locate, locate_items}, specs.Tree.key_label}
 use Rattle.yq_core.{specs.Trees.key_content, proofs.EditPlaces.{end_placed, entry_placed}, proofs.TreeLaws.key_tree}
-use Rattle.yq_inline.specs.Neighbours.{PartTexts, PartsAround, around_part, coll_around, first_ends, first_text, last_ends, past_last}
+use Rattle.yq_inline.specs.Neighbours.{PartTexts, PartsAround, around_part, coll_around, coll_end, first_ends, first_text, last_ends}
+use Rattle.yq_inline.specs.Neighbours.{past_last}
 use Rattle.yq_flow_edits.specs.FlowEdits.{appending, behind_last}
 use Rattle.yq_flow_edits.specs.FlowPlaces.{PlacedEdit, first_start, only_end, place_edit, remove_before, remove_between, remove_end}
 use Rattle.yq_flow_edits.{specs.FlowPlaces.{remove_part, remove_place}, specs.Removals.removing, proofs.RemovePlaces.coll_parts}
 use Rattle.yq_places.specs.FlowViews.{placed_collection}
-use Rattle.yq_lookup.specs.FlowEnds.{PlacedAround, placed_around, placed_end}
-use Rattle.yq_edit_laws.{specs.EditPlaces.end_place, proofs.FlowHeads.remove_found}
+use Rattle.yq_edit_laws.{specs.EditPlaces.{end_place, remove_around}, proofs.FlowHeads.remove_found}
 
 -- ---- an item or entry is taken out
-
--- what goes with it, by these places
-abbrev pub remove_around : List ℕ → PlacedAround → Option PlacedEdit
-remove_around t x = remove_between t x.before x.start x.end x.next
 
 module _ (t : List ℕ) (k : ℕ) where
   abbrev total : ℕ
   total = length t
 
   abbrev gone : PartsAround → Option PlacedEdit
-  gone x = remove_around t (placed_around total x)
+  gone = remove_around t
 
   -- what goes with the last one, after this one
   abbrev last_gone : Step → PartTexts → Parts → Option PlacedEdit
@@ -89,16 +85,11 @@ module _ (t : List ℕ) (k : ℕ) where
 
 -- in a collection of a text alone
 pub around_gone : (z : CollAt) → IsCollAt z → (row : List ℕ) → row ≡ node_text z.node z.rest → (s : Step) →
-    (option_map (placed_around (length row)) (coll_around s z.coll) >>= remove_around row) ≡ option_map (place_edit (length row)) (removing s z.coll)
+    (coll_around s z.coll >>= remove_around row) ≡ option_map (place_edit (length row)) (removing s z.coll)
 around_gone z is row text s =
-    mapped (coll_around s z.coll)
-    ∙ (sym (part_gone row z.coll.close s z.coll.items z.coll.rest)
+    sym (part_gone row z.coll.close s z.coll.items z.coll.rest)
     ∙ (ap (remove_part row s) (sym (coll_parts (length row) (coll z.coll.close z.coll.gap z.coll.items) z.coll.rest z.coll refl))
-    ∙ subst (λ (l : List ℕ). remove_place l s (placed_collection (length l) z.coll) ≡ option_map (place_edit (length l)) (removing s z.coll)) (sym text) (remove_found z is s)))
-  where
-    mapped : (o : Option PartsAround) → (option_map (placed_around (length row)) o >>= remove_around row) ≡ (o >>= λ x. remove_around row (placed_around (length row) x))
-    mapped None = refl
-    mapped (Some x) = refl
+    ∙ subst (λ (l : List ℕ). remove_place l s (placed_collection (length l) z.coll) ≡ option_map (place_edit (length l)) (removing s z.coll)) (sym text) (remove_found z is s))
 
 -- ---- one more
 
@@ -113,5 +104,5 @@ some_ends k e none rest = refl
 some_ends k e (item key n sep is) rest = some_ends k (first_ends k key n sep is rest) is rest
 
 -- the place where one more comes after the end of a collection
-pub end_is_there : (total : ℕ) (key : Key) (m : FlowNode) (w : CollPieces) → end_place (placed_end total w).1 (placed_end total w).2 ≡ place_edit total (appending key m w)
+pub end_is_there : (total : ℕ) (key : Key) (m : FlowNode) (w : CollPieces) → end_place (coll_end w).1 (total - length (coll_end w).2) ≡ place_edit total (appending key m w)
 end_is_there total key m w = search (rules, some_ends, behind_part)

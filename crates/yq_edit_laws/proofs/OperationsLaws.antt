@@ -4,8 +4,9 @@ use Rattle.std.proofs.Common.{append-nil, arith}
 use Rattle.yq_semantics.{specs.Operations.{operation_of, operations_of}, specs.declared.op.Op.Op, specs.Judgement.ExprError}
 use Rattle.yq_text.specs.Splice.{Splice}
 use Rattle.yq_edit_laws.{specs.Answers.EditFails, specs.Carried.{carried, carry_all}, specs.Edit.{gives, edit_after}}
-use Rattle.yq_edit_laws.{specs.Theorems.{IsApplied, IsFitting}, specs.Valid.AreServed}
+use Rattle.yq_edit_laws.{specs.Theorems.{IsApplied, IsFitting}, specs.Valid.{AreServed, HaveOperands}}
 use Rattle.yq_edit_laws.{proofs.OrderLaws.{behind_both, fails_behind, fails_on}, proofs.ServeLaws.{fits, others_serve}}
+use Rattle.yq_edit_rules.specs.Operands.{HasOperand}
 
 abbrev later : List Op → List Op
 later os = take (length os - 1) (drop 1 os)
@@ -43,3 +44,13 @@ none_come (o ∷ os) t bs e = absurd (omega (arith, e))
 
 pub first_fits : (os : List Op) (op : Op) (t : List ℕ) → 1 ≤ length os → op ≡ slice_index_or os 0 op → AreServed (operations_of os) t → IsFitting (operation_of op) t
 first_fits os op t some at h = search (rules, subst (λ (x : List Op). AreServed (operations_of x) t) (first_apart os op some at) h, fits)
+
+-- the operand of the first one, and those of the others
+pub first_operand : (os : List Op) (op : Op) → 1 ≤ length os → op ≡ slice_index_or os 0 op → HaveOperands (operations_of os) →
+    HasOperand (operation_of op)
+first_operand [] op some at h = absurd (omega (arith, some))
+first_operand (x ∷ os) op some at h = subst (λ (y : Op). HasOperand (operation_of y)) (sym at) h.0
+
+pub later_operands : (os : List Op) → 1 ≤ length os → HaveOperands (operations_of os) → HaveOperands (operations_of (later os))
+later_operands [] some h = absurd (omega (arith, some))
+later_operands (x ∷ os) some h = subst (λ (ys : List Op). HaveOperands (operations_of ys)) (sym (take_all (length (x ∷ os) - 1) os (omega arith))) h.1

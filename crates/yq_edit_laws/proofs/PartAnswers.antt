@@ -1,6 +1,6 @@
 -- What putting a value at an item or entry of a flow collection comes to, where that is read alone.
 use Rattle.std.proofs.Common.{rules, ◌≡◌, ℕ, true, List, [], ◌++◌, length, take, drop, Option, Some, None, option_map, sym, ap, ◌∙◌}
-use Rattle.std.proofs.Common.{length-append}
+use Rattle.std.{proofs.Common.length-append, specs.Prelude.String, specs.declared.alloc.Global.Global}
 use Rattle.yq_core.{specs.Answers.◌>>=◌, specs.Paths.Step, specs.declared.style.Place.TheVariants.Flow as InFlow}
 use Rattle.yq_core.{specs.Collections.CollPieces, specs.Entries.EntryPieces, specs.Nodes.{FlowNode, node_text, without_anchor}}
 use Rattle.yq_core.{specs.Trees.placed_tree, specs.View.inline_view, proofs.Bools.bind_some, proofs.NodesWrittenLaws.node_then}
@@ -14,10 +14,10 @@ use Rattle.yq_places.specs.Standings.{FlowPart, flow_part, flow_standing, last_s
 use Rattle.yq_inline.specs.declared.along.NodeAlong.{NodeAlong}
 use Rattle.yq_lookup.specs.PartNodes.{IsPartNode, PartAgrees, part_at}
 use Rattle.yq_edit_rules.{specs.Replacing.keeps_scalar, specs.WrittenValues.value_text}
-use Rattle.yq_edit_laws.{specs.PartPuts.{ArePuts, IsPlaceOf, PutsInNode, place_after, put_edit}, specs.declared.put.PartPut.PartPut}
-use Rattle.yq_edit_laws.{proofs.CutLaws.text_read, proofs.FlowAnswers.bounds_lie, proofs.FlowLonger.{edit_more, place_moved}}
-use Rattle.yq_edit_laws.{proofs.FlowPartNodes.part_node, proofs.FlowPutLaws.{bounds, e, m, there}, proofs.FlowStandings.EntryAt}
-use Rattle.yq_edit_laws.{proofs.FlowWholeLaws.content_split, proofs.PutAnswers.{old_at, value_is, written_found}}
+use Rattle.yq_edit_laws.{specs.PartPuts.{IsPlaceOf, IsValuePut, IsWrittenIn, place_after, put_edit}, proofs.CutLaws.text_read}
+use Rattle.yq_edit_laws.{proofs.FlowAnswers.bounds_lie, proofs.FlowLonger.{edit_more, place_moved}, proofs.FlowPartNodes.part_node}
+use Rattle.yq_edit_laws.{proofs.FlowPutLaws.{bounds, e, m, there}, proofs.FlowStandings.EntryAt, proofs.FlowWholeLaws.content_split}
+use Rattle.yq_edit_laws.proofs.PutAnswers.{old_at, value_is, written_found}
 use Rattle.yq_core.specs.Tree as tree
 
 -- The code finds the item or entry to which a step leads in the flow collection at a path.
@@ -95,6 +95,7 @@ module _ (c : Cut) (n : ℕ) (path init : List Step) (s : Step) (x : NodeAlong �
         ∙ (ap (λ (l : List ℕ). value_text InFlow l v) (old_at row own_text.0 alone own_text.1) ∙ value_is edit.old v)
 
   -- so what the code puts there is what is put at the part
-  pub puts_found : (v : tree.Node) (r : PartPut) → PutsInNode row (inline_view x.0.node) v r → ArePuts n path v c x.1 (Some r)
-  puts_found v r p =
-      (z, standing_there, place_found v r.place p.place, written_found (node_in n path c) v z _ _ (ap (λ (m : Option tree.Node). keeps_scalar m v) node_there) (text_found v r.place p.place) r.written p.written)
+  pub puts_found : (v : tree.Node) (r : EditPlace) (o : Option (String Global)) → edit_view r ≡ replace_place (inline_view x.0.node) → IsWrittenIn row (inline_view x.0.node) v o → IsValuePut n path v c (place_after x.1 r) o
+  puts_found v r o place h =
+      let text = (λ i. value_text InFlow (drop (sym place i).start (take (sym place i).end row)) v) ∙ text_found v r place in
+      (z, standing_there, place_found v r place, written_found (node_in n path c) v z _ _ (ap (λ (m : Option tree.Node). keeps_scalar m v) node_there) text o h)

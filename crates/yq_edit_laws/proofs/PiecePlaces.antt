@@ -1,34 +1,96 @@
 -- Where edits of a flow collection are in a text, by their places in a piece of that.
-use Rattle.std.proofs.Common.{rules, ◌≡◌, ℕ, ◌≤◌, List, ◌++◌, length, Some, sym, ap, ◌∙◌, subst}
-use Rattle.yq_core.{specs.Collections.CollPieces, specs.Nodes.node_text}
+use Rattle.std.proofs.Common.{rules, ◌≡◌, ℕ, ◌≤◌, true, not, List, [], ◌∷◌, ◌++◌, length, map, take, Option, Some, refl, sym, ap, ◌∙◌}
+use Rattle.std.proofs.Common.{subst, option_map}
+use denote.Bor.{Bor}
+use Rattle.yq_core.{specs.Collections.{CollAt, CollPieces, IsCollAt, coll_along, coll_in}, specs.Entries.tree_step, specs.Paths.Step}
+use Rattle.yq_core.specs.declared.style.Place.TheVariants.{Block}
+use Rattle.yq_core.specs.Nodes.{FlowNode, alias, anchored, coll, empty, is_empty_node, node_text, scalar}
 use Rattle.yq_flow_edits.{specs.FlowEdits.FlowEdit, specs.FlowPlaces.{PlacedEdit, place_edit}}
-use Rattle.yq_row_table.specs.Rows.{Cut, cut_text}
-use Rattle.yq_documents.specs.Reading.{read_at}
-use Rattle.yq_lookup.specs.FlowEnds.{IsInPiece}
+use Rattle.yq_inline.{specs.Along.front_read, specs.Neighbours.coll_read, specs.declared.in_front.NodeInFront.NodeInFront}
+use Rattle.yq_row_table.specs.Rows.{Cut, cut_text, parent_indent}
+use Rattle.yq_documents.specs.Reading.{cut_of, read_at}
+use Rattle.yq_places.{specs.FlowNodes.flow_collection, proofs.FlowNodeLaws.{content_more, with_more}}
+use Rattle.yq_lookup.specs.RowFronts.{IsFlowFront}
 use Rattle.yq_edit_rules.specs.FlowParts.{flow_segments}
-use Rattle.yq_edit_laws.specs.EditPlaces.{LiesIn, edit_segments, moved_on}
-use Rattle.yq_edit_laws.proofs.FlowAnswers.{EditFound, HasBounds, bounds_lie, segments_at}
-use Rattle.yq_edit_laws.proofs.FlowLonger.{edit_more, place_moved, with_more}
+use Rattle.yq_edit_laws.{specs.EditPlaces.{LiesIn, edit_segments, moved_on}, proofs.CutLaws.text_read}
+use Rattle.yq_edit_laws.{proofs.FlowAnswers.{EditFound, HasBounds, bounds_lie, segments_at}, proofs.FlowLonger.{edit_more, place_moved}}
+use Rattle.yq_core.specs.declared.path.Step as declared
 
--- A collection is in a piece of a text.
-module _ (t : List ℕ) (w : CollPieces) (row : List ℕ) (n : ℕ) (h : IsInPiece t w row n) where
-  abbrev pub own : CollPieces
-  own = h.at.coll
+-- a collection is something
+some_coll : (node : FlowNode) (rest : List ℕ) (w : CollPieces) → coll_in node rest ≡ Some w → not (is_empty_node node) ≡ true
+some_coll empty rest w e = cc
+some_coll (alias n) rest w e = refl
+some_coll (scalar p) rest w e = refl
+some_coll (coll k g is) rest w e = refl
+some_coll (anchored n g node) rest w e = refl
 
-  pub whole_of : w ≡ with_more h.behind own
-  whole_of = (λ i. record { close = w.close; gap = w.gap; items = w.items; rest = h.rest_is i }) ∙ ap (with_more h.behind) (sym h.coll_is)
+-- a node in which steps lead to a collection is something
+some_node : (ss : List Step) (node : FlowNode) (rest : List ℕ) (w : CollPieces) → coll_along ss node rest ≡ Some w → not (is_empty_node node) ≡ true
+some_node [] node rest w e = some_coll node rest w e
+some_node (s ∷ ss) empty rest w e = cc
+some_node (s ∷ ss) (alias n) rest w e = refl
+some_node (s ∷ ss) (scalar p) rest w e = refl
+some_node (s ∷ ss) (coll k g is) rest w e = refl
+some_node (s ∷ ss) (anchored n g node) rest w e = refl
 
+-- The flow collection at a path is in a piece of the text, before which so many bytes are: the piece begins with a node that could be alone, and
+-- steps lead to the collection in it.
+pub record PieceFound (c : Cut) (n : ℕ) (steps : List Step) (piece : List ℕ) (start : ℕ) (behind : List ℕ) (at : CollAt) : Type 0 where
+  pub read : read_at (cut_text c) ≡ Some c
+  pub front : List ℕ
+  pub text : cut_text c ≡ front ++ (piece ++ behind)
+  pub start_is : start ≡ length front
+  pub found : flow_collection n steps c ≡ Some (with_more behind at.coll)
+  pub stands : IsCollAt at
+  pub node_is : piece ≡ node_text at.node at.rest
+
+module _ (c : Cut) (n : ℕ) (steps : List Step) (piece : List ℕ) (start : ℕ) (behind : List ℕ) (at : CollAt) (h : PieceFound c n steps piece start behind at) where
   -- an edit has its place in the text where it has one in the piece
-  pub place_of : (e f : FlowEdit) → e ≡ edit_more h.behind f → length (f.old ++ f.behind) ≤ length (node_text h.at.node h.at.rest) → place_edit (length t) e ≡ moved_on n (place_edit (length row) f)
+  place_of : (e f : FlowEdit) → e ≡ edit_more behind f → length (f.old ++ f.behind) ≤ length (node_text at.node at.rest) → place_edit (length (cut_text c)) e ≡ moved_on start (place_edit (length piece) f)
   place_of e f same within = search (rules, place_moved)
 
--- The same of the text of a cut.
-module _ (c : Cut) (w : CollPieces) (row : List ℕ) (n : ℕ) (read : read_at (cut_text c) ≡ Some c) (h : IsInPiece (cut_text c) w row n) where
-  pub place_found : (e f : FlowEdit) (before whole : List ℕ) (p : PlacedEdit) → e ≡ edit_more h.behind f → length (f.old ++ f.behind) ≤ length (node_text h.at.node h.at.rest) →
-      HasBounds (cut_text c) e → cut_text c ≡ before ++ (e.old ++ e.behind) → p ≡ place_edit (length row) f → whole ≡ cut_text c → EditFound (Some (flow_segments (cut_text c) e)) whole (moved_on n p) e.written
+  pub place_found : (e f : FlowEdit) (before whole : List ℕ) (p : PlacedEdit) → e ≡ edit_more behind f → length (f.old ++ f.behind) ≤ length (node_text at.node at.rest) →
+      HasBounds (cut_text c) e → cut_text c ≡ before ++ (e.old ++ e.behind) → p ≡ place_edit (length piece) f → whole ≡ cut_text c → EditFound (Some (flow_segments (cut_text c) e)) whole (moved_on start p) e.written
   place_found e f before whole p same within bounds text is all =
-      let moved : moved_on n p ≡ place_edit (length (cut_text c)) e = ap (moved_on n) is ∙ sym (place_of (cut_text c) w row n h e f same within) in
+      let moved : moved_on start p ≡ place_edit (length (cut_text c)) e = ap (moved_on start) is ∙ sym (place_of e f same within) in
       record {
-        lies = subst (λ (l : List ℕ). LiesIn l (moved_on n p)) (sym all) (bounds_lie c e (moved_on n p) read bounds moved);
+        lies = subst (λ (l : List ℕ). LiesIn l (moved_on start p)) (sym all) (bounds_lie c e (moved_on start p) h.read bounds moved);
         is = ap Some (sym (segments_at (cut_text c) before e text) ∙ (λ i. edit_segments (sym all i) (sym moved i) e.written));
+      }
+
+-- a node in front, how many bytes come before it, and steps in it
+abbrev pub Front : Type 0
+Front = NodeInFront × ℕ × Bor (List declared.Step)
+
+-- the collection to which these lead
+abbrev pub front_coll : Front → Option CollPieces
+front_coll x = coll_read (map tree_step x.2.now) (front_read x.0)
+
+-- Steps lead to the flow collection at a path in a node in front.
+module _ (t : List ℕ) (n : ℕ) (steps : List Step) (x : Front) (w : IsFlowFront t n steps x) where
+  abbrev ss : List Step
+  ss = map tree_step x.2.now
+
+  -- the collection in the row
+  in_row : front_coll x ≡ coll_along ss w.front.head.node w.front.head.rest
+  in_row = ap (coll_read ss) w.front.read
+
+  pub all_is : flow_collection n steps (cut_of t) ≡ option_map (with_more w.behind) (front_coll x)
+  all_is = w.found ∙ (content_more ss w.row.content w.behind ∙ ap (option_map (with_more w.behind)) (w.front.head.flow ss ∙ sym in_row))
+
+  abbrev pub at_front : CollPieces → CollAt
+  at_front z = record { place = Block; indent = parent_indent w.row; around = 0; node = w.front.head.node; rest = w.front.head.rest; steps = ss; coll = z }
+
+  pub piece_found : read_at t ≡ Some (cut_of t) → (z : CollPieces) → front_coll x ≡ Some z → PieceFound (cut_of t) n steps x.0.text.now x.1 w.behind (at_front z)
+  piece_found read z there =
+      let found = sym in_row ∙ there in
+      let same = sym (text_read t (cut_of t) read) in
+      record {
+        read = subst (λ (u : List ℕ). read_at u ≡ Some (cut_of t)) same read;
+        front = take x.1 t;
+        text = sym same ∙ w.front.stands;
+        start_is = w.front.begins;
+        found = all_is ∙ ap (option_map (with_more w.behind)) there;
+        stands = record { inline = record { valid = w.front.head.valid; something = some_node ss w.front.head.node w.front.head.rest z found }; found = found };
+        node_is = w.front.text;
       }

@@ -7,18 +7,19 @@ use Rattle.yq_core.{specs.Paths.Step, specs.declared.style.Place.TheVariants.Flo
 use Rattle.yq_core.specs.Entries.{EntryPieces, PlacedEntry, entry_pieces_at, item_at, locate_entry, flow_part_at, parts_of, placed_entry_at}
 use Rattle.yq_core.{specs.Nodes.{bare, coll, node_text}, specs.Places.{Placed, placed, locate}, specs.Trees.placed_tree}
 use Rattle.yq_core.{specs.NodesWritten.flow_of, proofs.PathLaws.path_places, proofs.TreeLaws.node_tree}
-use Rattle.yq_flow_edits.{specs.FlowEdits.{FlowEdit, replacing}, specs.FlowPlaces.{edit_view, place_edit, replace_place}}
+use Rattle.yq_flow_edits.{specs.FlowEdits.{FlowEdit, replacing}, specs.FlowPlaces.{PlacedEdit, edit_view, place_edit, replace_place}}
 use Rattle.yq_flow_edits.specs.declared.flow_place.EditPlace.{EditPlace}
 use Rattle.yq_row_table.specs.Rows.{Cut, cut_text}
 use Rattle.yq_places.{specs.FlowViews.{behind_anchor, placed_collection}, specs.NodesAt.node_in}
 use Rattle.yq_places.{specs.Standings.{FlowPart, flow_standing, last_step}, specs.declared.places.flow_node.FlowHead.FlowHead}
+use Rattle.yq_places.proofs.FlowNodeLaws.{entry_more}
 use Rattle.yq_edit_rules.{specs.FlowParts.flow_value, specs.Replacing.keeps_scalar, specs.WrittenValues.value_text}
 use Rattle.yq_text.specs.Script.{keep}
 use Rattle.yq_edit_laws.specs.EditPlaces.{edit_segments}
-use Rattle.yq_edit_laws.specs.PartPuts.{ArePuts, IsPlaceOf, IsWrittenFor, IsWrittenPart, PutsInNode, part_put, part_replaced, place_after}
-use Rattle.yq_edit_laws.{specs.PartPuts.put_edit, specs.declared.put.PartPut.PartPut}
+use Rattle.yq_edit_laws.specs.PartPuts.{IsPlaceOf, IsValuePut, IsWrittenFor, IsWrittenIn, IsWrittenPart, part_put, part_replaced}
+use Rattle.yq_edit_laws.specs.PartPuts.{place_after, put_edit}
 use Rattle.yq_edit_laws.proofs.FlowAnswers.{CollFound, edit_lies, edit_moved, entry_found, part_in, segments_at, standing_is}
-use Rattle.yq_edit_laws.{proofs.FlowHeads.{replace_found, replaced_within, whole_is}, proofs.FlowLonger.{edit_more, entry_more}}
+use Rattle.yq_edit_laws.{proofs.FlowHeads.{replace_found, replaced_within, whole_is}, proofs.FlowLonger.edit_more}
 use Rattle.yq_edit_laws.{proofs.FlowPartNodes.part_node, proofs.FlowPutLaws.{bounds, e, m, there}, proofs.FlowStandings.EntryAt}
 use Rattle.yq_edit_laws.proofs.FlowWholeLaws.{StandsBefore, replaced_stands}
 use Rattle.yq_core.specs.Tree as tree
@@ -135,9 +136,10 @@ module _ (c : Cut) (n : ℕ) (path init : List Step) (s : Step) (x : FlowHead) (
           ∙ (ap (λ (l : List ℕ). value_text InFlow l v) (old_at row stood.before alone stood.text) ∙ value_is edit.old v)
 
     -- so what the code puts there is what is put at the part
-    pub puts_found : (v : tree.Node) (r : PartPut) → PutsInNode row p.1 v r → ArePuts n path v c x.before (Some r)
-    puts_found v r h =
-        (z, standing_there, place_found v r.place h.place, written_found (node_in n path c) v z _ _ (ap (λ (m : Option tree.Node). keeps_scalar m v) node_there) (text_found v r.place h.place) r.written h.written)
+    pub puts_found : (v : tree.Node) (r : EditPlace) (o : Option (String Global)) → edit_view r ≡ replace_place p.1 → IsWrittenIn row p.1 v o → IsValuePut n path v c (place_after x.before r) o
+    puts_found v r o place h =
+        let text = (λ i. value_text InFlow (drop (sym place i).start (take (sym place i).end row)) v) ∙ text_found v r place in
+        (z, standing_there, place_found v r place, written_found (node_in n path c) v z _ _ (ap (λ (m : Option tree.Node). keeps_scalar m v) node_there) text o h)
 
 -- ---- no collection
 
@@ -146,14 +148,14 @@ module _ (c : Cut) (n : ℕ) (path init : List Step) (s : Step) (x : FlowHead) (
 pub puts_none : (n : ℕ) (path : List Step) (v : tree.Node) (c : Cut) → flow_standing n c (last_step path) ≡ None → part_replaced n path v c ≡ None
 puts_none n path v c none = ap (option_map (part_put (cut_text c) (keeps_scalar (node_in n path c) v) v)) none
 
-pub puts_written : (n : ℕ) (path : List Step) (v : tree.Node) (c : Cut) (before : ℕ) (p : PartPut) (written : String Global) (whole : List ℕ) → p.written ≡ Some written → whole ≡ cut_text c → ArePuts n path v c before (Some p) →
-    part_replaced n path v c ≡ Some (edit_segments whole (place_after before p.place) (string_bytes written))
-puts_written n path v c before p written whole some all h =
+pub puts_written : (n : ℕ) (path : List Step) (v : tree.Node) (c : Cut) (place : PlacedEdit) (o : Option (String Global)) (written : String Global) (whole : List ℕ) → o ≡ Some written → whole ≡ cut_text c → IsValuePut n path v c place o →
+    part_replaced n path v c ≡ Some (edit_segments whole place (string_bytes written))
+puts_written n path v c place o written whole some all h =
     let t : List ℕ = cut_text c in
     let w = h.2 in
     let k = subst (IsWrittenPart (node_in n path c) v h.0) some h.3 in
     (λ i. option_map (part_put t (k.0 i) v) (h.1 i))
     ∙ ap Some (sym (segments_at t w.before (put_edit v h.0) w.text) ∙ (λ i. edit_segments (sym all i) (sym w.place_is i) (sym k.1 i)))
 
-pub puts_kept : (n : ℕ) (path : List Step) (v : tree.Node) (c : Cut) (before : ℕ) (p : PartPut) → p.written ≡ None → ArePuts n path v c before (Some p) → part_replaced n path v c ≡ Some (keep (cut_text c) ∷ [])
-puts_kept n path v c before p h6 h = search rules
+pub puts_kept : (n : ℕ) (path : List Step) (v : tree.Node) (c : Cut) (place : PlacedEdit) (o : Option (String Global)) → o ≡ None → IsValuePut n path v c place o → part_replaced n path v c ≡ Some (keep (cut_text c) ∷ [])
+puts_kept n path v c place o h6 h = search rules

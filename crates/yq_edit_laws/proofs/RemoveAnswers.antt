@@ -1,37 +1,22 @@
 -- What removing from a flow collection comes to, by what the code finds.
-use Rattle.std.proofs.Common.{rules, ◌≡◌, ℕ, List, [], length, Option, Some, None, option_map, sym, ap, ◌∙◌, subst, refl}
+use Rattle.std.proofs.Common.{rules, ◌≡◌, ℕ, List, [], length, Option, Some, None, option_map, sym, ap, ◌∙◌, refl}
 use Rattle.std.proofs.lemmas.Option.{none-some, same_Some}
-use Rattle.yq_core.{specs.Answers.◌>>=◌, specs.Paths.{Step, further}, specs.Collections.CollPieces}
-use Rattle.yq_core.specs.Nodes.{FlowNode, Items, Key, Sep, item, none}
-use Rattle.yq_flow_edits.{specs.FlowEdits.FlowEdit, specs.FlowPlaces.{PlacedEdit, place_edit, remove_between}}
+use Rattle.yq_core.{specs.Answers.◌>>=◌, specs.Paths.{Step, further}, specs.Collections.{CollAt, CollPieces}}
+use Rattle.yq_core.{specs.Nodes.{FlowNode, Items, Key, Sep, item, none}, proofs.Bools.bind_some}
+use Rattle.yq_flow_edits.{specs.FlowEdits.FlowEdit, specs.FlowPlaces.{PlacedEdit, place_edit}}
 use Rattle.yq_flow_edits.specs.Removals.{gap_of, last_out, removing, removing_from}
-use Rattle.yq_inline.specs.Neighbours.{PartTexts, around_part, first_ends}
+use Rattle.yq_inline.specs.Neighbours.{PartTexts, PartsAround, around_part, around_view, coll_around, first_ends}
+use Rattle.yq_inline.specs.declared.neighbours.Neighbours.{Neighbours}
+use Rattle.yq_text.specs.Script.{Segment}
 use Rattle.yq_row_table.specs.Rows.{Cut, cut_text}
 use Rattle.yq_documents.specs.Reading.{cut_of, read_at}
-use Rattle.yq_places.{specs.FlowNodes.flow_collection, specs.Standings.last_step}
-use Rattle.yq_lookup.specs.FlowEnds.{AreFlowNeighbours, IsInPiece, NeighboursAgree}
-use Rattle.yq_lookup.specs.declared.flow_ends.FlowNeighbours.{FlowNeighbours}
+use Rattle.yq_places.{specs.FlowNodes.flow_collection, specs.Standings.last_step, proofs.FlowNodeLaws.with_more}
+use Rattle.yq_lookup.specs.RowFronts.{IsFlowFront}
 use Rattle.yq_edit_rules.{specs.Edits.part_removed, specs.FlowParts.{flow_removed, flow_segments}}
-use Rattle.yq_edit_laws.{specs.EditPlaces.{edit_segments, moved_on}, proofs.CutLaws.text_read, proofs.FlowAnswers.EditFound}
-use Rattle.yq_edit_laws.{proofs.FlowHeads.removed_within, proofs.FlowLonger.{edit_more, removing_more}}
-use Rattle.yq_edit_laws.{proofs.NeighbourPlaces.{around_gone, remove_around}, proofs.PiecePlaces.{place_found, whole_of}}
+use Rattle.yq_edit_laws.{specs.EditPlaces.{edit_segments, moved_on, remove_around}, proofs.FlowAnswers.EditFound}
+use Rattle.yq_edit_laws.{proofs.FlowHeads.removed_within, proofs.FlowLonger.{edit_more, removing_more}, proofs.NeighbourPlaces.around_gone}
+use Rattle.yq_edit_laws.proofs.PiecePlaces.{Front, PieceFound, all_is, at_front, front_coll, piece_found, place_found}
 use Rattle.yq_edit_laws.proofs.FlowRemoveLaws.{bounds, bytes, texts}
-
--- The code finds the item or entry to which a step leads in the flow collection at a path, with those next to it.
-pub record PartFound (c : Cut) (n : ℕ) (steps : List Step) (s : Step) (x : FlowNeighbours) : Type 0 where
-  pub read : read_at (cut_text c) ≡ Some c
-  pub coll : CollPieces
-  pub found : flow_collection n steps c ≡ Some coll
-  pub agrees : AreFlowNeighbours (cut_text c) coll s x
-
-pub part_found : (t : List ℕ) (n : ℕ) (steps : List Step) (s : Step) (x : FlowNeighbours) → read_at t ≡ Some (cut_of t) → NeighboursAgree t s (flow_collection n steps (cut_of t)) (Some x) → PartFound (cut_of t) n steps s x
-part_found t n steps s x read agrees =
-    let same = sym (text_read t (cut_of t) read) in
-    go (subst (λ (u : List ℕ). read_at u ≡ Some (cut_of t)) same read) (flow_collection n steps (cut_of t)) refl (subst (λ (u : List ℕ). NeighboursAgree u s (flow_collection n steps (cut_of t)) (Some x)) same agrees)
-  where
-    go : read_at (cut_text (cut_of t)) ≡ Some (cut_of t) → (o : Option CollPieces) → flow_collection n steps (cut_of t) ≡ o → NeighboursAgree (cut_text (cut_of t)) s o (Some x) → PartFound (cut_of t) n steps s x
-    go read None found agrees = absurd agrees
-    go read (Some w) found agrees = record { read = read; coll = w; found = found; agrees = agrees }
 
 -- nothing goes where no item or entry is
 last_kept : (k : ℕ) (s : Step) (o : Option PartTexts) (g : List ℕ) (key : Key) (n : FlowNode) (sep : Sep) (is : Items) (rest : List ℕ) → around_part k s o is rest ≡ None → last_out k rest s g key n sep is ≡ None
@@ -42,48 +27,72 @@ none_gone k s o g none rest absent = refl
 none_gone k s o g (item key n sep is) rest absent =
     search (rules, last_kept, none_gone k (further s) (Some (first_ends k key n sep is rest)) (gap_of sep) is rest)
 
-pub no_part : (t : List ℕ) (n : ℕ) (c : Cut) (path init : List Step) (s : Step) → Some (init, s) ≡ last_step path → NeighboursAgree t s (flow_collection n init c) None → part_removed n c (last_step path) ≡ None
-no_part t n c path init s last agrees = search (rules, none_gone)
+-- The collection in which a path ends.
+module _ (t : List ℕ) (n : ℕ) (path init : List Step) (s : Step) (last : Some (init, s) ≡ last_step path) where
+  abbrev c : Cut
+  c = cut_of t
 
--- The collection in which a path ends is found.
-module _ (c : Cut) (n : ℕ) (path init : List Step) (s : Step) (x : FlowNeighbours) (last : Some (init, s) ≡ last_step path) (f : PartFound c n init s x) where
-  abbrev place : IsInPiece (cut_text c) f.coll x.text.now x.before
-  place = f.agrees.place
+  abbrev gone : Option (List Segment)
+  gone = part_removed n c (last_step path)
 
-  abbrev own : CollPieces
-  own = place.at.coll
+  gone_is : gone ≡ (flow_collection n init c >>= flow_removed (cut_text c) s)
+  gone_is = ap (part_removed n c) (sym last)
 
-  abbrev row : List ℕ
-  row = x.text.now
+  pub no_collection : flow_collection n init c ≡ None → gone ≡ None
+  no_collection absent = gone_is ∙ ap (λ (o : Option CollPieces). o >>= flow_removed (cut_text c) s) absent
 
-  place_is : remove_between row x.last x.start x.end x.next ≡ option_map (place_edit (length row)) (removing s own)
-  place_is =
-      ap (λ o. o >>= remove_around row) f.agrees.around ∙ around_gone place.at place.stands row place.node_is s
+  module _ (x : Front) (w : IsFlowFront t n init x) where
+    abbrev row : List ℕ
+    row = x.0.text.now
 
-  all_is : removing s f.coll ≡ option_map (edit_more place.behind) (removing s own)
-  all_is = ap (removing s) (whole_of (cut_text c) f.coll row x.before place) ∙ removing_more own.close s own.gap own.items own.rest place.behind
+    -- what goes is what goes in the piece
+    out_is : (z : CollPieces) → removing s (with_more w.behind z) ≡ option_map (edit_more w.behind) (removing s z)
+    out_is z = removing_more z.close s z.gap z.items z.rest w.behind
 
-  part_is : part_removed n c (last_step path) ≡ option_map (flow_segments (cut_text c)) (removing s f.coll)
-  part_is = ap (part_removed n c) (sym last) ∙ ap (λ (o : Option CollPieces). o >>= flow_removed (cut_text c) s) f.found
+    part_is : (z : CollPieces) → front_coll x ≡ Some z → gone ≡ option_map (flow_segments (cut_text c)) (removing s (with_more w.behind z))
+    part_is z there = gone_is ∙ ap (λ (o : Option CollPieces). o >>= flow_removed (cut_text c) s) (all_is t n init x w ∙ ap (option_map (with_more w.behind)) there)
 
-  pub removal_found : (whole : List ℕ) (p : PlacedEdit) → whole ≡ cut_text c → Some p ≡ remove_between row x.last x.start x.end x.next → EditFound (part_removed n c (last_step path)) whole (moved_on x.before p) []
-  removal_found whole p all is = go (removing s own) refl
-    where
-      go : (o : Option FlowEdit) → removing s own ≡ o → EditFound (part_removed n c (last_step path)) whole (moved_on x.before p) []
-      go None at = absurd (none-some _ (sym (is ∙ (place_is ∙ ap (option_map (place_edit (length row))) at))))
-      go (Some e) at =
-          let gone : removing s f.coll ≡ Some (edit_more place.behind e) = all_is ∙ ap (option_map (edit_more place.behind)) at in
-          let b = texts c n path init s f.coll (edit_more place.behind e) f.read (sym last) f.found gone in
-          let w =
-          place_found c f.coll row x.before f.read place (edit_more place.behind e) e b.before whole p refl (removed_within place.at place.stands s e at)
-          (bounds c n path init s f.coll (edit_more place.behind e) f.read (sym last) f.found gone) b.old (same_Some _ _ (is ∙ (place_is ∙ ap (option_map (place_edit (length row))) at))) all in
-          record {
-            lies = w.lies;
-            is =
-                part_is
-                ∙ (ap (option_map (flow_segments (cut_text c))) gone
-                ∙ (w.is ∙ ap (λ (l : List ℕ). Some (edit_segments whole (moved_on x.before p) l)) (bytes c n path init s f.coll (edit_more place.behind e) f.read (sym last) f.found gone).none_written));
-          }
+    pub no_part : None ≡ (front_coll x >>= coll_around s) → gone ≡ None
+    no_part e = go (front_coll x) refl e
+      where
+        go : (o : Option CollPieces) → front_coll x ≡ o → None ≡ (o >>= coll_around s) → gone ≡ None
+        go None there e = no_collection (all_is t n init x w ∙ ap (option_map (with_more w.behind)) there)
+        go (Some z) there e = search (rules, part_is z there, out_is z, none_gone z.close s None z.gap z.items z.rest)
 
-  pub removal_missing : None ≡ remove_between row x.last x.start x.end x.next → part_removed n c (last_step path) ≡ None
-  removal_missing is = search (rules, part_is, all_is, edit_more, none-some, place_is)
+    module _ (read : read_at t ≡ Some c) (y : Neighbours) (is : Some (around_view y) ≡ (front_coll x >>= coll_around s)) where
+      abbrev z : (z : CollPieces) × (front_coll x ≡ Some z) × (coll_around s z ≡ Some (around_view y))
+      z = bind_some (front_coll x) (sym is)
+
+      abbrev coll : CollPieces
+      coll = with_more w.behind z.0
+
+      abbrev at : CollAt
+      at = at_front t n init x w z.0
+
+      abbrev f : PieceFound c n init row x.1 w.behind at
+      f = piece_found t n init x w read z.0 z.1
+
+      place_is : remove_around row (around_view y) ≡ option_map (place_edit (length row)) (removing s z.0)
+      place_is = ap (λ (o : Option PartsAround). o >>= remove_around row) (sym z.2) ∙ around_gone at f.stands row f.node_is s
+
+      pub removal_found : (whole : List ℕ) (p : PlacedEdit) → whole ≡ cut_text c → Some p ≡ remove_around row (around_view y) → EditFound gone whole (moved_on x.1 p) []
+      removal_found whole p all is = go (removing s z.0) refl
+        where
+          go : (o : Option FlowEdit) → removing s z.0 ≡ o → EditFound gone whole (moved_on x.1 p) []
+          go None apart = absurd (none-some _ (sym (is ∙ (place_is ∙ ap (option_map (place_edit (length row))) apart))))
+          go (Some e) one =
+              let out : removing s coll ≡ Some (edit_more w.behind e) = out_is z.0 ∙ ap (option_map (edit_more w.behind)) one in
+              let b = texts c n path init s coll (edit_more w.behind e) f.read (sym last) f.found out in
+              let u =
+              place_found c n init row x.1 w.behind at f (edit_more w.behind e) e b.before whole p refl (removed_within at f.stands s e one)
+              (bounds c n path init s coll (edit_more w.behind e) f.read (sym last) f.found out) b.old (same_Some _ _ (is ∙ (place_is ∙ ap (option_map (place_edit (length row))) one))) all in
+              record {
+                lies = u.lies;
+                is =
+                    part_is z.0 z.1
+                    ∙ (ap (option_map (flow_segments (cut_text c))) out
+                    ∙ (u.is ∙ ap (λ (l : List ℕ). Some (edit_segments whole (moved_on x.1 p) l)) (bytes c n path init s coll (edit_more w.behind e) f.read (sym last) f.found out).none_written));
+              }
+
+      pub removal_missing : None ≡ remove_around row (around_view y) → gone ≡ None
+      removal_missing is = search (rules, part_is z.0 z.1, out_is z.0, edit_more, none-some, place_is)

@@ -1,9 +1,10 @@
 -- Where flow collections of a text are edited, by places in bytes (YAML 1.2.2, 7.4; own).
-use Rattle.std.specs.Prelude.{ℕ, ◌+◌, ◌≤◌, ◌<◌, ◌^◌, List, [], ◌∷◌, drop, length, take, Option, is_some, Bool, false, not, if◌then◌else◌}
-use Rattle.std.specs.Str.{IsCharBoundary}
+use Rattle.std.specs.Prelude.{ℕ, ◌+◌, ◌-◌, ◌≤◌, ◌<◌, ◌^◌, List, [], ◌∷◌, drop, length, take, Option, is_some, option_map, Bool, false, not}
+use Rattle.std.{specs.Prelude.if◌then◌else◌, specs.Str.IsCharBoundary}
 use Rattle.yq_core.{specs.Answers.◌>>=◌, specs.Paths.Step, specs.Tree.Node}
 use Rattle.yq_core.specs.Places.{CoreNode, nothing, name, text, sequence, mapping, Placed, placed}
-use Rattle.yq_flow_edits.specs.FlowPlaces.{PlacedEdit}
+use Rattle.yq_flow_edits.specs.FlowPlaces.{PlacedEdit, remove_between}
+use Rattle.yq_inline.specs.Neighbours.{PartTexts, PartsAround}
 use Rattle.yq_row_table.specs.Rows.{Cut, cut_text}
 use Rattle.yq_places.specs.FlowNodes.{flow_collection}
 use Rattle.yq_text.specs.Script.{Segment, keep, put}
@@ -21,6 +22,16 @@ moved_on n p = record { start = n + p.start; end = n + p.end; lead = p.lead }
 -- where one more item or entry is written, by whether there is another one, and where the last one ends, or the bracket if there is none
 abbrev pub end_place : Bool → ℕ → PlacedEdit
 end_place some at = record { start = at; end = at; lead = if some then 44 ∷ (32 ∷ []) else [] }
+
+-- where an item or entry begins and ends in a text so long
+abbrev pub placed_ends : ℕ → PartTexts → ℕ × ℕ
+placed_ends total e = (total - length e.0, total - length e.1)
+
+-- what goes with an item or entry of a text, by those next to it
+abbrev pub remove_around : List ℕ → PartsAround → Option PlacedEdit
+remove_around t x =
+    let total = length t in
+    remove_between t (option_map (placed_ends total) x.before) (total - length x.here.0) (total - length x.here.1) (option_map (λ (l : List ℕ). total - length l) x.next)
 
 -- A place lies in a text, between characters.
 pub record LiesIn (t : List ℕ) (p : PlacedEdit) : Type 0 where

@@ -12,7 +12,7 @@ use Rattle.yq_places.{specs.FlowNodes.flow_collection, specs.NodesAt.node_in, sp
 use Rattle.yq_text.specs.Script.{Segment, keep}
 use Rattle.yq_edit_rules.{specs.FlowParts.{content_written, flow_more, flow_put, flow_value, takes_key}, specs.Replacing.keeps_scalar}
 use Rattle.yq_edit_rules.specs.WrittenValues.{value_text}
-use Rattle.yq_edit_laws.{specs.EditPlaces.{LiesIn, moved_on, placed_takes}, specs.declared.put.PartPut.PartPut}
+use Rattle.yq_edit_laws.specs.EditPlaces.{LiesIn, moved_on, placed_takes}
 
 -- a value put in the place of the content of a part, unless that is kept
 abbrev pub part_put : List ℕ → (kept : Bool) → Node → FlowPart → List Segment
@@ -46,21 +46,20 @@ abbrev pub IsWrittenPart : Option Node → Node → FlowPart → Option (String 
 IsWrittenPart old v z None = keeps_scalar old v ≡ true
 IsWrittenPart old v z (Some s) = (keeps_scalar old v ≡ false) × (string_bytes s ≡ (put_edit v z).written)
 
--- the edits that put a value at the part where steps lead in document n, in a head after so many bytes; none, where there is no part
-abbrev pub ArePuts : ℕ → List Step → Node → Cut → ℕ → Option PartPut → Type 0
-ArePuts n steps v c before None = flow_standing n c (last_step steps) ≡ None
-ArePuts n steps v c before (Some p) =
-    (z : FlowPart) × (flow_standing n c (last_step steps) ≡ Some z) × IsPlaceOf (cut_text c) v z (place_after before p.place) × IsWrittenPart (node_in n steps c) v z p.written
+-- a value is put at this place, at the part where steps lead in document n, and this is written
+abbrev pub IsValuePut : ℕ → List Step → Node → Cut → PlacedEdit → Option (String Global) → Type 0
+IsValuePut n steps v c place written =
+    (z : FlowPart) × (flow_standing n c (last_step steps) ≡ Some z) × IsPlaceOf (cut_text c) v z place × IsWrittenPart (node_in n steps c) v z written
 
 -- what is written in the place of a content: nothing, if it is kept
 abbrev pub IsWrittenFor : (kept : Bool) → List ℕ → Option (String Global) → Type 0
 IsWrittenFor kept new None = kept ≡ true
 IsWrittenFor kept new (Some s) = (kept ≡ false) × (string_bytes s ≡ new)
 
--- The edit that puts a value in the place of the content of a node, with its places in a text.
-pub record PutsInNode (t : List ℕ) (q : Placed) (v : Node) (p : PartPut) : Type 0 where
-  pub place : edit_view p.place ≡ replace_place q
-  pub written : IsWrittenFor (keeps_scalar (Some (placed_tree q)) v) (value_text InFlow (drop p.place.start (take p.place.end t)) v) p.written
+-- what is written of a value in the place of the content of a node, with its places in a text
+abbrev pub IsWrittenIn : List ℕ → Placed → Node → Option (String Global) → Type 0
+IsWrittenIn t q v written =
+    let place = replace_place q in IsWrittenFor (keeps_scalar (Some (placed_tree q)) v) (value_text InFlow (drop place.start (take place.end t)) v) written
 
 -- a part is in document n of a cut, in the collection to which steps lead, at one more step (7.4; own)
 abbrev pub IsPartOf : Cut → ℕ → List Step → Step → EntryPieces → Type 0

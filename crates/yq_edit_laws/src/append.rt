@@ -1,5 +1,5 @@
 //! Items and entries put into flow collections.
-ghost use Rattle.std.specs.Prelude.{◌≡◌, IfOk, string_bytes};
+ghost use Rattle.std.specs.Prelude.{◌≡◌, ◌-◌, IfOk, length, string_bytes};
 ghost use Rattle.yq_core.{specs.Nodes.key_text, specs.Values.value_node, specs.View.inline_view, specs.NodesWritten.{flow_key, flow_text}};
 ghost use Rattle.yq_flow_edits.specs.FlowPlaces.{edit_view};
 ghost use Rattle.yq_outline.specs.Bodies.{borrowed};
@@ -8,12 +8,13 @@ ghost use Rattle.yq_edit_rules.specs.Answers.{GivesSegments};
 ghost use Rattle.yq_edit_laws.specs.EditPlaces as spec;
 ghost use Rattle.yq_edit_laws.specs.PartPuts as puts;
 
-use crate::edit::edit_at;
+use crate::edit::{edit_at, place_in};
 use std::alloc::{AllocError, Global};
 use yq_core::{Form, Inline, Value};
 use yq_documents::Path;
 use yq_flow_edits::{EditPlace, append_place, write_entry, write_inline};
-use yq_lookup::{CutText, FlowEnd};
+use yq_inline::{CollectionEnd, collection_end};
+use yq_lookup::CutText;
 use yq_text::Segments;
 
 /// Whether a node takes an entry of a key, or an item.
@@ -70,13 +71,15 @@ fn takes_in(keyed: bool, key: Option<&str>) -> bool
     if keyed { key.is_some() } else { key.is_none() }
 }
 
-/// Where one more item or entry of a flow collection is written, in the piece of the text.
-fn more_place(end: &FlowEnd<'_>) -> EditPlace
-    ensures { edit_view result ≡ spec.end_place end.now.some end.now.at }
+/// Where one more item or entry of a flow collection in a piece of a text is written.
+fn more_place(piece: &str, end: CollectionEnd<'_>) -> EditPlace
+    ensures { edit_view result ≡
+        spec.end_place end.entry.some (length piece.now - length end.entry.rest.now) }
 {
+    let at = place_in(piece.len(), end.rest);
     EditPlace {
-        start: end.at,
-        end: end.at,
+        start: at,
+        end: at,
         lead: if end.some { ", " } else { "" },
     }
 }
@@ -96,7 +99,10 @@ pub fn append_in_flow<'d>(
     ensures { GivesSegments result (spec.appended_in_flow path.now.doc (steps_of path.now)
         (borrowed key.entry) (value_node value.now) (cut_of cut.now)) }
 {
-    let Some(end) = cut.flow_end(path.doc, &path.steps) else {
+    let Some((front, before, left)) = cut.flow_front(path.doc, &path.steps) else {
+        return Ok(None);
+    };
+    let Some(end) = collection_end(front, left) else {
         return Ok(None);
     };
     if !takes_in(end.keyed, key) {
@@ -104,5 +110,5 @@ pub fn append_in_flow<'d>(
     }
     let text = cut.text();
     let written = entry_text(alloc, key, value)?;
-    edit_at(alloc, text, end.before, more_place(&end), written)
+    edit_at(alloc, text, before, more_place(front.text, end), written)
 }

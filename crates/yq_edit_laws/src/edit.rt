@@ -1,5 +1,5 @@
 //! Edits of flow collections, by their places in the text.
-ghost use Rattle.std.specs.Prelude.{◌≡◌, ◌∷◌, IfOk, [], Some, drop, map, option_map, string_bytes, take};
+ghost use Rattle.std.specs.Prelude.{◌≡◌, ◌∷◌, ◌-◌, IfOk, [], Some, drop, length, map, option_map, string_bytes, take};
 ghost use Rattle.yq_text.{specs.Halves.whole, specs.Script.keep};
 ghost use Rattle.yq_core.specs.Entries.{tree_step};
 ghost use Rattle.yq_flow_edits.specs.FlowPlaces.{edit_view};
@@ -58,6 +58,13 @@ pub(crate) fn edit_at<'d>(
         Segment::Keep(behind),
     ]?;
     Ok(Some(Segments::new(segments)))
+}
+
+/// Where this text begins in one so long that ends with it.
+pub(crate) fn place_in(total: usize, text: &str) -> usize
+    ensures { result ≡ total - length text.now }
+{
+    total.saturating_sub(text.len())
 }
 
 /// What is at the place of an edit.

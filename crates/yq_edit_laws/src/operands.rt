@@ -1,35 +1,20 @@
-//! Operands of operations: that the values, keys and texts that the code holds
-//! are valid.
-ghost use Rattle.std.specs.Prelude.{option_map, string_bytes};
+//! Operands of operations: that the values that the code holds are valid.
 ghost use Rattle.yq_semantics.specs.Operations.{operation_of, operations_of};
-ghost use Rattle.yq_edit_rules.specs.Operands.{HasOperand, KeyIsUtf8};
+ghost use Rattle.yq_edit_rules.specs.Operands.{HasOperand};
 ghost use Rattle.yq_edit_laws.specs.Valid.{HaveOperands};
 
-use yq_flow_edits::{text_holds, value_holds};
+use yq_flow_edits::value_holds;
 use yq_semantics::Op;
 
-fn key_holds(key: &Option<String>)
-    ensures { KeyIsUtf8 (option_map string_bytes key.now) }
-{
-    match key {
-        Some(text) => text_holds(text),
-        None => {}
-    }
-}
-
 /// The operand of an operation is valid, as each is that the code holds.
+#[tactic(auto, using(crate::proofs::OperandLaws::key_valid, crate::proofs::OperandLaws::text_valid))]
 pub fn operand_holds(op: &Op)
     ensures { HasOperand (operation_of op.now) }
 {
     match op {
         Op::Replace(_, value) => value_holds(value),
-        Op::Append(_, key, value) => {
-            key_holds(key);
-            value_holds(value);
-        }
-        Op::Remove(_) => {}
-        Op::LineComment(_, text) => text_holds(text),
-        Op::HeadComment(_, text) => text_holds(text),
+        Op::Append(_, _, value) => value_holds(value),
+        Op::Remove(_) | Op::LineComment(_, _) | Op::HeadComment(_, _) => {}
     }
 }
 

@@ -11,19 +11,9 @@ use std::alloc::{AllocError, Global};
 use yq_core::{Form, Inline, Kind, Place, Value};
 use yq_documents::Path;
 use yq_edit_rules::value_text;
-use yq_flow_edits::{EditPlace, replace_place};
+use yq_flow_edits::replace_place;
 use yq_lookup::CutText;
 use yq_text::Segments;
-
-/// The edit that puts a value in the place of a content.
-#[derive(Drop)]
-pub struct PartPut {
-    /// The place, in the text that begins with the node in the head.
-    pub place: EditPlace,
-    /// What is written there; nothing, where the value is the scalar that is there, so that all bytes
-    /// stay.
-    pub written: Option<String>,
-}
 
 /// Whether a value is a scalar of that kind and that text.
 fn is_scalar(kind: Kind, text: &str, value: &Value) -> bool
@@ -49,8 +39,8 @@ fn is_same_node(node: &Inline<'_>, value: &Value) -> bool
     }
 }
 
-/// The edit that puts a value in the place of the content of a node, after its anchor; the text begins with
-/// the node in the head in which that is.
+/// What is written of a value in the place of the content of a node, after its anchor; nothing, where it is the
+/// scalar that is there, so that all bytes stay. The text begins with the node in the head in which that is.
 ///
 /// # Errors
 /// [`AllocError`] where memory is refused.
@@ -59,21 +49,15 @@ pub fn put_in_node(
     text: &str,
     node: &Inline<'_>,
     value: &Value,
-) -> Result<PartPut, AllocError>
-    ensures { IfOk result (spec.PutsInNode text.now (inline_view node.now) (value_node value.now)) }
+) -> Result<Option<String>, AllocError>
+    ensures { IfOk result (spec.IsWrittenIn text.now (inline_view node.now) (value_node value.now)) }
 {
-    let place = replace_place(node);
     if is_same_node(node, value) {
-        return Ok(PartPut {
-            place,
-            written: None,
-        });
+        return Ok(None);
     }
+    let place = replace_place(node);
     let written = value_text(alloc, Place::Flow, bytes_at(text, place), value)?;
-    Ok(PartPut {
-        place,
-        written: Some(written),
-    })
+    Ok(Some(written))
 }
 
 /// A value put in the place of the content of an item or entry of a flow collection, after its
@@ -100,8 +84,8 @@ pub fn put_in_flow<'d>(
     };
     let text = cut.text();
     let put = put_in_node(alloc, part.text, &part.node, value)?;
-    let PartPut { place, written } = put;
-    match written {
+    let place = replace_place(&part.node);
+    match put {
         Some(written) => edit_at(alloc, text, before, place, written),
         None => Ok(Some(unchanged(alloc, cut)?)),
     }

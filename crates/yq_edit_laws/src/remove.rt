@@ -1,14 +1,51 @@
 //! Items and entries removed from flow collections.
+ghost use Rattle.std.specs.Prelude.{◌≡◌, ◌-◌, length, option_map};
+ghost use Rattle.yq_flow_edits.specs.FlowPlaces.{edit_view};
 ghost use Rattle.yq_documents.{specs.Located.steps_of, specs.Reading.cut_of};
 ghost use Rattle.yq_edit_rules.{specs.Answers.GivesSegments, specs.Edits.part_removed};
+ghost use Rattle.yq_inline.specs.Neighbours as inline;
 ghost use Rattle.yq_places.specs.Standings as standings;
+ghost use Rattle.yq_edit_laws.specs.EditPlaces as spec;
 
-use crate::edit::{edit_at, last_step};
+use crate::edit::{edit_at, last_step, place_in};
 use std::alloc::{AllocError, Global};
 use yq_documents::Path;
-use yq_flow_edits::remove_between;
+use yq_flow_edits::{EditPlace, remove_between};
+use yq_inline::{Neighbours, PassedPart, part_neighbours};
 use yq_lookup::CutText;
 use yq_text::Segments;
+
+/// Where an item or entry begins and ends in a text so long, if there is one.
+fn ends_in(total: usize, part: Option<PassedPart<'_>>) -> Option<(usize, usize)>
+    ensures { result ≡ option_map (spec.placed_ends total) (option_map inline.passed_view part.entry) }
+{
+    match part {
+        Some(part) => Some((place_in(total, part.text), place_in(total, part.rest))),
+        None => None,
+    }
+}
+
+/// Where the next one begins in a text so long, if there is one.
+fn next_in(total: usize, next: Option<&str>) -> Option<usize>
+    ensures { result ≡ option_map (λ l. total - length l) (option_map (λ t. t.now) next.entry) }
+{
+    match next {
+        Some(text) => Some(place_in(total, text)),
+        None => None,
+    }
+}
+
+/// What goes with an item or entry in a piece of a text, by those next to it.
+fn place_between(piece: &str, part: Neighbours<'_>) -> Option<EditPlace>
+    ensures { option_map edit_view result ≡
+        spec.remove_around piece.now (inline.around_view part.entry) }
+{
+    let total = piece.len();
+    let before = ends_in(total, part.before);
+    let start = place_in(total, part.here.text);
+    let end = place_in(total, part.here.rest);
+    remove_between(piece, before, start, end, next_in(total, part.next))
+}
 
 /// An item or entry removed from a flow collection, with the white space and comma that go with
 /// it; `None` where the path leads to no part of a flow collection, or to a sole one.
@@ -26,14 +63,16 @@ pub fn remove_in_flow<'d>(
     let Some((above, last)) = last_step(&path.steps) else {
         return Ok(None);
     };
-    let Some(part) = cut.flow_neighbours(path.doc, above, last) else {
+    let Some((front, before, left)) = cut.flow_front(path.doc, above) else {
+        return Ok(None);
+    };
+    let Some(part) = part_neighbours(front, left, last) else {
         return Ok(None);
     };
     let text = cut.text();
-    let found = remove_between(part.text, part.last, part.start, part.end, part.next);
-    let Some(place) = found else {
+    let Some(place) = place_between(front.text, part) else {
         return Ok(None);
     };
     let nothing = String::new(alloc);
-    edit_at(alloc, text, part.before, place, nothing)
+    edit_at(alloc, text, before, place, nothing)
 }

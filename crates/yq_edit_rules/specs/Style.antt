@@ -1,7 +1,7 @@
 -- How a scalar is written in the place of another.
 use Rattle.std.{specs.Prelude.{ℕ, Bool, ◌&&◌, ◌==◌, if◌then◌else◌}, specs.Str.bytes_eq}
 use Rattle.yq_core.{specs.declared.kind.Kind.Kind, specs.Scalar.ScalarText, specs.Writable.can_write, specs.declared.style.Place.Place}
-use Rattle.yq_core.{specs.declared.style.Style.Style, specs.declared.style.Style.TheVariants.{Plain, Double}}
+use Rattle.yq_core.{specs.declared.style.Style.Style, specs.NodesWritten.written_style}
 use Rattle.yq_core.specs.declared.kind.Kind.TheVariants as kinds
 
 -- the row of the core schema's table that a kind has, from 0 (YAML 1.2.2, section 10.3.2)
@@ -18,4 +18,4 @@ is_same a b = table_row a.kind == table_row b.kind && bytes_eq a.text b.text
 
 -- the style in which a scalar is written in a place that has one of a style: in that style if it can be, else plain if it can be, else in double quotes (own)
 abbrev pub style_in : Place → ScalarText → Style → Style
-style_in place s old = if can_write s old place then old else (if can_write s Plain place then Plain else Double)
+style_in place s old = if can_write s old place then old else written_style s place

@@ -6,7 +6,7 @@ ghost use Rattle.yq_core.specs.Writable as writable;
 ghost use Rattle.yq_edit_rules.specs.Style as spec;
 
 use yq_core::{Kind, Place, Scalar, Style};
-use yq_scalar_reader::can_write;
+use yq_scalar_reader::{can_write, written_style};
 
 /// Whether a scalar has that kind and that text.
 pub fn is_same(kind: Kind, text: &str, scalar: &Scalar) -> bool
@@ -27,9 +27,7 @@ pub fn style_in(place: Place, scalar: &Scalar, old: Style) -> Style
 {
     if can_write(scalar, old, place) {
         old
-    } else if can_write(scalar, Style::Plain, place) {
-        Style::Plain
     } else {
-        Style::Double
+        written_style(scalar, place)
     }
 }

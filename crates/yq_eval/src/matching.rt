@@ -9,7 +9,7 @@ pub(crate) mod found;
 pub(crate) mod pipe;
 pub(crate) mod place;
 mod step;
-mod traverse;
+pub(crate) mod traverse;
 
 use self::place::NodeStep;
 use std::alloc::{AllocError, Global};

@@ -12,6 +12,7 @@ mod marks;
 mod misread;
 mod parts;
 mod rows;
+mod steps;
 mod text_place;
 mod updates;
 mod value_line;

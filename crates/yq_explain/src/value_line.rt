@@ -1,7 +1,7 @@
 //! The line about the value at which a path goes no further.
 
 use crate::caret::push_name;
-use crate::value_place::{pipe_of, refusing};
+use crate::value_place::refusing;
 use memchr::memchr_iter;
 use std::alloc::{AllocError, Global};
 use yq_core::{Kind, Step};
@@ -103,8 +103,8 @@ fn push_value(
     out.push('\n')
 }
 
-/// Adds which value of a file with these bytes refuses the steps of an expression for this reason, and on
-/// which line it is, counted from 1. Nothing where no value does, or where more than one path may lead to it.
+/// Adds at which value of a file with these bytes an expression is refused for this reason, and on which line
+/// it is, counted from 1. Nothing where a later update is refused, on the text after the first one.
 pub fn push_value_line(
     alloc: Global,
     out: &mut String,
@@ -118,7 +118,7 @@ pub fn push_value_line(
     let Ok(program) = parse_expr(alloc, expr) else {
         return Ok(());
     };
-    match refusing(alloc, &documents, pipe_of(&program), why)? {
+    match refusing(alloc, &documents, &program, why)? {
         Some(path) => push_value(alloc, out, &documents, &path, bytes),
         None => Ok(()),
     }
@@ -128,6 +128,14 @@ pub fn push_value_line(
 pub fn names_value(why: Refusal) -> bool {
     matches!(
         why,
-        Refusal::NotAMap | Refusal::NotASequence | Refusal::IndexOutOfRange | Refusal::ThroughAlias
+        Refusal::NotAMap
+            | Refusal::NotASequence
+            | Refusal::IndexOutOfRange
+            | Refusal::ThroughAlias
+            | Refusal::AnchorInUse
+            | Refusal::KindMismatch
+            | Refusal::IntegerRange
+            | Refusal::FloatArithmetic
+            | Refusal::NoPlaceForComment
     )
 }

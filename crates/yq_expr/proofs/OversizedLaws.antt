@@ -1,12 +1,18 @@
 -- Sums of lists of known sizes.
-use Rattle.std.proofs.Common.{◌≡◌, ℕ, ◌<◌, arith, false, List, [], ◌∷◌, None, refl, sym, ap, ◌∙◌}
+use Rattle.std.proofs.Common.{◌≡◌, ℕ, ◌<◌, arith, false, List, [], ◌∷◌, ◌++◌, None, refl, sym, ap, subst, ◌∙◌}
+use Rattle.std.proofs.lemmas.Str.{IsUtf8-string_bytes}
 use Rattle.yq_core.{specs.Paths.append_children, specs.Tree.{Node, alias, scalar, list, Children, none, child}}
 use Rattle.yq_flow_edits.specs.Valued.{IsValueTree, AreValueTrees}
 use Rattle.yq_planner.{specs.ListSizes.HasSize, specs.declared.updating.list_size.ListSize.ListSize, specs.StandIns.IsStandIn}
 use Rattle.yq_semantics.{specs.Judgement.{Judgement, and_then, gives}, specs.Places.FoundPlace}
 use Rattle.yq_semantics.{specs.Program.{Term, PathStep, key, index, each}, specs.RightValues.{is_null, as_items, sum, sum_from, term_value}}
+use Rattle.yq_semantics.specs.View.{program_step}
 use Rattle.yq_expr.specs.Oversized.{items_limit, AddsItems, AreItemsOf, GivesList, StandsForOversized, HaveUtf8Keys}
+use Rattle.yq_eval.{specs.PlaceView.{missing_link, missing_of}, specs.declared.matching.place.Missing.Missing}
+use Rattle.yq_eval.specs.declared.matching.place.Missing.TheFolds.{fold-roll-Missing, ind-Missing, map-Missing}
+use Rattle.yq_eval.specs.declared.matching.place.Missing.TheOpen.{Missing-F}
 use Rattle.yq_core.specs.Tree as tree
+use Rattle.yq_semantics.specs.declared.program.PathStep as program
 
 valid_both : (cs ds : Children) → AreValueTrees false cs → AreValueTrees false ds → AreValueTrees false (append_children cs ds)
 valid_both none ds h k = k
@@ -44,9 +50,30 @@ too_large j size w h more small = (
   small (list None h.0) h.2.sized,
 )
 
--- ---- keys
+-- ---- keys, which are UTF-8, as each text of the code
 
-pub first_key : (s : PathStep) (ss : List PathStep) → HaveUtf8Keys (s ∷ []) → HaveUtf8Keys ss → HaveUtf8Keys (s ∷ ss)
-first_key (key k) ss h rest = (h.0, rest)
-first_key (index i) ss h rest = rest
-first_key each ss h rest = rest
+step_keys : (s : program.PathStep) → HaveUtf8Keys (program_step s ∷ [])
+step_keys (program.TheVariants.Key k) = (IsUtf8-string_bytes k, tt)
+step_keys (program.TheVariants.Index i) = tt
+step_keys program.TheVariants.Each = tt
+
+join_keys : (ss ts : List PathStep) → HaveUtf8Keys ss → HaveUtf8Keys ts → HaveUtf8Keys (ss ++ ts)
+join_keys [] ts h k = k
+join_keys (key name ∷ ss) ts h k = (h.0, join_keys ss ts h.1 k)
+join_keys (index i ∷ ss) ts h k = join_keys ss ts h k
+join_keys (each ∷ ss) ts h k = join_keys ss ts h k
+
+abbrev MissKeys : Missing → Type 0
+MissKeys m = HaveUtf8Keys (missing_of m)
+
+-- those of a link, with those before it
+abbrev LinkKeys : Missing-F Missing → Type 0
+LinkKeys x = HaveUtf8Keys (missing_link (map-Missing Missing (List PathStep) missing_of x))
+
+link_keys : (y : Missing-F ((m : Missing) × MissKeys m)) → LinkKeys (map-Missing ((m : Missing) × MissKeys m) Missing (λ e. e.0) y)
+link_keys Missing-F.Nothing = tt
+link_keys (Missing-F.Further front last) = join_keys (missing_of front.now.0) (program_step last.now ∷ []) front.now.1 (step_keys last.now)
+
+-- those of missing steps
+pub missing_keys : (m : Missing) → HaveUtf8Keys (missing_of m)
+missing_keys = ind-Missing MissKeys (λ x y is. subst HaveUtf8Keys (sym (fold-roll-Missing (List PathStep) missing_link x)) (subst LinkKeys is (link_keys y)))

@@ -61,7 +61,7 @@ fn at_each<'a, 't>(
         (effect_of effect.now documents.now) result }
 {
     let mut changes = Vec::new(alloc);
-    let mut cut = CutText::of_document(documents, effect.doc);
+    let mut cut = CutText::of(documents);
     'places: for place in places {
         push_effect(alloc, &mut cut, effect, place, &mut changes)?;
     }
@@ -82,7 +82,7 @@ fn at_children<'a, 't>(
 {
     let count = parent.node.count();
     let mut changes = Vec::with_capacity(alloc, count)?;
-    let mut cut = CutText::of_document(documents, effect.doc);
+    let mut cut = CutText::of(documents);
     let mut children = parent.node.children();
     let mut before = 0;
     'children: while before < count {

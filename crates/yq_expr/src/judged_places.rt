@@ -68,7 +68,7 @@ fn judge_each<'a, 't>(
     requires { HaveScalars (places_of places.now) }
     ensures { JudgesEffects effect.now documents.now (places_of places.now) result }
 {
-    let mut cut = CutText::of_document(documents, effect.doc);
+    let mut cut = CutText::of(documents);
     'places: for place in places {
         judge_place(alloc, &mut cut, effect, place)?;
     }
@@ -87,7 +87,7 @@ fn judge_children<'a, 't>(
         (child_places (path_of parent.now.path) (node_of parent.now.node)) result }
 {
     let count = parent.node.count();
-    let mut cut = CutText::of_document(documents, effect.doc);
+    let mut cut = CutText::of(documents);
     let mut children = parent.node.children();
     let mut before = 0;
     'children: while before < count {

@@ -1,23 +1,21 @@
 //! Sums that no text can hold: lists of more items than a text may have, known by their sizes and never made.
-ghost use Rattle.std.specs.Prelude.{◌≡◌, ◌∷◌, [], IfOk, map, true};
-ghost use Rattle.yq_expr.{specs.FixedPaths.IfAny, specs.Oversized.{AddsItems, GivesList, HaveUtf8Keys, MakesFirst, MakesThere, SumsFrom}};
+ghost use Rattle.std.specs.Prelude.{◌≡◌, IfOk, true};
+ghost use Rattle.yq_expr.{specs.FixedPaths.IfAny, specs.Oversized.{AddsItems, GivesList, MakesFirst, MakesThere, SumsFrom}};
 ghost use Rattle.yq_nodes.specs.Nodes.{node_of};
-ghost use Rattle.yq_semantics.specs.View.{program_step};
 ghost use Rattle.yq_eval.{specs.PlaceView.{place_of, places_of}, specs.TreeScalars.{HasScalars, HaveScalars}};
 ghost use Rattle.yq_expr.specs.Oversized as spec;
 
 use crate::document::DocumentRoot;
 use crate::right_value::term_value;
 use crate::same_term::is_same_term;
-use crate::steps::missing_steps;
 use crate::weights::assignment;
 use std::alloc::{AllocError, Global};
 use yq_core::Value;
 use yq_eval::FoundPlace;
-use yq_flow_edits::{text_holds, value_holds};
+use yq_flow_edits::value_holds;
 use yq_nodes::Node;
 use yq_planner::{ListSize, added_size, is_null, list_of_size};
-use yq_semantics::{ExprError, Operator, PathStep, Term, Update};
+use yq_semantics::{ExprError, Operator, Term, Update};
 use yq_text::TEXT_LIMIT;
 
 /// How many items a text may have: each takes two bytes at least.
@@ -138,25 +136,6 @@ pub(crate) fn oversized<'a, 't>(
     Ok(Some(small))
 }
 
-/// The key of a step is UTF-8, as each is that the code holds.
-fn step_holds(step: &PathStep)
-    ensures { HaveUtf8Keys (program_step step.now ∷ []) }
-{
-    match step {
-        PathStep::Key(key) => text_holds(key),
-        PathStep::Index(_) | PathStep::Each => {}
-    }
-}
-
-/// The keys of steps are.
-fn steps_hold(steps: &[&PathStep])
-    ensures { HaveUtf8Keys (map (λ s. program_step s.now) steps.now) }
-{
-    'steps: for step in steps {
-        step_holds(step);
-    }
-}
-
 /// The place from which the value of an assignment is found that a place gets.
 fn value_start<'a, 't>(
     operator: Operator,
@@ -190,10 +169,7 @@ fn is_oversized_at<'a, 't>(
     let right: &[Term] = &assignment.right;
     match oversized(alloc, document.doc, right, &from, document.text_length())? {
         None => Ok(false),
-        Some(_small) => {
-            steps_hold(&missing_steps(alloc, place.missing)?);
-            Ok(true)
-        }
+        Some(_small) => Ok(true),
     }
 }
 

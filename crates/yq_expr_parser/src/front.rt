@@ -45,35 +45,30 @@ pub(crate) fn misread(text: &str, expected: Expected) -> ParseFault
     }
 }
 
-/// What an expression has where the mark or word has to be.
-fn expected_by(symbol: &str) -> Expected {
-    match (symbol, symbol.chars().next()) {
-        (".", _) => Expected::Path,
-        ("!=", _) => Expected::Comparison,
-        ("head_comment", _) => Expected::Operator,
-        (_, Some(mark)) => Expected::Mark(mark),
-        (_, None) => Expected::Unknown,
-    }
-}
-
-/// What follows the mark or word, which has to be in front.
-pub(crate) fn expect<'t>(text: &'t str, symbol: &'static str) -> Result<&'t str, ParseError>
+/// What follows the mark or word, which has to be in front. `expected` is the form that is there in
+/// expressions.
+pub(crate) fn expect<'t>(
+    text: &'t str,
+    symbol: &str,
+    expected: Expected,
+) -> Result<&'t str, ParseError>
     ensures value { GivesForm (λ r. spec.tokens r.now) result (tokens_after symbol.now text.now) }
     ensures shorter { IfOk result (λ r. length r.now < length text.now) }
 {
-    after(text, symbol).ok_or(ParseError::Fault(misread(text, expected_by(symbol))))
+    after(text, symbol).ok_or(ParseError::Fault(misread(text, expected)))
 }
 
 /// A form and what follows the mark, which has to be after the form.
 pub(crate) fn closed<'t, T: Drop>(
     form: T,
     text: &'t str,
-    mark: &'static str,
+    mark: &str,
+    expected: Expected,
 ) -> Result<(T, &'t str), ParseError>
     ensures value { ReadsForm (λ x. x) result (closed_form form mark.now text.now) }
     ensures shorter { Shortens text.now result }
 {
-    let rest = expect(text, mark)?;
+    let rest = expect(text, mark, expected)?;
     Ok((form, rest))
 }
 
@@ -92,8 +87,7 @@ pub(crate) fn number(text: &str) -> Option<(&str, &str)>
     }
 }
 
-/// The string in front, which has to be there, and what follows it. `expected` is the form that is there
-/// in expressions.
+/// The string in front, which has to be there, and what follows it.
 #[tactic(auto, using(crate::proofs::Lexing::tokens_next))]
 pub(crate) fn string<'t>(
     alloc: Global,

@@ -13,5 +13,5 @@ pub use flow_laws::{
 };
 pub use flow_place::{EditPlace, append_place, replace_place};
 pub use removal::{behind, remove_between};
-pub use valid::{text_holds, value_holds};
+pub use valid::value_holds;
 pub use write::{push_scalar, write_entry, write_inline};

@@ -1,5 +1,5 @@
 //! Values that the code holds are valid: that is what their types say.
-ghost use Rattle.std.{specs.Prelude.{string_bytes, true, false}, specs.Str.IsUtf8};
+ghost use Rattle.std.specs.Prelude.{true, false};
 ghost use Rattle.yq_core.specs.Values.{entries_of, items_of, value_node};
 ghost use Rattle.yq_flow_edits.specs.Valued.{AreValueTrees, IsValid, IsValueTree};
 
@@ -10,13 +10,6 @@ fn scalar_holds(scalar: &Scalar)
 {
     let _kind = scalar.kind();
     let _text = scalar.text();
-}
-
-/// A text is UTF-8, as each is that the code holds.
-pub fn text_holds(text: &String)
-    ensures { IsUtf8 (string_bytes text.now) }
-{
-    let _text = text.as_str();
 }
 
 /// A value is valid, as each is that the code holds.
@@ -45,7 +38,7 @@ fn entries_hold(entries: &Vec<(String, Value)>)
     ensures { AreValueTrees true (entries_of entries.now.items) }
 {
     'each: for entry in entries {
-        text_holds(&entry.0);
+        let _key = entry.0.as_str();
         value_holds(&entry.1);
     }
 }

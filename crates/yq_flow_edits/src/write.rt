@@ -1,27 +1,16 @@
 //! Values, written in flow style.
-ghost use Rattle.std.{specs.Prelude.{◌≡◌, IfOk, false, map, string_bytes, true}, specs.Str.IsUtf8};
-ghost use Rattle.yq_core.{specs.Scalar.IsScalar, specs.declared.style.Style.TheVariants.Plain};
+ghost use Rattle.std.{specs.Prelude.{IfOk, false, map, string_bytes, true}, specs.Str.IsUtf8};
 ghost use Rattle.yq_core.{specs.Values.{entries_of, items_of, value_node}, specs.Strings.{AddsText, GivesText}};
 ghost use Rattle.yq_flow_edits.{specs.FlowValues.SpellsEntry, specs.Valued.{AreValueTrees, IsValid, IsValueTree, Spells}};
-ghost use Rattle.yq_core.specs.Writable as writable;
 ghost use Rattle.yq_core.specs.NodesWritten as spec;
 
 use std::alloc::{AllocError, Global};
-use yq_core::{Kind, Place, Scalar, Style, Value};
+use yq_core::{Place, Scalar, Style, Value};
 use yq_scalar::write_scalar;
-use yq_scalar_reader::can_write;
-
-/// Whether the scalar is plain there.
-#[tactic(auto, unfolding(yq_core::specs::Writable::can_write_plain), using(yq_core::proofs::NodesWrittenLaws::other_plain))]
-fn is_plain(scalar: &Scalar, place: Place) -> bool
-    ensures value { result ≡ writable.can_write scalar.now Plain place }
-    ensures kind { IsScalar scalar.now.kind scalar.now.text }
-{
-    scalar.kind() != Kind::Text || can_write(scalar, Style::Plain, place)
-}
+use yq_scalar_reader::written_style;
 
 /// Adds a scalar, without quotes if it can be.
-#[tactic(auto, unfolding(yq_core::specs::NodesWritten::scalar_text, yq_core::specs::Writable::can_write_plain))]
+#[tactic(auto, unfolding(yq_core::specs::NodesWritten::scalar_text))]
 pub fn push_scalar(
     alloc: Global,
     out: &mut String,
@@ -32,11 +21,13 @@ pub fn push_scalar(
     ensures valid { IfOk result (λ x. IsValid scalar.now) }
 {
     let text = scalar.text();
-    if is_plain(scalar, place) {
-        return out.push_str(text);
+    match written_style(scalar, place) {
+        Style::Plain => out.push_str(text),
+        style => {
+            let quoted = write_scalar(alloc, scalar, style, place)?;
+            out.push_str(&quoted)
+        }
     }
-    let quoted = write_scalar(alloc, scalar, Style::Double, place)?;
-    out.push_str(&quoted)
 }
 
 /// Adds a key with its `:` and a space.

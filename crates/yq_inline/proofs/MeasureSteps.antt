@@ -8,7 +8,7 @@ use Rattle.yq_core.specs.Places.{placed_between, bare_placed, holder, key_here, 
 use Rattle.yq_core.specs.PlacedReading.{core_between, placed_node, placed_items, placed_content, placed_coll, placed_item, placed_entry}
 use Rattle.yq_core.specs.PlacedReading.{split_key, past_sep, stands_behind, then_anchored}
 use Rattle.yq_core.specs.Reading.{read_gap, read_scalar, name_at, lead_at, read_collection, read_core, kids_of, all_items}
-use Rattle.yq_core.{specs.Scalars.{scalar_style, begins_scalar}, proofs.Loops.node_shorter}
+use Rattle.yq_core.{specs.Scalars.{scalar_style, begins_scalar}, proofs.Loops.node_shorter, proofs.NodesPieceLaws.front_is}
 use Rattle.yq_core.proofs.Steps.{items_end, items_more, entries_more, node_plain, node_anchored, node_no_name, node_no_lead}
 use Rattle.yq_inline.specs.Measured.{kind_of_style, node_measure, measured, past_node, is_no_node, node_may_follow, closing_byte, past_part}
 use Rattle.yq_inline.specs.declared.measuring.MeasuredKind.{MeasuredKind}
@@ -303,7 +303,30 @@ parts_none keyed d t h e = parts_are keyed d t h ∙ ap (λ o. o >>= λ r. past_
 pub parts_some : (keyed : Bool) (d : ℕ) (t r : List ℕ) → begins_with (closing_byte keyed) t ≡ false → past_part keyed d t ≡ Some r → past_node (placed_items 0 d (closing_byte keyed) t) ≡ past_node (placed_items 0 d (closing_byte keyed) r)
 parts_some keyed d t r h e = parts_are keyed d t h ∙ ap (λ o. o >>= λ r. past_node (placed_items 0 d (closing_byte keyed) r)) e
 
--- the steps of measuring a node, and a node without an anchor
+-- a collection that is an item or a value
+pub list_none : (d : ℕ) (t : List ℕ) → begins_with 91 t ≡ true → past_node (placed_coll 0 d 93 (drop 1 t)) ≡ None → measured (placed_node true (Some 0) 0 d t) ≡ None
+list_none d t opens e =
+    let front = front_is 91 t opens in
+    node_content true (Some 0) d t (ap (begins_with 38) front) ∙ sequence_none true (Some 0) d t (ap (begins_with 42) front) opens e
+
+pub list_some : (d : ℕ) (t r : List ℕ) → begins_with 91 t ≡ true → past_node (placed_coll 0 d 93 (drop 1 t)) ≡ Some r → measured (placed_node true (Some 0) 0 d t) ≡ Some ((false, kinds.Collection), r)
+list_some d t r opens e =
+    let front = front_is 91 t opens in
+    node_content true (Some 0) d t (ap (begins_with 38) front) ∙ sequence_some true (Some 0) d t r (ap (begins_with 42) front) opens e
+
+pub map_none : (d : ℕ) (t : List ℕ) → begins_with 123 t ≡ true → past_node (placed_coll 0 d 125 (drop 1 t)) ≡ None → measured (placed_node true (Some 0) 0 d t) ≡ None
+map_none d t opens e =
+    let front = front_is 123 t opens in
+    node_content true (Some 0) d t (ap (begins_with 38) front) ∙ mapping_none true (Some 0) d t (ap (begins_with 42) front) (ap (begins_with 91) front) opens e
+
+pub map_some : (d : ℕ) (t r : List ℕ) → begins_with 123 t ≡ true → past_node (placed_coll 0 d 125 (drop 1 t)) ≡ Some r → measured (placed_node true (Some 0) 0 d t) ≡ Some ((false, kinds.Collection), r)
+map_some d t r opens e =
+    let front = front_is 123 t opens in
+    node_content true (Some 0) d t (ap (begins_with 38) front) ∙ mapping_some true (Some 0) d t r (ap (begins_with 42) front) (ap (begins_with 91) front) opens e
+
+-- the steps of measuring an item or a value, a node, and a node without an anchor
+pub ruleset value_steps = (list_none, list_some, map_none, map_some)
+
 pub ruleset node_steps = (node_content, node_nameless, node_leadless, node_none, node_apart, node_some)
 
 pub ruleset content_steps = (named_none, named_some, sequence_none, sequence_some, mapping_none, mapping_some, scalar_none, scalar_some, nothing_here)

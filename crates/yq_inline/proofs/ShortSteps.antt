@@ -13,7 +13,7 @@ use Rattle.yq_core.{proofs.Across.plain_colon, proofs.BorrowedTexts.{any_take, b
 use Rattle.yq_core.{proofs.EndLaws.node_no_space, proofs.NodesPieceLaws.front_is, proofs.PlainLaws.boundary_plain}
 use Rattle.yq_core.{proofs.PlainRuns.run_behind, proofs.QuotedFound.{boundary_quoted, quoted_text}}
 use Rattle.yq_core.proofs.QuotedRuns.{closed_here, quoted_behind}
-use Rattle.yq_inline.{specs.Measured.{kind_of_style, measured}, specs.Short.{IsShortKey, IsShortScalar, stops_plain}}
+use Rattle.yq_inline.{specs.Measured.{kind_of_style, measured}, specs.Short.{IsShortKey, IsShortScalar, IsSpacedKey, stops_plain}}
 use Rattle.yq_inline.{proofs.GapSteps.{behind_space, no_gap}, proofs.MeasureSteps.{node_content, scalar_some}}
 
 -- bytes that a run goes over
@@ -155,17 +155,24 @@ content_apart (b ∷ bs) h = (node_no_space b bs (node_there (begins_with 38 (b 
 key_ends : (p b : List ℕ) → begins_with 32 b ≡ true → ends_key p b ≡ true
 key_ends p b h = subst (λ (l : List ℕ). ends_key p l ≡ true) (sym (front_is 32 b h)) (or-true (is_quoted p))
 
-pub short_key_is : (t p r b v : List ℕ) → IsShortScalar t p r → begins_with 58 r ≡ true → b ≡ drop 1 r → begins_with 32 b ≡ true → v ≡ drop 1 b → begins_content true v ≡ true → IsShortKey t p v
+pub short_key_is : (t p v : List ℕ) → IsSpacedKey t p v → begins_content true v ≡ true → IsShortKey t p v
 unfolding read_flow_key after_colon lead_at
-short_key_is t p r b v is colon behind space after content =
+short_key_is t p v is content =
+    let r : List ℕ = is.rest in
+    let b : List ℕ = 32 ∷ v in
     let apart = content_apart v content in
-    let none : read_gap r ≡ Some ([], r) = no_gap r (ap is_space (front_is 58 r colon)) in
-    let lead : read_gap b ≡ Some (32 ∷ [], v) = ap read_gap (front_is 32 b space ∙ ap (λ (l : List ℕ). 32 ∷ l) (sym after)) ∙ behind_space v apart.0 apart.1 in
+    let none : read_gap r ≡ Some ([], r) = no_gap r (ap is_space is.spaced) in
+    let lead : read_gap b ≡ Some (32 ∷ [], v) = behind_space v apart.0 apart.1 in
     record {
-      read = rw (is.read None, none, colon, ← behind, key_ends p b space, lead, content) (rw (or-true (begins_with 38 v)) refl);
-      quoted = is.quoted;
-      borrows = is.borrows;
+      read = rw (is.scalar.read None, none, is.spaced, key_ends p b refl, lead, content) (rw (or-true (begins_with 38 v)) refl);
+      quoted = is.scalar.quoted;
+      borrows = is.scalar.borrows;
     }
+
+-- `:` and one space
+pub colon_in_front : (t b v : List ℕ) → begins_with 58 t ≡ true → b ≡ drop 1 t → begins_with 32 b ≡ true → v ≡ drop 1 b → t ≡ 58 ∷ 32 ∷ v
+colon_in_front t b v colon behind space after =
+    front_is 58 t colon ∙ ap (λ (l : List ℕ). 58 ∷ l) (sym behind ∙ (front_is 32 b space ∙ ap (λ (l : List ℕ). 32 ∷ l) (sym after)))
 
 -- what separates items
 pub comma_in_front : (k : ℕ) (t b g r : List ℕ) → begins_with 44 t ≡ true → b ≡ drop 1 t → read_gap b ≡ Some (g, r) → past_sep k t ≡ Some r

@@ -1,5 +1,5 @@
 -- Scalars and keys as they are written most often (own; a reader may skip it).
-use Rattle.std.specs.Prelude.{◌≡◌, ℕ, Bool, true, ◌||◌, ◌&&◌, ◌==◌, nat_le, List, drop, Option, Some}
+use Rattle.std.specs.Prelude.{◌≡◌, ℕ, Bool, true, ◌||◌, ◌&&◌, ◌==◌, nat_le, List, ◌∷◌, drop, Option, Some}
 use Rattle.yq_core.{specs.Borrowed.borrows_text, specs.Nodes.begins_with, specs.PlacedReading.split_key, specs.Quoted.IsQuotedText}
 use Rattle.yq_core.{specs.Reading.read_scalar, specs.Scalars.{begins_scalar, is_quoted}, specs.Text.front}
 
@@ -17,6 +17,12 @@ pub record IsShortScalar (t piece rest : List ℕ) : Type 0 where
   pub read : (spaces : Option ℕ) → read_scalar true spaces t ≡ Some (piece, rest)
   pub quoted : is_quoted piece ≡ true → IsQuotedText piece
   pub borrows : borrows_text piece ≡ true
+
+-- Such a scalar is in front, and after it `:`, one space and that value (own).
+pub record IsSpacedKey (t piece value : List ℕ) : Type 0 where
+  pub rest : List ℕ
+  pub scalar : IsShortScalar t piece rest
+  pub spaced : rest ≡ 58 ∷ 32 ∷ value
 
 -- A key is in front, and after its `:` that rest; the text lends it (own).
 pub record IsShortKey (t piece rest : List ℕ) : Type 0 where

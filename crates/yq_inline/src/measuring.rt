@@ -175,6 +175,7 @@ fn measure_collection<'t>(
 /// The node in front of an item or of a value.
 #[inline(always)]
 #[cycle(ends)]
+#[tactic(auto, using(crate::proofs::MeasureSteps::value_steps))]
 pub(crate) fn measure_value<'t>(
     whole: &str,
     depth: usize,
@@ -184,10 +185,18 @@ pub(crate) fn measure_value<'t>(
     ensures read { MeasuresNode result (reading.placed_node true (Some 0) 0 depth text.now) }
     ensures fault { IfErr result (λ f. f.kind ≢ NotUtf8) }
 {
-    match measure_scalar(text) {
-        Some(node) => Ok(node),
-        None => measure_node(true, Some(0), whole, depth, text),
+    if let Some(node) = measure_scalar(text) {
+        return Ok(node);
     }
+    if let Some(behind) = strip(b'[', text) {
+        let rest = measure_collection(whole, depth, false, behind)?;
+        return Ok(unanchored(MeasuredKind::Collection, rest));
+    }
+    if let Some(behind) = strip(b'{', text) {
+        let rest = measure_collection(whole, depth, true, behind)?;
+        return Ok(unanchored(MeasuredKind::Collection, rest));
+    }
+    measure_node(true, Some(0), whole, depth, text)
 }
 
 /// What follows the entry, or item, in front and the `,` after it; after the `{` or `[` was `open`.

@@ -5,4 +5,3 @@ mod RowItems
 pub mod RowParts
 mod RowFrontLaws
 mod RowNodes
-mod RowEnds

@@ -1,11 +1,9 @@
 -- Reading (own; a reader may skip it): documents whose parts are known, from which a search for later ones goes on.
 use Rattle.std.specs.Prelude.{◌≡◌, ℕ, ◌+◌, ◌||◌, Bool, not, IfSome, List, drop, Option, Some}
 use Rattle.yq_row_table.{specs.Rows.Cut, specs.Touched.TouchesOnly, specs.View.{Bound, rows_view}}
-use Rattle.yq_documents.{specs.PartReading.{first_rows, number_in, some_begin}, specs.Reading.cut_of}
+use Rattle.yq_documents.specs.PartReading.{first_rows, number_in, some_begin}
 use Rattle.yq_lookup.specs.declared.known_document.KnownDocument.{KnownDocument}
-use Rattle.yq_lookup.{specs.declared.known_document.KnownDocuments.KnownDocuments, specs.declared.known_document.KnownStretch.KnownStretch}
-use Rattle.yq_outline.specs.RowWalk.{stretch_view}
-use Rattle.yq_places.specs.RowWalk.{document_row_range}
+use Rattle.yq_lookup.specs.declared.known_document.KnownDocuments.{KnownDocuments}
 
 -- the number of the part that is document n, by the ends of the parts (YAML 1.2.2, 9.1 and 9.2)
 abbrev pub part_by_number : ℕ → List Bound → Option ℕ
@@ -30,11 +28,3 @@ DocumentStays front c k = (new : Cut) (back : ℕ) → TouchesOnly front back c 
 -- The same of several documents.
 abbrev pub DocumentsStay : ℕ → Cut → KnownDocuments → Type 0
 DocumentsStay front c ks = (new : Cut) (back : ℕ) → TouchesOnly front back c new → AreKnownDocuments (rows_view new).bounds ks
-
--- A document is known by its rows.
-abbrev pub IsKnownStretch : Cut → KnownStretch → Type 0
-IsKnownStretch c k = Some (stretch_view k.rows) ≡ document_row_range k.doc c
-
--- Documents of a text are known by the numbers of their parts, and perhaps one of them by its rows.
-abbrev pub AreKnownInText : List ℕ → List Bound → KnownDocuments → Option KnownStretch → Type 0
-AreKnownInText t bs ks stretch = AreKnownDocuments bs ks × IfSome stretch (IsKnownStretch (cut_of t))

@@ -2,4 +2,3 @@ pub mod Knowledge
 pub mod KnownDocuments
 pub mod PartNodes
 pub mod RowFronts
-pub mod FlowEnds

@@ -6,11 +6,10 @@ ghost use Rattle.yq_documents.specs.Reading.{all_documents, cut_of, read_at};
 ghost use Rattle.yq_outline.specs.RowWalk.{AreKnown, stretch_view};
 ghost use Rattle.yq_places.specs.RowWalk.{HasCut, document_row_range};
 ghost use Rattle.yq_row_walk.specs.Walk.{IsKnownLine};
-ghost use Rattle.yq_lookup.specs.Knowledge.{AreKnownInRows, IsKnowledge};
-ghost use Rattle.yq_lookup.specs.KnownDocuments.{AreKnownDocuments, IsKnownStretch, AreKnownInText};
+ghost use Rattle.yq_lookup.{specs.Knowledge.{AreKnownInRows, IsKnowledge}, specs.KnownDocuments.AreKnownDocuments};
 
 use crate::knowledge::{Knowledge, StepSearches};
-use crate::known_document::{KnownDocuments, KnownStretch, find_document};
+use crate::known_document::{KnownDocuments, find_document};
 use crate::line_above::LineAbove;
 use std::alloc::Global;
 use std::marker::Model;
@@ -27,13 +26,14 @@ use yq_text::Halves;
 pub struct CutText<'d, 't> {
     pub(crate) text: Halves<'t>,
     pub(crate) rows: &'d Rows<'t>,
+    /// The documents of which it is the text, if they are there.
+    pub(crate) source: Option<&'d Documents<'t>>,
     pub(crate) known: Option<Vec<KnownItem>>,
     pub(crate) line: Option<KnownLine<'d>>,
     pub(crate) above: Option<LineAbove>,
     /// Where the line above the last path is.
     pub(crate) parent: Option<Position>,
     pub(crate) documents: KnownDocuments,
-    pub(crate) stretch: Option<KnownStretch>,
     pub(crate) steps: StepSearches,
 }
 
@@ -44,7 +44,8 @@ impl<'d, 't> Model for CutText<'d, 't> {
 
     ghost invariant = { λ c. HasCut (whole c.text) c.rows.now ×
         AreKnownInRows c.rows.now c.known c.line c.above c.steps ×
-        AreKnownInText (whole c.text) c.rows.now.bounds c.documents c.stretch };
+        AreKnownDocuments c.rows.now.bounds c.documents ×
+        IfSome c.source (λ d. d.now ≡ whole c.text) };
 }
 
 impl<'d, 't> CutText<'d, 't> {
@@ -52,26 +53,15 @@ impl<'d, 't> CutText<'d, 't> {
     pub fn of(documents: &'d Documents<'t>) -> CutText<'d, 't>
         ensures { result ≡ documents.now }
     {
-        CutText::new(documents.text(), documents.rows())
-    }
-
-    /// The same, where the rows of document `doc`, counted from 0, are known, if there is one.
-    pub fn of_document(documents: &'d Documents<'t>, doc: usize) -> CutText<'d, 't>
-        ensures { result ≡ documents.now }
-    {
-        if doc >= documents.count() {
-            return CutText::of(documents);
-        }
-        let (rows, stretch) = documents.document_rows(doc);
         CutText {
             text: Halves::of(documents.text()),
-            rows,
+            rows: documents.rows(),
+            source: Some(documents),
             known: None,
             line: None,
             above: None,
             parent: None,
             documents: KnownDocuments::none(),
-            stretch: Some(KnownStretch { doc, rows: stretch }),
             steps: StepSearches::none(),
         }
     }
@@ -84,12 +74,12 @@ impl<'d, 't> CutText<'d, 't> {
         CutText {
             text: Halves::of(text),
             rows,
+            source: None,
             known: None,
             line: None,
             above: None,
             parent: None,
             documents: KnownDocuments::none(),
-            stretch: None,
             steps: StepSearches::none(),
         }
     }
@@ -109,12 +99,12 @@ impl<'d, 't> CutText<'d, 't> {
         CutText {
             text,
             rows,
+            source: None,
             known: Some(items),
             line: None,
             above: None,
             parent: None,
             documents,
-            stretch: None,
             steps,
         }
     }
@@ -126,12 +116,12 @@ impl<'d, 't> CutText<'d, 't> {
         CutText {
             text: self.text,
             rows: self.rows,
+            source: self.source,
             known: None,
             line: None,
             above: None,
             parent: None,
             documents: self.documents,
-            stretch: self.stretch,
             steps: self.steps,
         }
     }
@@ -219,22 +209,24 @@ impl<'d, 't> CutText<'d, 't> {
         }
     }
 
-    /// The document whose rows are known.
-    fn stretch_known(&self) -> Option<KnownStretch>
-        ensures { IfSome result (IsKnownStretch (cut_of self.now)) }
+    /// The documents of which it is the text.
+    fn source(&self) -> Option<&'d Documents<'t>>
+        ensures { IfSome result (λ d. d.now ≡ self.now) }
     {
-        self.stretch
+        self.source
     }
 
-    /// The rows of document `doc`, if they are those that are known.
+    /// The rows of document `doc`, if the documents are there.
     pub(crate) fn rows_known(&self, doc: usize) -> Option<Stretch>
         ensures { IfSome result (λ d. Some (stretch_view d) ≡
             document_row_range doc (cut_of self.now)) }
     {
-        match self.stretch_known() {
-            Some(known) if known.doc == doc => Some(known.rows),
-            _ => None,
+        let documents = self.source()?;
+        if doc >= documents.count() {
+            return None;
         }
+        let (_, stretch) = documents.document_rows(doc);
+        Some(stretch)
     }
 
     /// The documents that are known.

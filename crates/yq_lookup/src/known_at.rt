@@ -1,5 +1,5 @@
 //! The items on the way of a path from which later walks may go on, and the row of its key or dash.
-ghost use Rattle.std.specs.Prelude.{◌≡◌, IfSome, None};
+ghost use Rattle.std.specs.Prelude.{◌≡◌, IfSome};
 ghost use Rattle.yq_row_table.specs.View.{rows_view};
 ghost use Rattle.yq_documents.{specs.Located.steps_of, specs.Reading.cut_of};
 ghost use Rattle.yq_outline.specs.RowWalk.{AreKnown};
@@ -14,89 +14,45 @@ use crate::known_document::{KnownDocuments, document_in_front};
 use std::alloc::Global;
 use yq_documents::Path;
 use yq_outline::KnownItem;
-use yq_places::{
-    HeldRow, keep_in_front, known_along, known_end, line_known, put_item, row_of_last,
-};
+use yq_places::{HeldRow, Way, keep_in_front, known_along, known_end, put_item, row_of_last};
 use yq_row_walk::{KnownLine, Walk};
 
-/// The line to which a path leads, and that to which the steps before its last one do, if they are known.
-#[derive(Clone, Copy)]
-struct WayLines<'p> {
-    line: Option<KnownLine<'p>>,
-    above: Option<KnownLine<'p>>,
-}
-
-impl<'p> WayLines<'p> {
-    /// None.
-    fn none() -> WayLines<'p>
-        ensures line { result.line ≡ None }
-        ensures above { result.above ≡ None }
-    {
-        WayLines {
-            line: None,
-            above: None,
-        }
-    }
-}
-
 impl<'d, 't> CutText<'d, 't> {
-    /// Puts the items on the way of a path in the place of the items that are known, and gives the line to which
-    /// the steps before its last one lead.
+    /// Puts the items on the way of a path in the place of the items that are known, and reports what is on its way.
     #[inline(always)]
-    fn items_along<'p>(&self, known: &mut Vec<KnownItem>, path: &'p Path) -> Option<KnownLine<'p>>
-        requires { AreKnown (rows_view (cut_of self.now)).rows known.old.items }
-        ensures known { AreKnown (rows_view (cut_of self.now)).rows known.new.items }
-        ensures above { IfSome result (IsLineAbove (rows_view (cut_of self.now))) }
-    {
-        let walk = self.walk(path.doc)?;
-        known_along(&walk, known, &path.steps).above
-    }
-
-    /// The same, and the line to which the path leads, if none of its steps goes on in the head of one.
-    #[inline(always)]
-    fn line_along(&self, known: &mut Vec<KnownItem>, path: &'d Path) -> WayLines<'d>
+    fn way_along<'p>(&self, known: &mut Vec<KnownItem>, path: &'p Path) -> Way<'p>
         requires { AreKnown (rows_view (cut_of self.now)).rows known.old.items }
         ensures known { AreKnown (rows_view (cut_of self.now)).rows known.new.items }
         ensures line { IfSome result.line (IsKnownLine (rows_view (cut_of self.now))) }
         ensures above { IfSome result.above (IsLineAbove (rows_view (cut_of self.now))) }
     {
-        let Some(walk) = self.walk(path.doc) else {
-            return WayLines::none();
-        };
-        let steps = path.steps.as_slice();
-        let way = known_along(&walk, known, steps);
-        WayLines {
-            line: line_known(walk.document, steps, way.at),
-            above: way.above,
+        match self.walk(path.doc) {
+            Some(walk) => known_along(&walk, known, &path.steps),
+            None => Way::none(),
         }
     }
 
     /// The same, and puts the last row of the collection at the path after the items. It is looked for from an
     /// item of that on that is known.
-    fn end_along(&self, known: &mut Vec<KnownItem>, path: &'d Path) -> WayLines<'d>
+    fn end_along(&self, known: &mut Vec<KnownItem>, path: &'d Path) -> Way<'d>
         requires { AreKnown (rows_view (cut_of self.now)).rows known.old.items }
         ensures known { AreKnown (rows_view (cut_of self.now)).rows known.new.items }
         ensures line { IfSome result.line (IsKnownLine (rows_view (cut_of self.now))) }
         ensures above { IfSome result.above (IsLineAbove (rows_view (cut_of self.now))) }
     {
         let Some(walk) = self.walk(path.doc) else {
-            return WayLines::none();
+            return Way::none();
         };
-        let steps = path.steps.as_slice();
-        let way = known_along(&walk, known, steps);
-        let line = line_known(walk.document, steps, way.at);
+        let way = known_along(&walk, known, &path.steps);
         let here = Walk {
             known: known.as_slice(),
-            line: line.as_ref(),
+            line: way.line.as_ref(),
             ..walk
         };
-        if let Some(end) = known_end(&here, steps) {
+        if let Some(end) = known_end(&here, &path.steps) {
             let _ = put_item(known, way.items, end);
         }
-        WayLines {
-            line,
-            above: way.above,
-        }
+        way
     }
 
     /// From now on the document of a path is known, and of each collection on its way the item or entry:
@@ -107,9 +63,9 @@ impl<'d, 't> CutText<'d, 't> {
     {
         self.to_document(path.doc);
         let mut known = self.take_items(alloc);
-        let above = self.items_along(&mut known, path);
+        let way = self.way_along(&mut known, path);
         self.put_items(known, None);
-        self.keep_above(alloc, above);
+        self.keep_above(alloc, way.above);
     }
 
     /// The same, and the line to which the path leads is known as well.
@@ -119,9 +75,9 @@ impl<'d, 't> CutText<'d, 't> {
     {
         self.to_document(path.doc);
         let mut known = self.take_items(alloc);
-        let lines = self.line_along(&mut known, path);
-        self.put_items(known, lines.line);
-        self.keep_above(alloc, lines.above);
+        let way = self.way_along(&mut known, path);
+        self.put_items(known, way.line);
+        self.keep_above(alloc, way.above);
     }
 
     /// The same, and the end of the collection at the path is known as well.
@@ -130,9 +86,9 @@ impl<'d, 't> CutText<'d, 't> {
     {
         self.to_document(path.doc);
         let mut known = self.take_items(alloc);
-        let lines = self.end_along(&mut known, path);
-        self.put_items(known, lines.line);
-        self.keep_above(alloc, lines.above);
+        let way = self.end_along(&mut known, path);
+        self.put_items(known, way.line);
+        self.keep_above(alloc, way.above);
     }
 
     /// The key or dash of the item or entry at a path with its row, where the row ends in its line. From
@@ -168,10 +124,10 @@ impl<'d, 't> CutText<'d, 't> {
             return (None, None);
         };
         let way = known_along(&walk, known, &path.steps);
-        let Some(at) = way.at else {
+        let Some(line) = way.line else {
             return (None, way.above);
         };
-        (row_of_last(walk.rows, at), way.above)
+        (row_of_last(walk.rows, line.at), way.above)
     }
 
     /// Takes what is known, as far as walks and searches may go on from there in each text that keeps so many

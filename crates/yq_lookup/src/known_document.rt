@@ -5,7 +5,6 @@ ghost use Rattle.yq_lookup.specs.KnownDocuments.{AreKnownDocuments, DocumentStay
 ghost use Rattle.yq_documents.specs.PartNumbers as numbers;
 
 use yq_documents::first_is_document;
-use yq_outline::Stretch;
 use yq_row_table::{Rows, begins_document};
 
 /// A document whose part is known.
@@ -22,13 +21,6 @@ pub struct KnownDocument {
 pub struct KnownDocuments {
     pub last: Option<KnownDocument>,
     pub before: Option<KnownDocument>,
-}
-
-/// A document whose rows are known.
-#[derive(Clone, Copy)]
-pub(crate) struct KnownStretch {
-    pub(crate) doc: usize,
-    pub(crate) rows: Stretch,
 }
 
 /// Where a search for a document begins.

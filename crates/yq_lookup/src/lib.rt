@@ -2,7 +2,6 @@
 #![tactic(auto)]
 
 mod cut_text;
-mod flow_ends;
 mod flow_part;
 mod knowledge;
 mod known_at;
@@ -17,7 +16,6 @@ mod standing;
 mod walks;
 
 pub use cut_text::CutText;
-pub use flow_ends::{FlowEnd, FlowNeighbours};
 pub use knowledge::{Knowledge, StepSearches};
 pub use known_document::{KnownDocument, KnownDocuments};
 pub use laws::{comments_stand, contents_spell, entries_spell, pieces_exist, pieces_hold};

@@ -43,8 +43,8 @@ impl<'t> CutText<'_, 't> {
             first.first_removal path.now.doc (steps_of path.now) (cut_of self.now) }
     {
         let whole = self.whole();
-        let row_line = self.row_line(path)?;
-        if row_line.line == 0 {
+        let at = self.row_line(path)?;
+        if at.line == 0 {
             return None;
         }
         let span = self.entry_place(path)?;

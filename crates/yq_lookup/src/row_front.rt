@@ -42,7 +42,7 @@ impl<'t> CutText<'_, 't> {
 
     /// The node in the head in which the flow collection at a path of document `doc`, counted from 0, is, how many bytes
     /// come before it, and the steps that lead on in it; nothing, where no flow collection is at the path.
-    pub(crate) fn flow_front<'s>(
+    pub fn flow_front<'s>(
         &self,
         doc: usize,
         steps: &'s [Step],

@@ -1,6 +1,7 @@
 //! Where entries, contents and comments are; the first break of a text; and where it has room for comments.
-ghost use Rattle.std.specs.Prelude.{◌≡◌, option_map};
-ghost use Rattle.yq_row_table.specs.Rows.{cut_text};
+ghost use Rattle.std.specs.Prelude.{◌≡◌, ◌<◌, length, option_map, slice_get, Some};
+ghost use Rattle.yq_outline.specs.Extents.{lines_before_mark};
+ghost use Rattle.yq_row_table.{specs.Rows.cut_text, specs.View.Slices};
 ghost use Rattle.yq_documents.{specs.Pieces.{piece_span, span}, specs.Reading.cut_of};
 ghost use Rattle.yq_places.specs.PathPieces.{path_piece};
 ghost use Rattle.yq_documents.specs.LinesInRows as lines;
@@ -11,7 +12,25 @@ ghost use Rattle.yq_places.specs.FirstBreak as breaks;
 use crate::cut_text::CutText;
 use yq_core::Break;
 use yq_documents::{Part, Path, Span};
-use yq_places::{break_of, content_of, entry_of, head_comment_in, line_comment_in, line_has_room};
+use yq_outline::Position;
+use yq_places::{break_of, content_of, entry_of, head_comment_in, line_comment_in};
+use yq_row_table::Rows;
+use yq_row_walk::lines_before_mark;
+
+/// Whether a line has room for a comment.
+fn line_has_room(rows: &Rows<'_>, at: Position, part: Part) -> bool
+    requires { at.row < length rows.now.rows }
+    ensures { (x : Slices) → slice_get rows.now.rows at.row ≡ Some x → (s : lines.RowLine) →
+        s.line ≡ at.line → lines_before_mark x ≡ length s.row.dashes →
+        result ≡ lines.line_has_room part s }
+{
+    match part {
+        Part::Content => false,
+        Part::Entry => false,
+        Part::HeadComment => at.line == 0,
+        Part::LineComment => at.line == lines_before_mark(rows, at.row),
+    }
+}
 
 impl<'t> CutText<'_, 't> {
     /// The place of the entry or item at a path, unless it is in flow.
@@ -35,8 +54,8 @@ impl<'t> CutText<'_, 't> {
         ensures { option_map span result ≡
             option_map piece_span (path_piece path.now parts.LineComment (cut_of self.now)) }
     {
-        let row_line = self.row_line(path)?;
-        line_comment_in(self.rows, row_line)
+        let at = self.row_line(path)?;
+        line_comment_in(self.rows, at)
     }
 
     /// The place of the run of comments above the entry or item at a path, with the breaks.
@@ -44,8 +63,8 @@ impl<'t> CutText<'_, 't> {
         ensures { option_map span result ≡
             option_map piece_span (path_piece path.now parts.HeadComment (cut_of self.now)) }
     {
-        let row_line = self.row_line(path)?;
-        head_comment_in(self.rows, row_line)
+        let at = self.row_line(path)?;
+        head_comment_in(self.rows, at)
     }
 
     /// The first break of the text, with which what is put into it is written; LF where it has none.
@@ -62,9 +81,9 @@ impl<'t> CutText<'_, 't> {
     pub fn has_room(&self, path: &Path, part: Part) -> bool
         ensures { result ≡ lines.has_room path.now part self.now }
     {
-        let Some(row_line) = self.row_line(path) else {
+        let Some(at) = self.row_line(path) else {
             return false;
         };
-        line_has_room(row_line, part)
+        line_has_room(self.rows(), at, part)
     }
 }

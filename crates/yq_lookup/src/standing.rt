@@ -105,12 +105,12 @@ impl<'t> CutText<'_, 't> {
             comments.lines_above path.now.doc (steps_of path.now) (cut_of self.now) }
     {
         let whole = self.whole();
-        let row_line = self.row_line(path)?;
-        if row_line.line != 0 {
+        let at = self.row_line(path)?;
+        if at.line != 0 {
             return None;
         }
-        let start = row_start(self.rows, row_line.row);
-        let row = self.rows.row(row_line.row);
+        let start = row_start(self.rows, at.row);
+        let row = self.rows.row(at.row);
         let gap = row.gap();
         let column = row.column();
         Some((column, above(whole, start, gap)))

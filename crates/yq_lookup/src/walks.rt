@@ -3,7 +3,7 @@ ghost use Rattle.std.specs.Prelude.{◌≡◌, if◌then◌else◌, IfSome, opti
 ghost use Rattle.yq_documents.{specs.LinesInRows.{document_row, row_line_at}, specs.Reading.cut_of};
 ghost use Rattle.yq_lookup.specs.Knowledge.{AreSearches};
 ghost use Rattle.yq_outline.specs.RowWalk.{stretch_view};
-ghost use Rattle.yq_places.{specs.RowLineReading.{numbers, line_view}, specs.Steps.document_steps};
+ghost use Rattle.yq_places.{specs.RowLineReading.position_in, specs.Steps.document_steps};
 ghost use Rattle.yq_row_table.specs.View.{rows_view};
 ghost use Rattle.yq_row_walk.specs.Walk.{IsWalk, walked_rows};
 ghost use Rattle.yq_places.specs.RowWalk as spec;
@@ -12,9 +12,9 @@ use crate::cut_text::CutText;
 use crate::knowledge::StepSearches;
 use crate::known_document::part_from;
 use yq_documents::{Path, rows_to};
-use yq_outline::Stretch;
-use yq_places::{RowLine, first_step, row_line_along, search_step};
-use yq_row_walk::Walk;
+use yq_outline::{Position, Stretch};
+use yq_places::{first_step, search_step};
+use yq_row_walk::{Walk, line_at};
 
 impl<'t> CutText<'_, 't> {
     /// Where the rows of document `doc`, counted from 0, begin and end, if there is one.
@@ -51,13 +51,13 @@ impl<'t> CutText<'_, 't> {
     }
 
     /// The line of the entry or item at a path, if one of a row is.
-    pub fn row_line(&self, path: &Path) -> Option<RowLine>
-        ensures { option_map line_view result ≡
-            option_map (numbers (document_row path.now.doc (cut_of self.now)))
+    pub fn row_line(&self, path: &Path) -> Option<Position>
+        ensures { result ≡
+            option_map (position_in (document_row path.now.doc (cut_of self.now)))
             (row_line_at path.now (cut_of self.now)) }
     {
         let walk = self.walk(path.doc)?;
-        row_line_along(&walk, &path.steps)
+        line_at(&walk, &path.steps)
     }
 
     /// By how many columns the sequences, or mappings, of document `doc`, counted from 0, are deeper than

@@ -1,6 +1,6 @@
 -- What nodes of the code mean.
 use Rattle.std.specs.Prelude.{None}
-use Rattle.yq_core.{specs.Tree.{Node, scalar, list, map}, specs.Trees.placed_tree}
+use Rattle.yq_core.{specs.Tree.{Node, alias, scalar, list, map}, specs.Trees.placed_tree}
 use Rattle.yq_outline.{specs.Bodies.borrowed, specs.Ends.part, specs.Outline.{Outline, anchored, null_node, children}}
 use Rattle.yq_documents.specs.Stretches.{document_lines, number_of}
 use Rattle.yq_nodes.{specs.declared.nodes.under.Under.Under, specs.declared.nodes.body.Named.Named}
@@ -19,6 +19,7 @@ body_node (bodies.TheVariants.Map under) = map None (children (body_outline unde
 body_node (bodies.TheVariants.List under) = list None (children (body_outline under))
 body_node (bodies.TheVariants.Inline node) = placed_tree (inline.inline_view node.now)
 body_node (bodies.TheVariants.Borrowed node) = placed_tree (inline.borrowed_view node)
+body_node (bodies.TheVariants.Alias name) = alias name.now
 
 -- the same with that anchor (own)
 abbrev pub named_node : Named → Node

@@ -9,11 +9,11 @@ use Rattle.yq_row_table.{specs.View.{Slices, slices, rows_of, RowsView}, proofs.
 use Rattle.yq_row_table.{proofs.PlaceLaws.{row_front-append, row_in}, proofs.SliceLaws.content_slices}
 use Rattle.yq_documents.{specs.declared.path.Path.Path, specs.Located.steps_of, specs.Pieces.{TextPiece, before_run, last_run}}
 use Rattle.yq_documents.{specs.Reading.cut_of, specs.LinesInRows.{row_line_at, document_row}, proofs.RunLaws.run_split}
+use Rattle.yq_outline.{specs.declared.line_position.Position.Position, specs.Extents.row_start}
 use Rattle.yq_places.{specs.CommentPlaces.{text_to_line_end, gap_above, above_row, lines_above}, specs.LineReading.GapStands}
-use Rattle.yq_places.{specs.PlacedRows.PlacedRow, specs.RowLineReading.{LineCounts, numbers}, specs.RowWalk.HasCut}
+use Rattle.yq_places.{specs.PlacedRows.PlacedRow, specs.RowLineReading.position_in, specs.RowWalk.HasCut}
 use Rattle.yq_places.{proofs.CommentPieceLaws.{row_place, run_begins}, proofs.PlacedRowLaws.{row_line_placed, no_row_line_placed}}
 use Rattle.yq_places.{proofs.SeamLaws.{IsSeam, seam_boundary, seam_then, gap_seam, row_seam}, proofs.StartLaws.start_agrees}
-use Rattle.yq_outline.specs.Extents.{row_start}
 
 -- a row up to the end of the line of its mark, and after that
 pub row_text_parts : (r : Row) (rest : List ℕ) → print_row r rest ≡ text_to_line_end r ++ ((slices r).tail ++ ((slices r).raw ++ rest))
@@ -22,15 +22,15 @@ row_text_parts r rest =
     row_front-append r rest ∙ (ap (λ l. row_front r ++ l) (sym (content_slices r.content rest))
     ∙ (let parts : row_front r ++ (s.space ++ (s.anchor ++ (s.apart ++ (s.head ++ (s.tail ++ (s.raw ++ rest)))))) ≡ text_to_line_end r ++ (s.tail ++ (s.raw ++ rest)) = simp append_assoc refl in parts))
 
-pub no_lines_above : (path : Path) (c : Cut) (k : ℕ) → None ≡ option_map (numbers k) (row_line_at path c) → None ≡ lines_above path.doc (steps_of path) c
+pub no_lines_above : (path : Path) (c : Cut) (k : ℕ) → None ≡ option_map (position_in k) (row_line_at path c) → None ≡ lines_above path.doc (steps_of path) c
 no_lines_above path c k e = sym (ap (λ (o : Option PlacedRow). o >>= λ w. cond (eqb w.line 0) (Some (above_row w)) None) (no_row_line_placed path c k e))
 
 -- another line of a row
-module _ (path : Path) (c : Cut) (n : LineCounts) (row_line_is : Some n ≡ option_map (numbers (document_row path.doc c)) (row_line_at path c)) where
+module _ (path : Path) (c : Cut) (n : Position) (row_line_is : Some n ≡ option_map (position_in (document_row path.doc c)) (row_line_at path c)) where
   abbrev printed_line : PlacedRow
   printed_line = (row_line_placed path c n row_line_is).0
 
-  pub other_lines_above : (n.1 ≡ 0 → ⊥) → None ≡ lines_above path.doc (steps_of path) c
+  pub other_lines_above : (n.line ≡ 0 → ⊥) → None ≡ lines_above path.doc (steps_of path) c
   other_lines_above differ = search (rules, row_line_placed)
 
 -- a run begins in ASCII, or is empty
@@ -86,7 +86,7 @@ module _ (t : List ℕ) (start : ℕ) (gap run : List ℕ) (h : GapStands t star
       search (rules, append_assoc, drop-append_seam, run_is, first, ends, n)
 
 -- the row of a line that the code tells, in a text that is held
-module _ (t : List ℕ) (x : RowsView) (held : HasCut t x) (path : Path) (n : LineCounts) (row_line_is : Some n ≡ option_map (numbers (document_row path.doc (cut_of t))) (row_line_at path (cut_of t))) where
+module _ (t : List ℕ) (x : RowsView) (held : HasCut t x) (path : Path) (n : Position) (row_line_is : Some n ≡ option_map (position_in (document_row path.doc (cut_of t))) (row_line_at path (cut_of t))) where
   abbrev w : PlacedRow
   w = (row_line_placed path (cut_of t) n row_line_is).0
 
@@ -94,16 +94,16 @@ module _ (t : List ℕ) (x : RowsView) (held : HasCut t x) (path : Path) (n : Li
   whole = search (rules, row_line_placed, row_place)
 
   -- the lines above
-  pub gap_stands : (start : ℕ) (gap text : List ℕ) → start ≡ row_start n.0 x → ((y : Slices) → slice_get x.rows n.0 ≡ Some y → gap ≡ y.gap) →
+  pub gap_stands : (start : ℕ) (gap text : List ℕ) → start ≡ row_start n.row x → ((y : Slices) → slice_get x.rows n.row ≡ Some y → gap ≡ y.gap) →
       text ≡ t → IsUtf8 t → (h : GapStands text start gap) × (h.before ≡ w.before) × (h.rest ≡ behind_gap w.row w.behind) × (gap ≡ w.row.gap)
   gap_stands start gap text begins has e u =
       let at = (row_line_placed path (cut_of t) n row_line_is).1.at in
-      let view_row : slice_get x.rows n.0 ≡ Some (slices w.row) = ap (λ (y : RowsView). slice_get y.rows n.0) held.rows ∙ (slice_get-map slices (rows_of (cut_of t)) n.0 ∙ ap (option_map slices) at.there) in
+      let view_row : slice_get x.rows n.row ≡ Some (slices w.row) = ap (λ (y : RowsView). slice_get y.rows n.row) held.rows ∙ (slice_get-map slices (rows_of (cut_of t)) n.row ∙ ap (option_map slices) at.there) in
       let gap_is : gap ≡ w.row.gap = has (slices w.row) view_row in
-      let start_is : start ≡ length w.before = begins ∙ (ap (row_start n.0) held.rows ∙ (start_agrees (cut_of t) n.0 w.row at.there ∙ ap length at.before_is)) in
+      let start_is : start ≡ length w.before = begins ∙ (ap (row_start n.row) held.rows ∙ (start_agrees (cut_of t) n.row w.row at.there ∙ ap length at.before_is)) in
       let rest : List ℕ = behind_gap w.row w.behind in
-      let row = (row_in (cut_of t) n.0 true w.row held.cut.parts at.there).row in
-      let front : IsSeam w.before (w.row.gap ++ rest) = subst (λ (q : List ℕ × List ℕ). IsSeam q.0 (print_row w.row q.1)) (λ i. (at.before_is i, at.behind_is i)) (row_seam (cut_of t) n.0 true w.row held.cut.parts at.there) in
+      let row = (row_in (cut_of t) n.row true w.row held.cut.parts at.there).row in
+      let front : IsSeam w.before (w.row.gap ++ rest) = subst (λ (q : List ℕ × List ℕ). IsSeam q.0 (print_row w.row q.1)) (λ i. (at.before_is i, at.behind_is i)) (row_seam (cut_of t) n.row true w.row held.cut.parts at.there) in
       let inner : IsSeam w.row.gap rest = gap_seam w.row.gap rest (subst (λ q. IsGap w.row.gap (behind_gap w.row q)) at.behind_is row.gap) in
       let seam : IsSeam (w.before ++ w.row.gap) rest = seam_then w.before w.row.gap rest front inner in
       let parts : t ≡ (w.before ++ w.row.gap) ++ rest = whole ∙ sym (append_assoc w.before w.row.gap rest) in
@@ -121,10 +121,10 @@ module _ (t : List ℕ) (x : RowsView) (held : HasCut t x) (path : Path) (n : Li
         gap_is,
       )
 
-  pub lines_above_is : (start : ℕ) (gap text : List ℕ) (column : ℕ) (above : TextPiece) (begins : start ≡ row_start n.0 x) (has : (y : Slices) → slice_get x.rows n.0 ≡ Some y → gap ≡ y.gap) (e : text ≡ t) (u : IsUtf8 t) →
-      ((y : Slices) → slice_get x.rows n.0 ≡ Some y → column ≡ y.column) → n.1 ≡ 0 → ((h : GapStands text start gap) → above ≡ gap_above h.before gap h.rest) → Some (column, above) ≡ lines_above path.doc (steps_of path) (cut_of t)
+  pub lines_above_is : (start : ℕ) (gap text : List ℕ) (column : ℕ) (above : TextPiece) (begins : start ≡ row_start n.row x) (has : (y : Slices) → slice_get x.rows n.row ≡ Some y → gap ≡ y.gap) (e : text ≡ t) (u : IsUtf8 t) →
+      ((y : Slices) → slice_get x.rows n.row ≡ Some y → column ≡ y.column) → n.line ≡ 0 → ((h : GapStands text start gap) → above ≡ gap_above h.before gap h.rest) → Some (column, above) ≡ lines_above path.doc (steps_of path) (cut_of t)
   lines_above_is start gap text column above begins has e u columns first agrees =
       let k = (row_line_placed path (cut_of t) n row_line_is).1 in
       let g = gap_stands start gap text begins has e u in
-      let view_row : slice_get x.rows n.0 ≡ Some (slices w.row) = ap (λ (y : RowsView). slice_get y.rows n.0) held.rows ∙ (slice_get-map slices (rows_of (cut_of t)) n.0 ∙ ap (option_map slices) k.at.there) in
+      let view_row : slice_get x.rows n.row ≡ Some (slices w.row) = ap (λ (y : RowsView). slice_get y.rows n.row) held.rows ∙ (slice_get-map slices (rows_of (cut_of t)) n.row ∙ ap (option_map slices) k.at.there) in
       search (rules, eq-eqb, k, g, view_row)

@@ -8,8 +8,8 @@ use Rattle.yq_row_table.{specs.Rows.{Row, Cut}, specs.View.{Slices, slices, rows
 use Rattle.yq_documents.{specs.Pieces.{tail_comment, before_run, last_run, gap_comment, piece_span}, specs.LinesInRows.RowLine}
 use Rattle.yq_documents.proofs.RunLaws.{run_split}
 use Rattle.yq_places.specs.CommentReading.{before_tail, line_comment_in, head_comment_in, tail_span, line_comment_span, gap_span}
-use Rattle.yq_places.{specs.CommentReading.head_comment_span, specs.RowLineReading.numbers, proofs.StartLaws.start_agrees}
-use Rattle.yq_outline.{specs.Extents.{row_start, front_length}, proofs.LengthLaws.head_agrees}
+use Rattle.yq_places.{specs.CommentReading.head_comment_span, specs.RowLineReading.position_in, proofs.StartLaws.start_agrees}
+use Rattle.yq_outline.{specs.Extents.{row_start, front_length, lines_before_mark}, proofs.LengthLaws.head_agrees}
 
 -- the comment in a tail
 pair : (a b c d : ℕ) → a ≡ b → c ≡ d → ◌≡◌ {A = ℕ × ℕ} (a, c) (b, d)
@@ -29,8 +29,10 @@ before_length c i r is =
     let agrees = head_agrees (rows_view c) i (row_start i (rows_view c)) (front_length s) (length s.head) s there refl refl refl c refl r is in
     search (rules, length-append, s, agrees)
 
-pub beside_agrees : (c : Cut) (i : ℕ) (s : RowLine) (k : ℕ) → slice_get (rows_of c) i ≡ Some s.row → line_comment_span (row_start i (rows_view c)) (slices s.row) (numbers k s) ≡ option_map piece_span (line_comment_in i s c)
-beside_agrees c i s k is = search (rules, tail_view, before_length)
+pub beside_agrees : (c : Cut) (i : ℕ) (s : RowLine) (k : ℕ) → slice_get (rows_of c) i ≡ Some s.row →
+    lines_before_mark (slices s.row) ≡ length s.row.dashes →
+    line_comment_span (row_start i (rows_view c)) (slices s.row) (position_in k s) ≡ option_map piece_span (line_comment_in i s c)
+beside_agrees c i s k is count = search (rules, count, tail_view, before_length)
 
 -- the run in a gap
 run_length : (gap : List ℕ) → length gap ≡ length (joined (before_run (text_lines gap))) + length (joined (last_run (text_lines gap)))
@@ -70,5 +72,7 @@ gap_agrees before gap behind start e = go (is_empty (joined (last_run (text_line
     go true = refl
     go false = ap Some (pair _ _ _ _ (omega (arith, e, run_length gap, length-append before other)) (omega (arith, e, run_length gap, length-append before other)))
 
-pub above_view : (c : Cut) (i : ℕ) (s : RowLine) (k : ℕ) → slice_get (rows_of c) i ≡ Some s.row → head_comment_span (row_start i (rows_view c)) (slices s.row) (numbers k s) ≡ option_map piece_span (head_comment_in i s c)
-above_view c i s k is = search (rules, gap_agrees, start_agrees)
+pub above_view : (c : Cut) (i : ℕ) (s : RowLine) (k : ℕ) → slice_get (rows_of c) i ≡ Some s.row →
+    lines_before_mark (slices s.row) ≡ length s.row.dashes →
+    head_comment_span (row_start i (rows_view c)) (slices s.row) (position_in k s) ≡ option_map piece_span (head_comment_in i s c)
+above_view c i s k is count = search (rules, gap_agrees, start_agrees)

@@ -6,9 +6,9 @@ use Rattle.yq_core.{specs.Answers.◌>>=◌, specs.Paths.Step, specs.Entries.{Pl
 use Rattle.yq_row_table.{specs.Exchange.behind_row, specs.Rows.{Row, Cut, cut_text}, specs.View.{rows_of, Bound}}
 use Rattle.yq_documents.{specs.FlowReading.row_flow, specs.declared.path.Path.Path, specs.LinesInRows.{RowLine, row_line, row_line_at}}
 use Rattle.yq_outline.{specs.Places.{lines_before, FoundLine}, specs.Lines.lines_of_rows, specs.Ends.reached, proofs.Values.If}
-use Rattle.yq_outline.proofs.KnownLaws.{get_dropped, get_front}
+use Rattle.yq_outline.{proofs.KnownLaws.{get_dropped, get_front}, specs.declared.line_position.Position.Position}
 use Rattle.yq_places.specs.EntryReading.{entry_at, content_row_place, entry_within, flow_entry_from, flow_entry_of, line_entry_at}
-use Rattle.yq_places.{specs.EntryReading.{line_content_at, flow_entry_at}, specs.RowLineReading.{LineCounts, numbers}}
+use Rattle.yq_places.{specs.EntryReading.{line_content_at, flow_entry_at}, specs.RowLineReading.position_in}
 use Rattle.yq_places.proofs.FlowPlaceLaws.{flow_agrees}
 
 -- a line is one of its row, and that is one of the rows
@@ -59,7 +59,7 @@ entry_either p c = search rules
 pub content_either : (p : Path) (c : Cut) → content_row_place p c ≡ or_flow (line_content_at p c) (option_and_then (λ (e : PlacedEntry). content_place e.1) (flow_entry_at p c))
 content_either p c = search rules
 
-pub row_line_entry : (p : Path) (c : Cut) (first : ℕ) (x : LineCounts) → Some x ≡ option_map (numbers first) (row_line_at p c) → line_entry_at p c ≡ entry_at p c
+pub row_line_entry : (p : Path) (c : Cut) (first : ℕ) (x : Position) → Some x ≡ option_map (position_in first) (row_line_at p c) → line_entry_at p c ≡ entry_at p c
 row_line_entry p c first x e = search rules
 
 -- ---- the first of the ends of parts before a row

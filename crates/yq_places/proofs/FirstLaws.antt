@@ -9,10 +9,11 @@ use Rattle.yq_core.{specs.Answers.◌>>=◌, proofs.Bools.bind_some, specs.Spans
 use Rattle.yq_row_table.{specs.Grammar.IsCut, specs.Rows.Cut}
 use Rattle.yq_documents.{specs.declared.path.Path.Path, specs.Located.steps_of, specs.Pieces.{TextPiece, piece_span}}
 use Rattle.yq_documents.{specs.Reading.all_documents, specs.LinesInRows.{RowLine, row_line_at}}
+use Rattle.yq_outline.specs.declared.line_position.Position.{Position}
 use Rattle.yq_places.specs.FirstPlaces.{are_spaces, less_spaces, end_spaces, first_out, first_removal}
-use Rattle.yq_places.{specs.PathPieces.{printed_document, path_piece}, specs.RowLineReading.{LineCounts, numbers}}
-use Rattle.yq_places.{specs.EntryReading.line_entry_at, proofs.EntryPlaceLaws.row_line_entry, proofs.EntryPlacedLaws.entries_placed}
-use Rattle.yq_places.{proofs.PieceHolds.spans_are, proofs.PieceTexts.{document_whole, piece_whole}, proofs.PrintedTexts.map_some}
+use Rattle.yq_places.{specs.PathPieces.{printed_document, path_piece}, specs.RowLineReading.position_in, specs.EntryReading.line_entry_at}
+use Rattle.yq_places.{proofs.EntryPlaceLaws.row_line_entry, proofs.EntryPlacedLaws.entries_placed, proofs.PieceHolds.spans_are}
+use Rattle.yq_places.{proofs.PieceTexts.{document_whole, piece_whole}, proofs.PrintedTexts.map_some}
 use Rattle.yq_documents.specs.declared.path.Part.TheVariants as parts
 
 -- ---- the spaces that end a text
@@ -99,12 +100,12 @@ pub record EntryStands (t : List ℕ) (c : Cut) (path : Path) (start end : ℕ) 
   pub behind_is : drop (end - start) (drop start t) ≡ piece.behind
 
 -- the place of a line's entry or item is that of the piece
-entry_is : (t : List ℕ) (c : Cut) (path : Path) (k : ℕ) (n : LineCounts) → IsCut t c → all_documents c ≡ true →
-    Some n ≡ option_map (numbers k) (row_line_at path c) → line_entry_at path c ≡ option_map piece_span (path_piece path parts.Entry c)
+entry_is : (t : List ℕ) (c : Cut) (path : Path) (k : ℕ) (n : Position) → IsCut t c → all_documents c ≡ true →
+    Some n ≡ option_map (position_in k) (row_line_at path c) → line_entry_at path c ≡ option_map piece_span (path_piece path parts.Entry c)
 entry_is t c path k n cut sound there = row_line_entry path c k n there ∙ sym (spans_are t c path cut sound).1
 
-pub entry_stands : (t : List ℕ) (c : Cut) (path : Path) (start end : ℕ) → IsUtf8 t → IsCut t c → all_documents c ≡ true → (k : ℕ) (n : LineCounts) →
-    Some n ≡ option_map (numbers k) (row_line_at path c) → Some (start, end) ≡ line_entry_at path c →
+pub entry_stands : (t : List ℕ) (c : Cut) (path : Path) (start end : ℕ) → IsUtf8 t → IsCut t c → all_documents c ≡ true → (k : ℕ) (n : Position) →
+    Some n ≡ option_map (position_in k) (row_line_at path c) → Some (start, end) ≡ line_entry_at path c →
     EntryStands t c path start end
 entry_stands t c path start end u cut sound k n there at =
     let e : Some (start, end) ≡ option_map piece_span (path_piece path parts.Entry c) = at ∙ entry_is t c path k n cut sound there in
@@ -137,19 +138,19 @@ entry_stands t c path start end u cut sound k n there at =
 abbrev first_out_of : Option RowLine → Option TextPiece → Option TextPiece
 first_out_of o e = option_map first_out (o >>= λ s. cond (eqb s.line 0) None e)
 
-pub no_first_row_line : (path : Path) (c : Cut) (k : ℕ) → None ≡ option_map (numbers k) (row_line_at path c) → None ≡ first_removal path.doc (steps_of path) c
+pub no_first_row_line : (path : Path) (c : Cut) (k : ℕ) → None ≡ option_map (position_in k) (row_line_at path c) → None ≡ first_removal path.doc (steps_of path) c
 no_first_row_line path c k e = search rules
 
-pub other_first_line : (path : Path) (c : Cut) (k : ℕ) (n : LineCounts) → Some n ≡ option_map (numbers k) (row_line_at path c) → n.1 ≡ 0 → None ≡ first_removal path.doc (steps_of path) c
+pub other_first_line : (path : Path) (c : Cut) (k : ℕ) (n : Position) → Some n ≡ option_map (position_in k) (row_line_at path c) → n.line ≡ 0 → None ≡ first_removal path.doc (steps_of path) c
 other_first_line path c k n e zero_is = search rules
 
-pub no_first_entry : (t : List ℕ) (c : Cut) (path : Path) (k : ℕ) (n : LineCounts) → IsCut t c → all_documents c ≡ true →
-    Some n ≡ option_map (numbers k) (row_line_at path c) → None ≡ line_entry_at path c → None ≡ first_removal path.doc (steps_of path) c
+pub no_first_entry : (t : List ℕ) (c : Cut) (path : Path) (k : ℕ) (n : Position) → IsCut t c → all_documents c ≡ true →
+    Some n ≡ option_map (position_in k) (row_line_at path c) → None ≡ line_entry_at path c → None ≡ first_removal path.doc (steps_of path) c
 no_first_entry t c path k n cut sound there e =
     let either : (b : Bool) → None ≡ option_map first_out (cond b None None) = λ b. search rules in
     let go : (x : Option TextPiece) → None ≡ option_map piece_span x → (o : Option RowLine) → None ≡ first_out_of o x = λ x h1 o. search rules in
     go (path_piece path parts.Entry c) (e ∙ entry_is t c path k n cut sound there) (row_line_at path c)
 
-pub first_is : (path : Path) (c : Cut) (k : ℕ) (n : LineCounts) (x : TextPiece) → Some n ≡ option_map (numbers k) (row_line_at path c) →
-    (n.1 ≡ 0 → ⊥) → path_piece path parts.Entry c ≡ Some x → Some (first_out x) ≡ first_removal path.doc (steps_of path) c
+pub first_is : (path : Path) (c : Cut) (k : ℕ) (n : Position) (x : TextPiece) → Some n ≡ option_map (position_in k) (row_line_at path c) →
+    (n.line ≡ 0 → ⊥) → path_piece path parts.Entry c ≡ Some x → Some (first_out x) ≡ first_removal path.doc (steps_of path) c
 first_is path c k n x e other is = search rules

@@ -5,13 +5,13 @@ use Rattle.std.{proofs.lemmas.Option.{slice_get_within, none-some, same_Some}, s
 use Rattle.yq_core.specs.Answers.{◌>>=◌}
 use Rattle.yq_row_table.{specs.Exchange.{text_after_row, behind_row}, specs.Rows.{Row, rows_text, Part, Cut, last, marked}}
 use Rattle.yq_row_table.{specs.Splices.{nth_part, behind_part}, specs.View.rows_of}
-use Rattle.yq_outline.{specs.Ends.line_at_steps, specs.Lines.lines_of_rows, proofs.KnownLaws.get_front}
+use Rattle.yq_outline.{specs.declared.line_position.Position.Position, specs.Ends.line_at_steps, specs.Lines.lines_of_rows}
+use Rattle.yq_outline.proofs.KnownLaws.{get_front}
 use Rattle.yq_documents.{specs.declared.path.Path.Path, specs.Documents.document_parts, specs.Located.steps_of}
 use Rattle.yq_documents.{specs.LinesInRows.{RowLine, row_line_of, row_line_at, document_row}, specs.PartNumbers.rows_to}
 use Rattle.yq_documents.proofs.PartNumberLaws.{part_there}
 use Rattle.yq_places.{specs.CommentReading.before_row, specs.PlacedRows.{PlacedPart, PlacedRow, placed_document, placed_row, row_of_path}}
-use Rattle.yq_places.{specs.RowLineReading.{LineCounts, numbers}, proofs.PlacedPartLaws.{part_stands, row_before}}
-use Rattle.yq_places.proofs.RowLineSpans.{steps_row}
+use Rattle.yq_places.{specs.RowLineReading.position_in, proofs.PlacedPartLaws.{part_stands, row_before}, proofs.RowLineSpans.steps_row}
 
 -- A row of a cut comes after others, between these texts.
 pub record IsAt (c : Cut) (i : ℕ) (before : List ℕ) (r : Row) (behind : List ℕ) : Type 0 where
@@ -48,35 +48,33 @@ pub document_placed : (n : ℕ) (c : Cut) → slice_get (document_parts c) n ≡
 document_placed n c = search (rules, part_there)
 
 -- The line that the code tells is one of a row that is there.
-pub record IsRowLineOf (path : Path) (c : Cut) (n : LineCounts) (w : PlacedRow) : Type 0 where
+pub record IsRowLineOf (path : Path) (c : Cut) (n : Position) (w : PlacedRow) : Type 0 where
   pub is : row_of_path path.doc (steps_of path) c ≡ Some w
-  pub line : n.1 ≡ w.line
-  pub dashes : n.2 ≡ length w.row.dashes
-  pub at : IsAt c n.0 w.before w.row w.behind
+  pub line : n.line ≡ w.line
+  pub at : IsAt c n.row w.before w.row w.behind
 
-pub row_line_placed : (path : Path) (c : Cut) (n : LineCounts) → Some n ≡ option_map (numbers (document_row path.doc c)) (row_line_at path c) → (w : PlacedRow) × IsRowLineOf path c n w
-row_line_placed path c n e = go (placed_document path.doc c) refl (e ∙ ap (λ (o : Option Part). option_map (numbers (document_row path.doc c)) (o >>= λ d. row_line_of (steps_of path) d.rows)) (document_placed path.doc c))
+pub row_line_placed : (path : Path) (c : Cut) (n : Position) → Some n ≡ option_map (position_in (document_row path.doc c)) (row_line_at path c) → (w : PlacedRow) × IsRowLineOf path c n w
+row_line_placed path c n e = go (placed_document path.doc c) refl (e ∙ ap (λ (o : Option Part). option_map (position_in (document_row path.doc c)) (o >>= λ d. row_line_of (steps_of path) d.rows)) (document_placed path.doc c))
   where
     at_row_line : (s : PlacedPart) → placed_document path.doc c ≡ Some s → (o : Option RowLine) → row_line_of (steps_of path) s.part.rows ≡ o →
-        Some n ≡ option_map (numbers (document_row path.doc c)) o → (w : PlacedRow) × IsRowLineOf path c n w
+        Some n ≡ option_map (position_in (document_row path.doc c)) o → (w : PlacedRow) × IsRowLineOf path c n w
     at_row_line s there None is e = absurd (none-some _ (sym e))
     at_row_line s there (Some x) is e =
-        let found : n ≡ numbers (document_row path.doc c) x = same_Some _ _ e in
+        let found : n ≡ position_in (document_row path.doc c) x = same_Some _ _ e in
         let row = steps_row (line_at_steps (steps_of path) (lines_of_rows s.part.rows)) s.part.rows x is in
         let at = part_at path.doc c s there x.before x.row row in
         let w : PlacedRow = placed_row s x in (
           w,
           record {
             is = ap (λ (o : Option PlacedPart). o >>= λ s. option_map (placed_row s) (row_line_of (steps_of path) s.part.rows)) there ∙ ap (option_map (placed_row s)) is;
-            line = ap (λ (y : LineCounts). y.1) found;
-            dashes = ap (λ (y : LineCounts). y.2) found;
-            at = subst (λ i. IsAt c i w.before w.row w.behind) (sym (ap (λ (y : LineCounts). y.0) found)) at;
+            line = ap (λ (y : Position). y.line) found;
+            at = subst (λ i. IsAt c i w.before w.row w.behind) (sym (ap (λ (y : Position). y.row) found)) at;
           },
         )
 
-    go : (o : Option PlacedPart) → placed_document path.doc c ≡ o → Some n ≡ option_map (numbers (document_row path.doc c)) (part_of o >>= λ d. row_line_of (steps_of path) d.rows) → (w : PlacedRow) × IsRowLineOf path c n w
+    go : (o : Option PlacedPart) → placed_document path.doc c ≡ o → Some n ≡ option_map (position_in (document_row path.doc c)) (part_of o >>= λ d. row_line_of (steps_of path) d.rows) → (w : PlacedRow) × IsRowLineOf path c n w
     go None is e = absurd (none-some _ (sym e))
     go (Some s) is e = at_row_line s is (row_line_of (steps_of path) s.part.rows) refl e
 
-pub no_row_line_placed : (path : Path) (c : Cut) (k : ℕ) → None ≡ option_map (numbers k) (row_line_at path c) → row_of_path path.doc (steps_of path) c ≡ None
+pub no_row_line_placed : (path : Path) (c : Cut) (k : ℕ) → None ≡ option_map (position_in k) (row_line_at path c) → row_of_path path.doc (steps_of path) c ≡ None
 no_row_line_placed path c k e = search (rules, document_placed)

@@ -1,17 +1,18 @@
 -- The rows of documents among those of a text.
-use Rattle.std.proofs.Common.{rules, ◌≡◌, ℕ, zero, suc, ◌+◌, ◌≤◌, List, [], ◌∷◌, ◌++◌, length, take, drop, Option, Some, None, option_map}
-use Rattle.std.proofs.Common.{true, refl, sym, ap, ◌∙◌, arith, length-append, Bool}
+use Rattle.std.proofs.Common.{rules, ◌≡◌, ℕ, zero, suc, ◌+◌, ◌-◌, ◌≤◌, List, [], ◌∷◌, ◌++◌, length, take, drop, Option, Some, None}
+use Rattle.std.proofs.Common.{option_map, true, refl, sym, ap, ◌∙◌, arith, length-append}
 use Rattle.std.{proofs.lemmas.Bool.{lt-ltb, le-ltb, cond-true, cond-false}, proofs.lemmas.Option.same_Some, specs.List.slice_get}
+use Rattle.std.specs.Prelude.{IfSome}
 use Rattle.yq_core.{specs.Answers.◌>>=◌, specs.Paths.Step}
 use Rattle.yq_outline.{specs.Ends.line_at_steps, specs.Lines.lines_of_rows, proofs.RowLaws.lines_count}
-use Rattle.yq_outline.{specs.RowWalk.{HasDocument, stretch_view}, specs.declared.line_position.Stretch.Stretch}
+use Rattle.yq_outline.{specs.RowWalk.{HasDocument, HasRows, IsLine, line_number, stretch_view}, proofs.WalkPositions.located}
+use Rattle.yq_outline.{specs.declared.line_position.Position.Position, specs.declared.line_position.Stretch.Stretch}
 use Rattle.yq_row_table.{specs.Grammar.IsCut, specs.Rows.{Row, Part, Cut}, specs.View.{Bound, rows_of, RowsView, rows_view}}
 use Rattle.yq_documents.{specs.Documents.document_parts, proofs.PartRows.{document_has, part_begins}}
-use Rattle.yq_documents.specs.LinesInRows.{row_line, row_line_of, row_line_at, document_row, RowLine, line_has_room, row_line_has_room}
-use Rattle.yq_documents.specs.PartNumbers.{document_part, rows_to}
+use Rattle.yq_documents.{specs.LinesInRows.{row_line, row_line_of, row_line_at, document_row}, specs.PartNumbers.{document_part, rows_to}}
 use Rattle.yq_documents.{proofs.PartNumberLaws.{part_there, document_found, document_missing, end_agrees}, specs.declared.path.Path.Path}
-use Rattle.yq_documents.{specs.Located.steps_of, specs.Reading.all_documents, specs.declared.path.Part.Part as Place}
-use Rattle.yq_places.{specs.RowWalk.{InCut, document_row_range}, specs.RowLineReading.{LineCounts, numbers}}
+use Rattle.yq_documents.{specs.Located.steps_of, specs.Reading.all_documents}
+use Rattle.yq_places.{specs.RowWalk.{InCut, document_row_range}, specs.RowLineReading.position_in}
 
 -- the rows of a document, by the number of its part
 pub rows_known : (c : Cut) (s : RowsView) (n k first : ℕ) (b : Bound) → s ≡ rows_view c → Some k ≡ document_part n c → first ≡ rows_to k c → slice_get s.bounds k ≡ Some b → Some (first, b.rows) ≡ document_row_range n c
@@ -70,22 +71,17 @@ pub no_place_found : {A : Type 0} (c : Cut) (n : ℕ) (place : ℕ → Cut → L
 no_place_found c n place e = search rules
 
 -- the line of a path in a document that was found
-pub row_line_found : (s : RowsView) (c : Cut) (path : Path) (d : Stretch) (steps : List Step) (found : Option LineCounts)
-    (f : Found s c path.doc d) → steps ≡ steps_of path → found ≡ option_map (numbers d.first) (row_line_of steps f.document.stand.rows) →
-    found ≡ option_map (numbers (document_row path.doc c)) (row_line_at path c)
+pub row_line_found : (s : RowsView) (c : Cut) (path : Path) (d : Stretch) (steps : List Step) (found : Option Position)
+    (f : Found s c path.doc d) → steps ≡ steps_of path → found ≡ option_map (position_in d.first) (row_line_of steps f.document.stand.rows) →
+    found ≡ option_map (position_in (document_row path.doc c)) (row_line_at path c)
 row_line_found s c path d steps found f same e = search rules
 
 -- the line to which steps lead, by its row
-pub row_line_reached : (rs : List Row) (steps : List Step) (first i k dashes row : ℕ) (r : Row) → slice_get rs i ≡ Some r → k ≤ length r.dashes → row ≡ first + i → dashes ≡ length r.dashes →
-    Some (length (lines_of_rows (take i rs)) + k) ≡ line_at_steps steps (lines_of_rows rs) → Some (row, k, dashes) ≡ option_map (numbers first) (row_line_of steps rs)
-row_line_reached rs steps first i k dashes row r is h row_is count e = search (rules, row_line_number)
-
-pub none_reached : (rs : List Row) (steps : List Step) (first : ℕ) → None ≡ line_at_steps steps (lines_of_rows rs) → None ≡ option_map (numbers first) (row_line_of steps rs)
-none_reached rs steps first e = ap (λ (o : Option ℕ). option_map (numbers first) (o >>= λ n. row_line n rs)) e
-
--- ---- whether a line has room, by its numbers
-
--- whether a line has room, by its numbers
-pub room_agrees : (part : Place) (k : ℕ) (x : LineCounts) (o : Option RowLine) (room : Bool) → Some x ≡ option_map (numbers k) o → ((j : ℕ) (s : RowLine) → x ≡ numbers j s → room ≡ line_has_room part s) → room ≡ row_line_has_room part o
-room_agrees part k x None room e agrees = absurd (cc)
-room_agrees part k x (Some s) room e agrees = agrees k s (same_Some _ _ e)
+pub row_line_reached : (s : RowsView) (d : Stretch) (h : HasRows s d) (steps : List Step) (o : Option Position) → IfSome o (IsLine s d) → option_map (line_number d h.rows) o ≡ line_at_steps steps (lines_of_rows h.rows) →
+    o ≡ option_map (position_in d.first) (row_line_of steps h.rows)
+row_line_reached s d h steps None at e = ap (λ (o : Option ℕ). option_map (position_in d.first) (o >>= λ n. row_line n h.rows)) e
+row_line_reached s d h steps (Some q) at e =
+    let k = located s d h q at in
+    let row : q.row ≡ d.first + (q.row - d.first) = omega (arith, at.from) in
+    ap (λ (i : ℕ). Some (record q { row = i })) row
+    ∙ ap (option_map (position_in d.first)) (sym (ap (λ (o : Option ℕ). o >>= λ n. row_line n h.rows) (sym e) ∙ row_line_number h.rows (q.row - d.first) q.line k.row k.there k.within))

@@ -3,8 +3,7 @@ use Rattle.std.specs.Prelude.{ℕ, ◌+◌, ◌-◌, ◌==◌, List, length, Opt
 use Rattle.yq_core.specs.Text.{cut, front, ends_line, is_empty, joined, text_lines, no_white, past_white}
 use Rattle.yq_row_table.{specs.View.{Slices, slices}, specs.Exchange.{before_content, behind_row}}
 use Rattle.yq_row_table.specs.Rows.{Row, Cut, rows_text, part_text, last, marked, behind_gap}
-use Rattle.yq_outline.specs.Extents.{front_length}
-use Rattle.yq_places.specs.RowLineReading.{LineCounts}
+use Rattle.yq_outline.{specs.Extents.{front_length, lines_before_mark}, specs.declared.line_position.Position.Position}
 use Rattle.yq_documents.{specs.LinesInRows.RowLine, specs.Pieces.{TextPiece, tail_comment, last_run, gap_comment}}
 
 -- the text of a cut before row i
@@ -32,13 +31,13 @@ tail_span start tail =
     if front (λ b. b == 35) (past_white tail) then Some (start + white, start + white + length (cut ends_line (past_white tail)).0) else None
 
 -- where the line comment of a line is, by where its row begins and that row's pieces
-abbrev pub line_comment_span : ℕ → Slices → LineCounts → Option (ℕ × ℕ)
-line_comment_span start x s = if s.1 == s.2 then tail_span (start + front_length x + length x.head) x.tail else None
+abbrev pub line_comment_span : ℕ → Slices → Position → Option (ℕ × ℕ)
+line_comment_span start x q = if q.line == lines_before_mark x then tail_span (start + front_length x + length x.head) x.tail else None
 
 -- where the run of comment lines is that ends a gap, by where the gap begins
 abbrev pub gap_span : ℕ → List ℕ → Option (ℕ × ℕ)
 gap_span start gap = let run = joined (last_run (text_lines gap)) in if is_empty run then None else Some (start + length gap - length run, start + length gap)
 
 -- where the head comment of a line is, by where its row begins and that row's pieces
-abbrev pub head_comment_span : ℕ → Slices → LineCounts → Option (ℕ × ℕ)
-head_comment_span start x s = if s.1 == 0 then gap_span start x.gap else None
+abbrev pub head_comment_span : ℕ → Slices → Position → Option (ℕ × ℕ)
+head_comment_span start x q = if q.line == 0 then gap_span start x.gap else None

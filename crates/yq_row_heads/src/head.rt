@@ -50,7 +50,8 @@ fn node_head<'t>(alloc: Global, node: Inline<'t>) -> Result<Head<'t>, AllocError
         Form::Empty => Ok(Head::Nothing),
         Form::Scalar(scalar, _) => {
             let kind = scalar.kind();
-            Ok(Head::Scalar(kind, ScalarContent::Own(scalar.into_text())))
+            let text = scalar.into_text(alloc)?;
+            Ok(Head::Scalar(kind, ScalarContent::Own(text)))
         }
         _ => Ok(Head::Inline(Box::new(alloc, node)?)),
     }

@@ -22,4 +22,4 @@ pub use plain::{begins_plain, split_plain};
 pub use pushing::{push_breaks, push_spaces};
 pub use quoted::split_quoted;
 pub use same_content::{is_plain_content, is_quoted_content};
-pub use writable::{can_write, in_flow};
+pub use writable::{can_write, in_flow, written_style};

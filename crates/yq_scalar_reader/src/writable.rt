@@ -1,6 +1,8 @@
 //! Which styles can write a scalar, and where.
-ghost use Rattle.std.specs.Prelude.{◌≡◌};
+ghost use Rattle.std.specs.Prelude.{◌≡◌, true};
+ghost use Rattle.yq_core.{specs.Scalar.IsScalar, specs.Written.IsOneLine};
 ghost use Rattle.yq_scalar_reader.specs.Held.{begins_literally};
+ghost use Rattle.yq_core.specs.NodesWritten as written;
 ghost use Rattle.yq_core.specs.Writable as spec;
 
 use crate::plain_text::{Holder, holds_each, is_plain_text};
@@ -59,5 +61,20 @@ pub fn can_write(scalar: &Scalar, style: Style, place: Place) -> bool
         Style::Double => string,
         Style::Literal => string && matches!(place, Place::Block) && is_literal_text(text),
         Style::Folded => false,
+    }
+}
+
+/// The style in which the scalar is written there: plain if it can be, else in double quotes.
+#[tactic(auto, using(yq_core::proofs::NodesWrittenLaws::double_when, yq_core::proofs::NodesWrittenLaws::other_plain))]
+pub fn written_style(scalar: &Scalar, place: Place) -> Style
+    ensures value { result ≡ written.written_style scalar.now place }
+    ensures can { spec.can_write scalar.now result place ≡ true }
+    ensures inline { IsOneLine result }
+    ensures kind { IsScalar scalar.now.kind scalar.now.text }
+{
+    if scalar.kind() == Kind::Text && !can_write(scalar, Style::Plain, place) {
+        Style::Double
+    } else {
+        Style::Plain
     }
 }

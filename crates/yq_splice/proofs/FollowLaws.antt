@@ -1,8 +1,8 @@
 -- The text and the rows of a session follow an operation that is carried out by segments.
 use Rattle.std.proofs.Common.{◌≡◌, ◌⊎◌, inl, inr, ℕ, ◌-◌, ◌≤◌, Bool, true, false, List, [], ◌∷◌, ◌++◌, length, Some, string_bytes, refl}
-use Rattle.std.{proofs.Common.{sym, ap, ◌∙◌, subst, arith, eqb, eqb-true, Vec, vec_len}, proofs.lemmas.Bool.false≢true}
-use Rattle.std.{proofs.lemmas.List.length-append, proofs.lemmas.Option.same_Some, specs.Str.{IsCharBoundary, IsUtf8}}
-use Rattle.std.specs.declared.alloc.Global.{Global}
+use Rattle.std.proofs.Common.{Result, Ok, Err, IfOk, IfErr, sym, ap, ◌∙◌, subst, arith, eqb, eqb-true, Vec, vec_len}
+use Rattle.std.{proofs.lemmas.Bool.false≢true, proofs.lemmas.List.length-append, proofs.lemmas.Option.same_Some}
+use Rattle.std.{specs.Str.{IsCharBoundary, IsUtf8}, specs.declared.alloc.Global.Global}
 use Rattle.yq_text.{specs.Limit.text_limit, specs.Changing.IsChange}
 use Rattle.yq_text.specs.Script.{Segment, keep, put, old_text, new_text, AllStay, are_kept, kept_front, kept_back}
 use Rattle.yq_text.{specs.Splice.{Splice, all_done}, specs.declared.changed.ChangedMiddle.ChangedMiddle}
@@ -12,13 +12,14 @@ use Rattle.yq_row_table.{specs.Grammar.IsCut, specs.Meter.{count_after, line_cou
 use Rattle.yq_row_table.{specs.View.rows_view, specs.declared.places.Places.Places, proofs.MeterLaws.counted_within}
 use Rattle.yq_documents.{specs.Documents.{Document, ReadsDocuments}, specs.Reading.{documents, cut_of, read_at}, proofs.ReadLaws.parts_read}
 use Rattle.yq_lookup.{specs.Knowledge.{IsKnowledge, KnowledgeStays}, specs.declared.knowledge.Knowledge.Knowledge}
-use Rattle.yq_semantics.{specs.Fits.Fits, specs.Operations.Operation, specs.Rooms.room_of}
+use Rattle.yq_semantics.{specs.Fits.Fits, specs.Judgement.ExprError, specs.Operations.Operation, specs.Rooms.room_of}
 use Rattle.yq_rows.{specs.Following.{ArePlacesOf, CountsWritten, Follows, exchanged, read_text}, specs.declared.kept.Kept.Kept}
 use Rattle.yq_edit_rules.{specs.Edits.{op_edits, or_stay}, specs.Local.IsLocalTo, specs.Operands.HasOperand}
 use Rattle.yq_edit_laws.{specs.TouchedRanges.IsLocalEdit, proofs.NearLaws.edits_are_near, proofs.TouchLaws.local_touches}
 use Rattle.yq_edit_laws.{proofs.TouchedLaws.near_touched, proofs.CutLaws.{cut_read, cut_same, text_read}, specs.Carried.carried}
-use Rattle.yq_edit_laws.{specs.Edit.gives, specs.Theorems.{IsFitting, IsApplied}, specs.Valid.segments_by}
-use Rattle.yq_edit_laws.{proofs.ApplyLaws.{fits, applied_by}, proofs.EditsHold.edit_is, proofs.TextFaults.text_utf8}
+use Rattle.yq_edit_laws.{specs.Answers.EditFails, specs.Edit.gives, specs.Theorems.{IsFitting, IsApplied, OpRefused}}
+use Rattle.yq_edit_laws.{specs.Valid.segments_by, proofs.ApplyLaws.{fits, applied_by, refused_by}, proofs.EditsHold.edit_is}
+use Rattle.yq_edit_laws.proofs.TextFaults.{text_utf8}
 use Rattle.yq_splice.{specs.Session.{HasPlaces, Knows, Scans}, proofs.SessionLaws.carried_by, proofs.TouchedLineLaws.read_within}
 
 -- ---- whether there are splices, by their number
@@ -68,9 +69,6 @@ module _ (op : Operation) (t : List ℕ) (operand : HasOperand op) (fitting : Is
 
     pub carried_none : carried op t ≡ gives t x.splices.items
     carried_none = carried_by op t p x h change ∙ ap (λ (y : List ℕ). gives y x.splices.items) stays
-
-    pub applied_none : IsApplied op t t x.splices.items
-    applied_none = subst (λ (y : List ℕ). IsApplied op t y x.splices.items) stays a
 
   -- where it makes some
   module _ (some : ¬ (x.splices.items ≡ [])) where
@@ -169,9 +167,6 @@ module _ (op : Operation) (t : List ℕ) (operand : HasOperand op) (fitting : Is
       pub carried_some : carried op t ≡ gives new x.splices.items
       carried_some = carried_by op t p x h change ∙ ap (λ (y : List ℕ). gives y x.splices.items) text_after
 
-      pub applied_some : IsApplied op t new x.splices.items
-      applied_some = subst (λ (y : List ℕ). IsApplied op t y x.splices.items) text_after a
-
       is_cut : IsCut new new_cut
       is_cut = subst (λ (y : List ℕ). IsCut y new_cut) text_after a.reads.cut
 
@@ -222,3 +217,16 @@ module _ (op : Operation) (t : List ℕ) (operand : HasOperand op) (fitting : Is
               bound = omega (arith, exact, counted_within lines before, few);
             },
           )
+
+-- ---- operations whose operand is known to be valid
+
+-- what is done where one is carried out, and why it is refused
+pub done_by : (op : Operation) (t m : List ℕ) → HasOperand op → IsFitting op t → (r : Result (Vec Splice Global) ExprError) →
+    IfOk r (λ cs. carried op t ≡ gives m cs.items) → IfOk r (λ cs. IsApplied op t m cs.items)
+done_by op t m operand fitting (Ok cs) h = applied_by op t operand fitting m cs.items h
+done_by op t m operand fitting (Err e) h = tt
+
+pub why_refused : (op : Operation) (t : List ℕ) → HasOperand op → IsFitting op t → (r : Result (Vec Splice Global) ExprError) →
+    IfErr r (λ e. EditFails e (carried op t)) → IfErr r (λ e. OpRefused e op t)
+why_refused op t operand fitting (Ok cs) h = tt
+why_refused op t operand fitting (Err e) h = refused_by op t operand fitting e h

@@ -1,5 +1,5 @@
 -- What a session is known by, and what an operation applied to it adds to its count.
-use Rattle.std.specs.Prelude.{◌≡◌, ◌≢◌, ◌⊎◌, ⊤, ℕ, ◌+◌, ◌≤◌, List, [], length, Some}
+use Rattle.std.{specs.Prelude.{◌≡◌, ◌≢◌, ◌⊎◌, ⊤, ℕ, ◌+◌, ◌≤◌, List, [], length, Some, Vec}, specs.declared.alloc.Global.Global}
 use Rattle.yq_core.{specs.declared.fault.FaultKind.TheVariants.NotUtf8, specs.Answers.ReadError}
 use Rattle.yq_row_table.{specs.Kept.IsPlaced, specs.Meter.{count_after, line_count}, specs.Rows.Cut, specs.Touched.TouchesOnly}
 use Rattle.yq_row_table.{specs.Items.items_of_cut, specs.View.rows_view, specs.declared.places.Places.Places}
@@ -10,7 +10,7 @@ use Rattle.yq_text.{specs.Changing.IsChange, specs.Script.{Segment, kept_front, 
 use Rattle.yq_text.specs.declared.changed.ChangedMiddle.{ChangedMiddle}
 use Rattle.yq_rows.{specs.Following.read_text, specs.declared.kept.Kept.Kept}
 use Rattle.yq_edit_rules.specs.Edits.{op_edits}
-use Rattle.yq_edit_laws.{specs.Carried.carry_one, specs.Edit.Edit, specs.TouchedRanges.{PutAreTouched, put_ranges}}
+use Rattle.yq_edit_laws.{specs.Carried.{carried, carry_one}, specs.Edit.{Edit, gives}, specs.TouchedRanges.{PutAreTouched, put_ranges}}
 use Rattle.yq_edit_laws.{specs.Theorems.HasReading, specs.Valid.segments_by}
 use Rattle.yq_splice.specs.TouchedLines.{touched_lines}
 use Rattle.yq_failure.specs.declared.failure.Failure.TheVariants as reading
@@ -67,3 +67,11 @@ pub record IsScanned (op : Operation) (t new : List ℕ) (before after : ℕ) : 
 abbrev pub Scans : Operation → (t new : List ℕ) → List Splice → (before after : ℕ) → Type 0
 Scans op t new cs before after =
     ((cs ≡ []) × (new ≡ t) × (after ≡ before)) ⊎ ((cs ≢ []) × IsScanned op t new before after)
+
+-- what an operation gives of a session's text, with its splices (own)
+abbrev pub GivesNew : Operation → (old new : SessionState) → Vec Splice Global → Type 0
+GivesNew op old new cs = carried op old.text ≡ gives new.text cs.items
+
+-- what it adds to a session's count (own)
+abbrev pub ScansNew : Operation → (old new : SessionState) → Vec Splice Global → Type 0
+ScansNew op old new cs = Scans op old.text new.text cs.items old.scanned new.scanned

@@ -7,7 +7,7 @@ ghost use Rattle.yq_batch.{specs.HeadRuns.MayGive, specs.RowRemovals.{CarriesFir
 ghost use Rattle.yq_splice.specs.ByLines as runs;
 ghost use Rattle.yq_edit_laws.specs.Carried as spec;
 
-use crate::carrying::{apply_op, carry_all, cut_again, edited_behind, with_last};
+use crate::carrying::{carry, carry_all, cut_again, edited_behind, with_last};
 use std::alloc::Global;
 use yq_batch::{Together, carry_beside, carry_in_heads, carry_in_rows};
 use yq_lookup::CutText;
@@ -35,7 +35,7 @@ fn with_next<'o>(alloc: Global, together: Together<'o>) -> Result<Together<'o>, 
         return Ok(Together { edited, left });
     };
     let Edited { text, splices } = edited;
-    let next = apply_op(alloc, text.as_str(), op)?;
+    let next = carry(alloc, text.as_str(), op)?;
     let edited = edited_behind(splices, next)?;
     Ok(Together {
         edited,

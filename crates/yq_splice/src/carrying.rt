@@ -25,7 +25,7 @@ use yq_tree::read;
 
 /// An operation carried out on a text that has a reading.
 #[tactic(auto, using(crate::proofs::SessionLaws::carried_again))]
-fn carry(alloc: Global, text: &str, op: &Op) -> Result<Edited, ExprError>
+pub(crate) fn carry(alloc: Global, text: &str, op: &Op) -> Result<Edited, ExprError>
     requires { HasReading text.now }
     ensures { Edits result (spec.carried (operation_of op.now) text.now) }
 {
@@ -71,7 +71,7 @@ pub(crate) fn carry_all(
         if after.is_empty() {
             return session.close_by(op, splices);
         }
-        let mut next = session.apply(op)?;
+        let mut next = session.apply_valid(op)?;
         splices.append(&mut next)?;
         rest = after;
     }

@@ -104,7 +104,7 @@ fn planned_by_rows(
     if !is_sole(documents) {
         return Ok(None);
     }
-    let mut cut = CutText::of_document(documents, 0);
+    let mut cut = CutText::of(documents);
     plan_by_rows(alloc, &mut cut, program, nth)
 }
 

@@ -6,10 +6,11 @@ ghost use Rattle.yq_row_table.specs.Meter.{count_after, line_count};
 ghost use Rattle.yq_core.specs.Answers.{Gives};
 ghost use Rattle.yq_text.specs.Halves.{whole};
 ghost use Rattle.yq_lookup.specs.Knowledge.{KnowledgeStays};
+ghost use Rattle.yq_edit_rules.specs.Operands.{HasOperand};
 ghost use Rattle.yq_edit_laws.{specs.Answers.{Edits, EditFails}, specs.Carried.carried, specs.Edit.{edit_after, gives}};
 ghost use Rattle.yq_edit_laws.specs.Theorems.{HasReading, IsApplied, IsFitting, OpRefused};
 ghost use Rattle.yq_expr.specs.FixedPaths.{IfAny, IsSole, PlansAlone};
-ghost use Rattle.yq_splice.specs.Session.{HasPlaces, IsChangeBy, NotOpened, Scans};
+ghost use Rattle.yq_splice.specs.Session.{GivesNew, HasPlaces, IsChangeBy, NotOpened, Scans, ScansNew};
 
 use crate::borrowed::{carry_in, change_in, plan_in};
 use crate::carrying::edited_behind;
@@ -149,6 +150,18 @@ impl Session {
         ensures kept { OnErr result (self.new ≡ self.old) }
     {
         operand_holds(op);
+        self.apply_valid(op)
+    }
+
+    /// The same of an operation whose operand is known to be valid.
+    pub(crate) fn apply_valid(&mut self, op: &Op) -> Result<Vec<Splice>, ExprError>
+        requires fits { IsFitting (operation_of op.now) self.old.text }
+        requires operand { HasOperand (operation_of op.now) }
+        ensures ok { IfOk result (GivesNew (operation_of op.now) self.old self.new) }
+        ensures err { IfErr result (λ e. EditFails e (carried (operation_of op.now) self.old.text)) }
+        ensures scanned { IfOk result (ScansNew (operation_of op.now) self.old self.new) }
+        ensures kept { OnErr result (self.new ≡ self.old) }
+    {
         let (changed, known) = self.change(op)?;
         let ChangedMiddle {
             front,

@@ -38,7 +38,7 @@ pub(crate) fn update_session(
     let _count = program.updates();
     'updates: loop {
         operand_holds(&op);
-        let mut added = session.apply(&op)?;
+        let mut added = session.apply_valid(&op)?;
         splices.append(&mut added)?;
         done += 1;
         let next = session.plan(program, done)?;

@@ -1,14 +1,20 @@
 -- The item or entry of a flow collection at a path, by what is made of its row.
-use Rattle.std.{proofs.Common.{◌≡◌, ℕ, ◌+◌, ◌-◌, eqb, List, length, Option, Some, true, false, sym, ◌∙◌}, specs.List.slice_get}
+use Rattle.std.proofs.Common.{◌≡◌, ℕ, ◌+◌, ◌-◌, ◌<◌, eqb, List, [], ◌∷◌, length, Option, Some, None, true, false, refl, sym, ◌∙◌, arith}
+use Rattle.std.specs.List.{slice_get}
 use Rattle.yq_core.{specs.Answers.◌>>=◌, specs.Paths.Step, specs.Entries.PlacedEntry, specs.Places.Placed}
 use Rattle.yq_outline.{specs.Ends.reached, specs.Lines.lines_of_rows, specs.RowWalk.{HasDocument, IsLine, line_number, stretch_view}}
 use Rattle.yq_outline.{specs.declared.line_position.Position.Position, specs.declared.line_position.Stretch.Stretch}
 use Rattle.yq_row_table.{specs.Exchange.behind_row, specs.Grammar.IsCut, specs.Rows.{Row, cut_text}}
 use Rattle.yq_row_table.specs.View.{rows_of, RowsView, rows_view}
-use Rattle.yq_documents.{specs.Documents.document_parts, specs.FlowReading.row_flow, specs.Reading.{all_documents, cut_of}}
-use Rattle.yq_documents.specs.LinesInRows.{RowLine, document_row}
+use Rattle.yq_documents.{specs.Decoded.alias_from, specs.Documents.document_parts, specs.FlowReading.row_flow}
+use Rattle.yq_documents.{specs.Reading.{all_documents, cut_of}, specs.LinesInRows.{RowLine, document_row}}
 use Rattle.yq_places.{specs.EntryReading.{entry_within, flow_entry_of}, specs.RowWalk.document_row_range, proofs.EntryPlaceLaws.flow_left}
 use Rattle.yq_places.{proofs.WalkDocuments.place_found, proofs.WalkNodes.{before_is, row_in_cut, row_is, row_line_is}}
+
+-- an alias has no items and no entries
+pub alias_within : (steps : List Step) (n : List ℕ) (start : ℕ) → 0 < length steps → None ≡ entry_within steps (Some (alias_from n start))
+alias_within [] n start some = absurd (omega (arith, some))
+alias_within (s ∷ ss) n start some = refl
 
 pub flow_found : (t : List ℕ) (s : RowsView) (i : ℕ) (d : Stretch) (q : Position) (steps left : List Step) (flow : Option Placed) (found : Option PlacedEntry) → IsCut t (cut_of t) → s ≡ rows_view (cut_of t) →
     Some (stretch_view d) ≡ document_row_range i (cut_of t) → all_documents (cut_of t) ≡ true → IsLine s d q → ((h : HasDocument s d) → Some (line_number d h.stand.rows q, left) ≡ reached steps (lines_of_rows h.stand.rows)) →

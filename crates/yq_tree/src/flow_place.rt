@@ -1,5 +1,5 @@
 //! Where items and entries are in flow collections, and their contents.
-ghost use Rattle.std.specs.Prelude.{◌≡◌, map, option_map};
+ghost use Rattle.std.specs.Prelude.{◌≡◌, ◌<◌, length, map, option_map};
 ghost use Rattle.yq_core.specs.Entries.{content_place, entry_place, tree_step};
 ghost use Rattle.yq_outline.specs.View.{head_flow};
 ghost use Rattle.yq_documents.{specs.Decoded.{decoded_flow, decoded_head_flow as flow}, specs.Pieces.span, specs.Reading.cut_of};
@@ -39,12 +39,14 @@ fn decoded_head_entry<'d, 't>(
     head: &'d DecodedHead<'t>,
     steps: &[Step],
 ) -> Option<FlowEntry<'d, 't>>
+    requires some { 0 < length steps.now }
     ensures { option_map view result ≡
         spec.entry_within (map tree_step steps.now) (flow head.now) }
 {
     match head {
         DecodedHead::Owned(head) => head_entry(head, steps),
         DecodedHead::Borrowed(node) => Some(FlowEntry::Borrowed(entry_in(*node, steps)?)),
+        DecodedHead::Alias(..) => None,
     }
 }
 
@@ -75,6 +77,7 @@ fn decoded_entry<'d, 't>(
     decoded: Option<&'d Decoded<'t>>,
     steps: &[Step],
 ) -> Option<FlowEntry<'d, 't>>
+    requires some { 0 < length steps.now }
     ensures { option_map view result ≡
         spec.entry_within (map tree_step steps.now)
         (decoded_flow (option_map (λ m. m.now) decoded.entry)) }

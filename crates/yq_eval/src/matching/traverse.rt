@@ -116,7 +116,7 @@ fn push_step<'a, 't>(
 }
 
 /// Where a step leads from places, one after the other.
-pub(crate) fn step_each<'a, 't>(
+pub fn step_each<'a, 't>(
     alloc: Global,
     bump: &'a Bump,
     step: &'a PathStep,

@@ -112,7 +112,7 @@ fn list(alloc: Global, text: &str, depth: usize) -> Result<(Vec<Value>, &str), P
         found.push(item)?;
         match after(behind, ",") {
             Some(next) => rest = next,
-            None => return closed(found, behind, "]"),
+            None => return closed(found, behind, "]", Expected::Mark(']')),
         }
     }
 }
@@ -137,7 +137,7 @@ fn mapping(
         found.push(field)?;
         match after(behind, ",") {
             Some(next) => rest = next,
-            None => return closed(found, behind, "}"),
+            None => return closed(found, behind, "}", Expected::Mark('}')),
         }
     }
 }
@@ -149,7 +149,7 @@ fn field(alloc: Global, text: &str, depth: usize) -> Result<((String, Value), &s
     ensures shorter { Shortens text.now result }
 {
     let (key, rest) = string(alloc, text, Expected::Key)?;
-    let rest = expect(rest, ":")?;
+    let rest = expect(rest, ":", Expected::Mark(':'))?;
     let (value, rest) = literal(alloc, rest, depth)?;
     Ok(((key, value), rest))
 }

@@ -21,10 +21,10 @@ fn bracketed(alloc: Global, text: &str) -> Result<(PathStep, &str), ParseError>
     }
     if let Some((digits, rest)) = number(text) {
         let index = int_value(digits).ok_or(ParseError::Fault(misread(text, Expected::Step)))?;
-        return closed(PathStep::Index(index), rest, "]");
+        return closed(PathStep::Index(index), rest, "]", Expected::Mark(']'));
     }
     let (key, rest) = string(alloc, text, Expected::Step)?;
-    closed(PathStep::Key(key), rest, "]")
+    closed(PathStep::Key(key), rest, "]", Expected::Mark(']'))
 }
 
 /// A step in brackets, if an opening one is in front.
@@ -84,7 +84,7 @@ pub(super) fn path(alloc: Global, text: &str) -> Result<(Vec<PathStep>, &str), P
     }
     let (steps, rest) = steps(alloc, text)?;
     if steps.is_empty() {
-        return closed(steps, rest, ".");
+        return closed(steps, rest, ".", Expected::Path);
     }
     Ok((steps, rest))
 }

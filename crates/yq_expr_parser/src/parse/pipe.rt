@@ -37,7 +37,7 @@ fn comparison(text: &str) -> Result<(bool, &str), ParseError>
     if let Some(rest) = after(text, "==") {
         return Ok((true, rest));
     }
-    closed(false, text, "!=")
+    closed(false, text, "!=", Expected::Comparison)
 }
 
 /// A condition.
@@ -47,8 +47,12 @@ fn condition(alloc: Global, text: &str) -> Result<(Condition, &str), ParseError>
     ensures shorter { Shortens text.now result }
 {
     if let Some(rest) = after(text, "has") {
-        let (key, rest) = string(alloc, expect(rest, "(")?, Expected::Key)?;
-        return closed(Condition::Has(key), rest, ")");
+        let (key, rest) = string(
+            alloc,
+            expect(rest, "(", Expected::Mark('('))?,
+            Expected::Key,
+        )?;
+        return closed(Condition::Has(key), rest, ")", Expected::Mark(')'));
     }
     let (operand, rest) = operand(alloc, text)?;
     let (equal, rest) = comparison(rest)?;
@@ -69,8 +73,8 @@ fn stage(alloc: Global, text: &str) -> Result<(Stage, &str), ParseError>
     ensures shorter { Shortens text.now result }
 {
     if let Some(rest) = after(text, "select") {
-        let (condition, rest) = condition(alloc, expect(rest, "(")?)?;
-        return closed(Stage::Select(condition), rest, ")");
+        let (condition, rest) = condition(alloc, expect(rest, "(", Expected::Mark('('))?)?;
+        return closed(Stage::Select(condition), rest, ")", Expected::Mark(')'));
     }
     path(alloc, text).map(|(steps, rest)| (Stage::Path(steps), rest))
 }
@@ -101,7 +105,7 @@ pub(super) fn left(alloc: Global, text: &str) -> Result<(Vec<Stage>, &str), Pars
 {
     if let Some(rest) = after(text, "(") {
         let (stages, rest) = pipe(alloc, rest)?;
-        return closed(stages, rest, ")");
+        return closed(stages, rest, ")", Expected::Mark(')'));
     }
     let (steps, rest) = path(alloc, text)?;
     let mut stages = Vec::new(alloc);

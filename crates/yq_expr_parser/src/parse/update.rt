@@ -82,7 +82,7 @@ fn place(text: &str) -> Result<(CommentPlace, &str), ParseError>
     if let Some(rest) = after(text, "line_comment") {
         return Ok((CommentPlace::Line, rest));
     }
-    closed(CommentPlace::Head, text, "head_comment")
+    closed(CommentPlace::Head, text, "head_comment", Expected::Operator)
 }
 
 /// What is done with what `left` finds.
@@ -103,7 +103,11 @@ fn action(alloc: Global, left: Vec<Stage>, text: &str) -> Result<(Update, &str),
         ));
     }
     let (place, rest) = place(text)?;
-    let (text, rest) = string(alloc, expect(rest, "=")?, Expected::Text)?;
+    let (text, rest) = string(
+        alloc,
+        expect(rest, "=", Expected::Mark('='))?,
+        Expected::Text,
+    )?;
     Ok((Update::Comment(Comment { left, place, text }), rest))
 }
 
@@ -114,8 +118,8 @@ fn update(alloc: Global, text: &str) -> Result<(Update, &str), ParseError>
     ensures shorter { Shortens text.now result }
 {
     if let Some(rest) = after(text, "del") {
-        let (stages, rest) = pipe(alloc, expect(rest, "(")?)?;
-        return closed(Update::Delete(stages), rest, ")");
+        let (stages, rest) = pipe(alloc, expect(rest, "(", Expected::Mark('('))?)?;
+        return closed(Update::Delete(stages), rest, ")", Expected::Mark(')'));
     }
     let (left, rest) = left(alloc, text)?;
     action(alloc, left, rest)

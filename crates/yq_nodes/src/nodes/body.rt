@@ -14,10 +14,12 @@ pub(crate) enum Body<'d, 't> {
     Map(Under<'d, 't>),
     /// The items of these lines.
     List(Under<'d, 't>),
-    /// An alias or a flow collection after a mark, or what is in one.
+    /// A flow collection after a mark, or what is in one.
     Inline(&'d Inline<'t>),
     /// A flow collection after a mark, or what is in one, of which the text lends each key and scalar.
     Borrowed(BorrowedNode<'t>),
+    /// An alias after a mark, by its name.
+    Alias(&'t str),
 }
 
 /// A node, with the anchor before it.

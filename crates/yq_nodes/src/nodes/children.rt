@@ -72,6 +72,7 @@ impl<'d, 't> Node<'d, 't> {
             Body::List(under) => Rest::Lines(under),
             Body::Inline(node) => inline_rest(node),
             Body::Borrowed(node) => borrowed_rest(node),
+            Body::Alias(_) => Rest::Nothing,
         }
     }
 

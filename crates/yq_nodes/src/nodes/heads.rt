@@ -48,6 +48,7 @@ fn decoded_body<'d, 't>(head: &'d DecodedHead<'t>) -> Option<Body<'d, 't>>
     match head {
         DecodedHead::Owned(head) => head_body(head),
         DecodedHead::Borrowed(node) => Some(Body::Borrowed(*node)),
+        DecodedHead::Alias(name, _) => Some(Body::Alias(name)),
     }
 }
 

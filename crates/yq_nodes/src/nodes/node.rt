@@ -74,6 +74,7 @@ fn body_refers(body: &Body<'_, '_>) -> bool
         Body::List(under) => under.text.may_refer(),
         Body::Inline(node) => node_refers(node),
         Body::Borrowed(_) => false,
+        Body::Alias(_) => true,
     }
 }
 
@@ -166,6 +167,7 @@ impl<'d, 't> Node<'d, 't> {
             Body::List(_) => NodeKind::List,
             Body::Inline(node) => inline_kind(node),
             Body::Borrowed(node) => borrowed_kind(node),
+            Body::Alias(_) => NodeKind::Alias,
         }
     }
 
@@ -181,6 +183,7 @@ impl<'d, 't> Node<'d, 't> {
             Body::List(_) => "",
             Body::Inline(node) => inline_text(node),
             Body::Borrowed(node) => borrowed_node_text(node),
+            Body::Alias(name) => name,
         }
     }
 
@@ -197,6 +200,7 @@ impl<'d, 't> Node<'d, 't> {
             Body::List(_) => before,
             Body::Inline(node) => inline_anchor(before, node),
             Body::Borrowed(_) => before,
+            Body::Alias(_) => None,
         }
     }
 

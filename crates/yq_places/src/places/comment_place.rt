@@ -4,16 +4,15 @@ ghost use Rattle.yq_text.specs.Limit.{text_limit};
 ghost use Rattle.yq_row_table.specs.View.{Slices};
 ghost use Rattle.yq_documents.specs.Pieces.{span};
 ghost use Rattle.yq_outline.specs.Extents.{IsRowsView};
-ghost use Rattle.yq_places.specs.RowLineReading.{line_view};
 ghost use Rattle.yq_places.specs.CommentReading as spec;
 ghost use Rattle.yq_outline.specs.Extents as extents;
 
-use crate::places::stretch::RowLine;
 use yq_core::lines::split_at_break;
 use yq_core::text::split_white;
 use yq_documents::{Span, is_comment, last_run};
+use yq_outline::Position;
 use yq_row_table::Rows;
-use yq_row_walk::row_start;
+use yq_row_walk::{lines_before_mark, row_start};
 
 /// The place of the comment in a tail that begins at a place.
 fn tail_comment(start: usize, tail: &str) -> Option<Span>
@@ -30,17 +29,17 @@ fn tail_comment(start: usize, tail: &str) -> Option<Span>
 }
 
 /// The place of the line comment of a line.
-pub fn line_comment_in(rows: &Rows<'_>, row_line: RowLine) -> Option<Span>
-    requires within { row_line.row < length rows.now.rows }
+pub fn line_comment_in(rows: &Rows<'_>, at: Position) -> Option<Span>
+    requires within { at.row < length rows.now.rows }
     requires rows_view { IsRowsView rows.now }
-    ensures { (x : Slices) → slice_get rows.now.rows row_line.row ≡ Some x → option_map span result ≡
-        spec.line_comment_span (extents.row_start row_line.row rows.now) x (line_view row_line) }
+    ensures { (x : Slices) → slice_get rows.now.rows at.row ≡ Some x → option_map span result ≡
+        spec.line_comment_span (extents.row_start at.row rows.now) x at }
 {
-    if row_line.line != row_line.dashes {
+    if at.line != lines_before_mark(rows, at.row) {
         return None;
     }
-    let row = rows.row(row_line.row);
-    let start = row_start(rows, row_line.row) + rows.before_head(row_line.row) + row.head().len();
+    let row = rows.row(at.row);
+    let start = row_start(rows, at.row) + rows.before_head(at.row) + row.head().len();
     tail_comment(start, row.tail())
 }
 
@@ -59,14 +58,14 @@ fn gap_comment(start: usize, gap: &str) -> Option<Span>
 }
 
 /// The place of the head comment of a line.
-pub fn head_comment_in(rows: &Rows<'_>, row_line: RowLine) -> Option<Span>
-    requires within { row_line.row < length rows.now.rows }
+pub fn head_comment_in(rows: &Rows<'_>, at: Position) -> Option<Span>
+    requires within { at.row < length rows.now.rows }
     requires rows_view { IsRowsView rows.now }
-    ensures { (x : Slices) → slice_get rows.now.rows row_line.row ≡ Some x → option_map span result ≡
-        spec.head_comment_span (extents.row_start row_line.row rows.now) x (line_view row_line) }
+    ensures { (x : Slices) → slice_get rows.now.rows at.row ≡ Some x → option_map span result ≡
+        spec.head_comment_span (extents.row_start at.row rows.now) x at }
 {
-    if row_line.line != 0 {
+    if at.line != 0 {
         return None;
     }
-    gap_comment(row_start(rows, row_line.row), rows.row(row_line.row).gap())
+    gap_comment(row_start(rows, at.row), rows.row(at.row).gap())
 }

@@ -1,5 +1,5 @@
 //! What is on the way of a path: the items from which later walks may go on, and lines.
-ghost use Rattle.std.specs.Prelude.{List, map, IfSome, Some};
+ghost use Rattle.std.specs.Prelude.{◌≡◌, List, map, IfSome, None, Some};
 ghost use Rattle.yq_core.specs.Entries.{tree_step};
 ghost use Rattle.yq_row_table.specs.View.{RowsView, Slices};
 ghost use Rattle.yq_outline.specs.RowWalk.{AreKnown, IsKnown};
@@ -134,19 +134,31 @@ pub struct Way<'s> {
     /// The line to which the steps before the last one lead.
     pub above: Option<KnownLine<'s>>,
     /// That to which all lead, if none goes on in the head of one.
-    pub at: Option<Position>,
+    pub line: Option<KnownLine<'s>>,
+}
+
+impl<'s> Way<'s> {
+    /// Nothing.
+    pub fn none() -> Way<'s>
+        ensures above { result.above ≡ None }
+        ensures line { result.line ≡ None }
+    {
+        Way {
+            items: 0,
+            above: None,
+            line: None,
+        }
+    }
 }
 
 /// The line to which steps lead, as one that is known.
 #[inline(always)]
-pub fn line_known<'s>(
+fn line_known<'s>(
     document: Stretch,
     steps: &'s [Step],
     at: Option<Position>,
 ) -> Option<KnownLine<'s>>
-    ensures known { (s : RowsView) → IfSome at (IsLineAt s document (map tree_step steps.now)) →
-        IfSome result (IsKnownLine s) }
-    ensures above { (s : RowsView) → ArriveAt s document steps.now at → IfSome result (IsLineAbove s) }
+    ensures { (s : RowsView) → ArriveAt s document steps.now at → IfSome result (IsLineAbove s) }
 {
     let at = at?;
     Some(KnownLine {
@@ -168,30 +180,30 @@ pub fn known_along<'s>(
     requires known { AreKnown walk.now.rows.now.rows known.old.items }
     ensures known { AreKnown walk.now.rows.now.rows known.new.items }
     ensures above { IfSome result.above (IsLineAbove walk.now.rows.now) }
-    ensures line { IfSome result.at (IsWalkLineAt walk.now steps.now) }
+    ensures line { IfSome result.line (IsKnownLine walk.now.rows.now) }
+    ensures at { IfSome result.line (λ k. IsWalkLineAt walk.now steps.now k.at) }
 {
-    let nothing = Way {
-        items: 0,
-        above: None,
-        at: None,
-    };
     let [front @ .., last] = steps else {
-        return nothing;
+        return Way::none();
     };
     let Some((count, from)) = known_above(walk, known, front) else {
-        return nothing;
+        return Way::none();
     };
     let above = line_known(walk.document, front, from);
     match step_along(walk, known, count, from, last) {
         Some((items, at)) => Way {
             items,
             above,
-            at: Some(at),
+            line: Some(KnownLine {
+                document: walk.document,
+                steps,
+                at,
+            }),
         },
         None => Way {
             items: count,
             above,
-            at: None,
+            line: None,
         },
     }
 }

@@ -5,10 +5,10 @@ ghost use Rattle.yq_semantics.specs.Changes as spec;
 
 use std::alloc::{AllocError, Global};
 use yq_core::characters::char_count;
-use yq_core::{DEPTH_LIMIT, Place, Scalar, Style, Value};
+use yq_core::{DEPTH_LIMIT, Place, Scalar, Value};
 use yq_row_table::KEY_LIMIT;
 use yq_scalar::write_scalar;
-use yq_scalar_reader::can_write;
+use yq_scalar_reader::written_style;
 
 /// Whether a key has too many characters as it is written in flow mappings.
 #[tactic(auto, unfolding(yq_core::specs::NodesWritten::scalar_text))]
@@ -16,11 +16,7 @@ pub fn is_long_key(alloc: Global, key: &str) -> Result<bool, AllocError>
     ensures { IfOk result (λ b. b ≡ spec.is_long_key key.now) }
 {
     let scalar = Scalar::string(String::from_str(alloc, key)?);
-    let style = if can_write(&scalar, Style::Plain, Place::FlowKey) {
-        Style::Plain
-    } else {
-        Style::Double
-    };
+    let style = written_style(&scalar, Place::FlowKey);
     let written = write_scalar(alloc, &scalar, style, Place::FlowKey)?;
     Ok(char_count(&written) > KEY_LIMIT)
 }

@@ -1,10 +1,15 @@
 use Rattle.std.{proofs.Common.{◌∙◌, ℕ, List, refl, subst}, proofs.lemmas.Result.err_from_is_err_and}
-use Rattle.yq_edit_laws.{specs.Answers.EditFails, proofs.OperationsLaws.{first_fails, first_fits, others_come, others_served}}
+use Rattle.yq_edit_laws.specs.Answers.{EditFails}
+use Rattle.yq_edit_laws.proofs.OperationsLaws.{first_fails, first_fits, first_operand, others_come, others_served}
 use Rattle.yq_batch.specs.FilledRuns.{filled_text}
 use Rattle.yq_batch.proofs.heads.put_in_head.Goals as goal
 
 pub operations-init : goal.operations-init
 operations-init c = record { whole = refl; serves = c.requires.serves; runs = record { run = c.requires.run; filled = tt } }
+
+pub carry_next-requires-clause-operand : goal.carry_next-requires-clause-operand
+carry_next-requires-clause-operand c =
+    first_operand c.operations.rest.now c.op-item.result c.in-len1-up.len_at_least c.op-item.is c.operations.invariant.serves.1.operands
 
 pub carry_next-requires-clause-fits : goal.carry_next-requires-clause-fits
 carry_next-requires-clause-fits c = first_fits c.operations.rest.now c.op-item.result (filled_text c.args.at.now c.operations.run) c.in-len1-up.len_at_least c.op-item.is c.operations.invariant.serves

@@ -2,7 +2,8 @@ use Rattle.std.{proofs.Common.{◌≡◌, ◌∙◌, ℕ, ◌<◌, ◌^◌, List
 use Rattle.std.{specs.String.string_bytes, specs.Str.IsCharBoundary, proofs.lemmas.Result.err_from_is_err_and}
 use Rattle.yq_documents.specs.Reading.{cut_of}
 use Rattle.yq_edit_laws.{proofs.CutLaws.text_small, specs.Carried.{carry_all, carried}, specs.Edit.{edit_after, gives}}
-use Rattle.yq_edit_laws.{specs.Valid.AreServed, proofs.OperationsLaws.{others_come, others_served, first_fails, first_fits, none_come}}
+use Rattle.yq_edit_laws.specs.Valid.{AreServed}
+use Rattle.yq_edit_laws.proofs.OperationsLaws.{others_come, others_served, first_fails, first_fits, first_operand, none_come}
 use Rattle.yq_edit_laws.{proofs.OrderLaws.behind_none, proofs.FlowAnswers.whole_text, specs.Answers.EditFails, specs.Theorems.IsFitting}
 use Rattle.yq_semantics.specs.Operations.{operation_of, operations_of}
 use Rattle.yq_batch.{specs.RowRuns.{RowsGoOn, IsRowsRun}, specs.Runs.{now_text, text_with_run}, proofs.RowRunAnswers.rows_begin}
@@ -49,6 +50,10 @@ pub put_one-requires-clause-fits : goal.put_one-requires-clause-fits
 put_one-requires-clause-fits c =
     subst (λ (u : List ℕ). IsFitting (operation_of c.op-item.result) (now_text (cut_of u) c.operations.run)) (sym c.operations.invariant.same)
     (first_fits c.operations.rest.now c.op-item.result (now_text (cut_of c.args.cut.now) c.operations.run) c.in-len1-up.len_at_least c.op-item.is c.operations.invariant.serves)
+
+pub put_one-requires-clause-operand : goal.put_one-requires-clause-operand
+put_one-requires-clause-operand c =
+    first_operand c.operations.rest.now c.op-item.result c.in-len1-up.len_at_least c.op-item.is c.operations.invariant.serves.1.operands
 
 pub returns-in_err-next-clause-err : goal.returns-in_err-next-clause-err
 returns-in_err-next-clause-err c =

@@ -2,7 +2,8 @@ use Rattle.std.{proofs.Common.{◌≡◌, ◌∙◌, ℕ, List, sym, ap, subst, 
 use Rattle.yq_text.specs.Halves.{whole}
 use Rattle.yq_semantics.specs.Operations.{operations_of}
 use Rattle.yq_edit_laws.{specs.Answers.EditFails, specs.Carried.carry_all, specs.Edit.edit_after, specs.Valid.AreServed}
-use Rattle.yq_edit_laws.{proofs.OperationsLaws.{first_fails, first_fits, others_come, others_served}, proofs.OrderLaws.behind_none}
+use Rattle.yq_edit_laws.proofs.OperationsLaws.{first_fails, first_fits, first_operand, others_come, others_served}
+use Rattle.yq_edit_laws.proofs.OrderLaws.{behind_none}
 use Rattle.yq_batch.{specs.FilledRuns.{IsKnownFilled, filled_text}, specs.Runs.{cut_with, stem_of, text_with_run}}
 use Rattle.yq_batch.proofs.RunAnswers.{begins, begins_with, edge_in}
 use Rattle.yq_batch.proofs.together.put_each.Goals as goal
@@ -18,6 +19,10 @@ operations-init c =
       serves = subst (AreServed (operations_of c.args.ops.now)) (sym text) c.requires.serves;
       runs = record { run = run; filled = subst (IsKnownFilled (cut_with x) run.cut x.doc (stem_of x) c.new-run.result.run.done) (sym new.filled) tt };
     }
+
+pub carry_next-requires-clause-operand : goal.carry_next-requires-clause-operand
+carry_next-requires-clause-operand c =
+    first_operand c.operations.rest.now c.op-item.result c.in-len1-up.len_at_least c.op-item.is c.operations.invariant.serves.1.operands
 
 pub carry_next-requires-clause-fits : goal.carry_next-requires-clause-fits
 carry_next-requires-clause-fits c = first_fits c.operations.rest.now c.op-item.result (filled_text c.args.at.now c.operations.run) c.in-len1-up.len_at_least c.op-item.is c.operations.invariant.serves

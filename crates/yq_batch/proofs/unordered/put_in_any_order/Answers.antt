@@ -2,10 +2,17 @@ use Rattle.std.{proofs.Common.{◌≡◌, ◌∙◌, ℕ, List, Option, sym, ap,
 use Rattle.yq_text.specs.Halves.{whole}
 use Rattle.yq_semantics.specs.Operations.{operation_of, operations_of}
 use Rattle.yq_edit_laws.{specs.Carried.carry_all, specs.Edit.edit_after, specs.Valid.AreServed}
-use Rattle.yq_edit_laws.proofs.OperationsLaws.{first_fits, others_come, others_served}
+use Rattle.yq_edit_laws.proofs.OperationsLaws.{first_fits, first_operand, others_come, others_served}
 use Rattle.yq_batch.{specs.OpenRuns.{MayWrite, open_text}, specs.Runs.{ChangesAt, cut_with}, specs.Slots.{slots_of, text_from}}
 use Rattle.yq_batch.{specs.declared.change.HeadChange.HeadChange, proofs.RunAnswers.lies_in, proofs.UnorderedAnswers.{open_starts, opens}}
 use Rattle.yq_batch.proofs.unordered.put_in_any_order.Goals as goal
+
+pub begun-requires-clause-operands : goal.begun-requires-clause-operands
+begun-requires-clause-operands c = c.requires.serves.1.operands
+
+pub change_of-requires-clause-operand : goal.change_of-requires-clause-operand
+change_of-requires-clause-operand c =
+    first_operand c.operations.rest.now c.op-item.result c.in-len1-up.len_at_least c.op-item.is c.operations.invariant.serves.1.operands
 
 pub put-requires : goal.put-requires
 put-requires c =

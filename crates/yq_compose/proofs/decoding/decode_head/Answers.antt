@@ -3,8 +3,9 @@ use Rattle.std.proofs.lemmas.Int.{to_z-of_z}
 use Rattle.yq_core.specs.Text.{is_empty}
 use Rattle.yq_row_table.{specs.Rows.parent_indent, specs.View.{Slices, slices}}
 use Rattle.yq_documents.specs.Reading.{cut_of}
-use Rattle.yq_compose.proofs.RowsRead.{fit_agrees, head_quoted, head_read, borrowed_fit, none_decoded, no_head, pieces_there, place_whole}
-use Rattle.yq_compose.{proofs.RowsRead.{read_decoded, row_at, text_ends, unfit_agrees}, proofs.DocumentsRead.cut_view}
+use Rattle.yq_compose.proofs.RowsRead.{alias_fit, alias_flow, alias_view, fit_agrees, head_quoted, head_read, borrowed_fit, none_decoded}
+use Rattle.yq_compose.proofs.RowsRead.{no_head, pieces_there, place_whole, read_decoded, row_at, text_ends, unfit_agrees}
+use Rattle.yq_compose.proofs.DocumentsRead.{cut_view}
 use Rattle.yq_documents.specs.declared.decoded.DecodedHead as kept
 use Rattle.yq_compose.proofs.decoding.decode_head.Goals as goal
 
@@ -124,15 +125,31 @@ pub returns-in-Some-clause-fits : goal.returns-in-Some-clause-fits
 returns-in-Some-clause-fits c = λ r is.
     let k = c.requires.cut in
     let head = c.head-head.ensures (slices r) (pieces_there c.args.text.now c.args.rows.now k c.args.i r is) in
-    let start = ap (λ (x : ℕ × ℕ). x.0) (c.head_place-start.ensures (cut_of c.args.text.now) k.rows r is) in
-    fit_agrees _ _ _ _ (head_read c.args.text.now c.args.rows.now k c.args.i r is c.split_at.result.1.now c.head_place-start.result.0
-    c.split_at.ensures.back start (parent_indent r) c.head-head.result.now refl head) (c.in-Some.ensures.view (parent_indent r))
+    alias_fit c.args.text.now c.args.rows.now k c.args.i r is c.head-head.result.now c.in-Some.name.now head c.in-Some.ensures.0 c.in-Some.ensures.1
 
 pub returns-in-Some-clause-agrees : goal.returns-in-Some-clause-agrees
 returns-in-Some-clause-agrees c = λ r is.
     let k = c.requires.cut in
     let head = c.head-head.ensures (slices r) (pieces_there c.args.text.now c.args.rows.now k c.args.i r is) in
     let start = ap (λ (x : ℕ × ℕ). x.0) (c.head_place-start.ensures (cut_of c.args.text.now) k.rows r is) in
+    record {
+      head = alias_view c.args.text.now c.args.rows.now k c.args.i r is c.head-head.result.now c.in-Some.name.now head c.in-Some.ensures.0 c.in-Some.ensures.1;
+      flow = alias_flow c.args.text.now c.args.rows.now k c.args.i r is c.head-head.result.now c.in-Some.name.now head c.in-Some.ensures.0 c.in-Some.ensures.1 c.head_place-start.result.0 start;
+    }
+
+pub returns-in-Some-borrow_head-clause-fits : goal.returns-in-Some-borrow_head-clause-fits
+returns-in-Some-borrow_head-clause-fits c = λ r is.
+    let k = c.requires.cut in
+    let head = c.head-head.ensures (slices r) (pieces_there c.args.text.now c.args.rows.now k c.args.i r is) in
+    let start = ap (λ (x : ℕ × ℕ). x.0) (c.head_place-start.ensures (cut_of c.args.text.now) k.rows r is) in
+    fit_agrees _ _ _ _ (head_read c.args.text.now c.args.rows.now k c.args.i r is c.split_at.result.1.now c.head_place-start.result.0
+    c.split_at.ensures.back start (parent_indent r) c.head-head.result.now refl head) (c.in-Some-borrow_head.ensures.view (parent_indent r))
+
+pub returns-in-Some-borrow_head-clause-agrees : goal.returns-in-Some-borrow_head-clause-agrees
+returns-in-Some-borrow_head-clause-agrees c = λ r is.
+    let k = c.requires.cut in
+    let head = c.head-head.ensures (slices r) (pieces_there c.args.text.now c.args.rows.now k c.args.i r is) in
+    let start = ap (λ (x : ℕ × ℕ). x.0) (c.head_place-start.ensures (cut_of c.args.text.now) k.rows r is) in
     read_decoded c.args.text.now c.args.rows.now k c.args.i r is c.split_at.result.1.now c.head_place-start.result.0 c.split_at.ensures.back start
-    (parent_indent r) c.head-head.result.now refl head (kept.TheVariants.Borrowed c.in-Some.node) (c.in-Some.ensures.view (parent_indent r))
-    (c.in-Some.ensures.flow (parent_indent r))
+    (parent_indent r) c.head-head.result.now refl head (kept.TheVariants.Borrowed c.in-Some-borrow_head.node) (c.in-Some-borrow_head.ensures.view (parent_indent r))
+    (c.in-Some-borrow_head.ensures.flow (parent_indent r))

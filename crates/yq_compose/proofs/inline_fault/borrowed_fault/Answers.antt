@@ -1,9 +1,5 @@
-use Rattle.std.proofs.Common.{arith}
-use Rattle.yq_compose.{proofs.BorrowedDepths.{depth_kept, never_unread, read_in_front}, proofs.DecidingLaws.decides_as}
+use Rattle.yq_compose.{proofs.BorrowedDepths.{never_unread, read_in_front}, proofs.DecidingLaws.decides_as}
 use Rattle.yq_compose.proofs.inline_fault.borrowed_fault.Goals as goal
-
-pub returns-then-node-depth-clause-sound : goal.returns-then-node-depth-clause-sound
-returns-then-node-depth-clause-sound c = depth_kept c.args.node.total c.args.node.depth c.args.depth c.args.node.text.now c.args.node.borrowed (omega (arith, c.if-node-depth.true))
 
 pub returns-in-Ok-clause-sound : goal.returns-in-Ok-clause-sound
 returns-in-Ok-clause-sound c = decides_as c.node_fault.result _ _ (read_in_front c.args.node.total _ c.args.node.depth c.args.depth c.args.node.text.now _ _ c.in-Ok.ensures.read) c.node_fault.ensures.sound

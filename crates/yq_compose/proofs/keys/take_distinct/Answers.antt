@@ -26,8 +26,8 @@ back_texts f (suc n) (x ∷ xs) = ap (λ (m : ℕ). map f (take m (drop n xs))) 
 
 pub returns-clause-differ : goal.returns-clause-differ
 returns-clause-differ c =
-    subst (λ (ks : List (List ℕ)). IsTrue c.are_distinct-differ.result ↔ AreDistinct ks)
-    (back_texts (λ k. k.now) c.args.others c.deref_mut.result.now ∙ ap (λ xs. drop c.args.others (map (λ k. k.now) xs)) c.deref_mut.ensures.value) c.are_distinct-differ.ensures
+    subst (λ (ks : List (List ℕ)). IsTrue c.all_differ-differ.result ↔ AreDistinct ks)
+    (back_texts (λ k. k.now) c.args.others c.deref_mut.result.now ∙ ap (λ xs. drop c.args.others (map (λ k. k.now) xs)) c.deref_mut.ensures.value) c.all_differ-differ.ensures
 
 pub returns-clause-kept : goal.returns-clause-kept
 returns-clause-kept c =

@@ -19,7 +19,7 @@ rows-preserved c =
     record {
       within = omega (arith, c.rows-test.true, c.len.ensures);
       so_far = row_step c.args.text.now c.rows.at c.rows.decoded.items c.rows.invariant.so_far r.0 r.1 (c.in-Ok.ensures.fits r.0 r.1) c.in-Ok.row
-          c.in_ok-decoded.decoded.items c.in-Ok.ensures.row c.in_ok-decoded.ensures (c.in-Ok.ensures.agrees r.0 r.1);
+          c.push_decoded.new.decoded.items c.in-Ok.ensures.row c.in_ok-push_decoded.ensures (c.in-Ok.ensures.agrees r.0 r.1);
     }
 
 pub returns-clause-fits : goal.returns-clause-fits

@@ -30,9 +30,9 @@ rows-preserved c =
     record {
       at = suc (get_or c.rows.left.now 0 0);
       within = omega (arith, u.0);
-      upto = subst (λ (n : ℕ). DecodedUpto c.args.text.now n c.in_ok-decoded-2.decoded.items) (omega arith)
+      upto = subst (λ (n : ℕ). DecodedUpto c.args.text.now n c.push_decoded.new.decoded.items) (omega arith)
           (row_step c.args.text.now (get_or c.rows.left.now 0 0) c.rows.decoded.items u.1 r.0 r.1 (c.in-Ok.ensures.fits r.0 r.1) c.in-Ok.found
-          c.in_ok-decoded-2.decoded.items c.in-Ok.ensures.row c.in_ok-decoded-2.ensures (c.in-Ok.ensures.agrees r.0 r.1));
+          c.push_decoded.new.decoded.items c.in-Ok.ensures.row c.in_ok-push_decoded.ensures (c.in-Ok.ensures.agrees r.0 r.1));
       others = u.2;
     }
 

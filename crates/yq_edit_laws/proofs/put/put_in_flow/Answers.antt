@@ -17,20 +17,20 @@ edit_at-requires c =
     let last = c.in-Some.ensures ∙ ap (λ ss. last_step (map tree_step ss)) c.deref.ensures.value in
     let f = part_found c.args.cut.now c.args.path.now.doc (map tree_step c.in-Some.above.now) (tree_step c.in-Some.last.now) _
     (c.in-Some-found.part, c.in-Some-found.before) c.text-text.ensures.read c.in_ok-found.ensures c.in-Some-found.is in
-    let h = puts_found _ _ (steps_of c.args.path.now) _ _ (c.in-Some-found.part, c.in-Some-found.before) last f (value_node c.args.value.now) c.in_ok-put.put c.in_ok-put.ensures in
+    let h = puts_found _ _ (steps_of c.args.path.now) _ _ (c.in-Some-found.part, c.in-Some-found.before) last f (value_node c.args.value.now) c.replace_place-place.result c.in_ok-put.put c.replace_place-place.ensures c.in_ok-put.ensures in
     let all = whole_text c.args.cut.now (whole c.text-text.result) c.text-text.ensures.read c.text-text.ensures.text in
-    record { lies = subst (λ (t : List ℕ). LiesIn t (place_after c.in-Some-found.before c.in_ok-put.put.place)) (sym all) h.2.lies }
+    record { lies = subst (λ (t : List ℕ). LiesIn t (place_after c.in-Some-found.before c.replace_place-place.result)) (sym all) h.2.lies }
 
-pub returns-in-Some-written : goal.returns-in-Some-written
-returns-in-Some-written c =
+pub returns-in-Some-put : goal.returns-in-Some-put
+returns-in-Some-put c =
     let last = c.in-Some.ensures ∙ ap (λ ss. last_step (map tree_step ss)) c.deref.ensures.value in
     let f = part_found c.args.cut.now c.args.path.now.doc (map tree_step c.in-Some.above.now) (tree_step c.in-Some.last.now) _
     (c.in-Some-found.part, c.in-Some-found.before) c.text-text.ensures.read c.in_ok-found.ensures c.in-Some-found.is in
-    let h = puts_found _ _ (steps_of c.args.path.now) _ _ (c.in-Some-found.part, c.in-Some-found.before) last f (value_node c.args.value.now) c.in_ok-put.put c.in_ok-put.ensures in
+    let h = puts_found _ _ (steps_of c.args.path.now) _ _ (c.in-Some-found.part, c.in-Some-found.before) last f (value_node c.args.value.now) c.replace_place-place.result c.in_ok-put.put c.replace_place-place.ensures c.in_ok-put.ensures in
     let all = whole_text c.args.cut.now (whole c.text-text.result) c.text-text.ensures.read c.text-text.ensures.text in
     subst (GivesSegments c.edit_at.result)
     (sym (puts_written c.args.path.now.doc (steps_of c.args.path.now) (value_node c.args.value.now) (cut_of c.args.cut.now)
-    c.in-Some-found.before c.in_ok-put.put c.in-Some-written.written (whole c.text-text.result) c.in-Some-written.is all h))
+    (place_after c.in-Some-found.before c.replace_place-place.result) c.in_ok-put.put c.in-Some-put.written (whole c.text-text.result) c.in-Some-put.is all h))
     c.edit_at.ensures
 
 pub returns : goal.returns
@@ -38,5 +38,5 @@ returns c =
     let last = c.in-Some.ensures ∙ ap (λ ss. last_step (map tree_step ss)) c.deref.ensures.value in
     let f = part_found c.args.cut.now c.args.path.now.doc (map tree_step c.in-Some.above.now) (tree_step c.in-Some.last.now) _
     (c.in-Some-found.part, c.in-Some-found.before) c.text-text.ensures.read c.in_ok-found.ensures c.in-Some-found.is in
-    let h = puts_found _ _ (steps_of c.args.path.now) _ _ (c.in-Some-found.part, c.in-Some-found.before) last f (value_node c.args.value.now) c.in_ok-put.put c.in_ok-put.ensures in
-    puts_kept c.args.path.now.doc (steps_of c.args.path.now) (value_node c.args.value.now) (cut_of c.args.cut.now) c.in-Some-found.before c.in_ok-put.put c.in-None.is h ∙ ap Some (sym c.in_ok-unchanged-in-None.ensures)
+    let h = puts_found _ _ (steps_of c.args.path.now) _ _ (c.in-Some-found.part, c.in-Some-found.before) last f (value_node c.args.value.now) c.replace_place-place.result c.in_ok-put.put c.replace_place-place.ensures c.in_ok-put.ensures in
+    puts_kept c.args.path.now.doc (steps_of c.args.path.now) (value_node c.args.value.now) (cut_of c.args.cut.now) _ c.in_ok-put.put c.in-None.is h ∙ ap Some (sym c.in_ok-unchanged-in-None.ensures)

@@ -1,15 +1,19 @@
 use Rattle.std.{proofs.Common.{ap, sym, ◌∙◌, subst, eqb-true, List, ℕ, arith}, proofs.lemmas.Result.err_from_is_err_and}
 use Rattle.yq_edit_laws.{specs.Answers.{Edits, EditFails}, specs.Edit.{edit_after, gives}}
-use Rattle.yq_edit_laws.proofs.OperationsLaws.{last_comes, others_come, others_served, first_fails, first_fits, none_come}
-use Rattle.yq_edit_laws.{specs.Carried.carry_all, specs.Valid.AreServed}
-use Rattle.yq_semantics.specs.Operations.{operations_of}
+use Rattle.yq_edit_laws.proofs.OperationsLaws.{last_comes, others_come, others_served, first_fails, first_fits, first_operand, none_come}
+use Rattle.yq_edit_laws.{specs.Carried.carry_all, specs.Valid.AreServed, proofs.ApplyLaws.applied_by}
+use Rattle.yq_semantics.specs.Operations.{operation_of, operations_of}
 use Rattle.yq_splice.proofs.carrying.carry_all.Goals as goal
 
 pub operations-preserved : goal.operations-preserved
 operations-preserved c = record {
-  whole = others_come c.operations.rest.now c.op-item.result c.operations.session.text c.apply.new.self.text c.operations.splices.items c.in_ok-next.next.items c.append.new.self.items
+  whole = others_come c.operations.rest.now c.op-item.result c.operations.session.text c.apply_valid.new.self.text c.operations.splices.items c.in_ok-next.next.items c.append.new.self.items
       c.in-len1-up.len_at_least c.op-item.is c.in_ok-next.ensures.ok c.in_ok-append.ensures.items ∙ c.operations.invariant.whole;
-  serves = others_served c.operations.rest.now c.op-item.result c.operations.session.text c.apply.new.self.text c.in_ok-next.next.items c.in-len1-up.len_at_least c.op-item.is c.operations.invariant.serves c.in_ok-next.ensures.done;
+  serves = others_served c.operations.rest.now c.op-item.result c.operations.session.text c.apply_valid.new.self.text c.in_ok-next.next.items c.in-len1-up.len_at_least c.op-item.is c.operations.invariant.serves
+      (applied_by (operation_of c.op-item.result) c.operations.session.text
+      (first_operand c.operations.rest.now c.op-item.result c.in-len1-up.len_at_least c.op-item.is c.operations.invariant.serves.1.operands)
+      (first_fits c.operations.rest.now c.op-item.result c.operations.session.text c.in-len1-up.len_at_least c.op-item.is c.operations.invariant.serves)
+      c.apply_valid.new.self.text c.in_ok-next.next.items c.in_ok-next.ensures.ok);
 }
 
 pub returns-then-is_empty : goal.returns-then-is_empty
@@ -23,8 +27,12 @@ operations-init c = record {
   serves = subst (AreServed (operations_of c.args.ops.now)) (sym c.of-session.ensures) c.requires.serves;
 }
 
-pub apply-requires : goal.apply-requires
-apply-requires c = first_fits c.operations.rest.now c.op-item.result c.operations.session.text c.in-len1-up.len_at_least c.op-item.is c.operations.invariant.serves
+pub apply_valid-requires-clause-operand : goal.apply_valid-requires-clause-operand
+apply_valid-requires-clause-operand c =
+    first_operand c.operations.rest.now c.op-item.result c.in-len1-up.len_at_least c.op-item.is c.operations.invariant.serves.1.operands
+
+pub apply_valid-requires-clause-fits : goal.apply_valid-requires-clause-fits
+apply_valid-requires-clause-fits c = first_fits c.operations.rest.now c.op-item.result c.operations.session.text c.in-len1-up.len_at_least c.op-item.is c.operations.invariant.serves
 
 pub returns-in_err-next : goal.returns-in_err-next
 returns-in_err-next c =

@@ -18,8 +18,8 @@ updates-init c = record {
   leads = λ t led. led;
 }
 
-pub apply-requires : goal.apply-requires
-apply-requires c =
+pub apply_valid-requires-clause-fits : goal.apply_valid-requires-clause-fits
+apply_valid-requires-clause-fits c =
     let u = update_there (program_of c.args.program.now) c.updates.done c.updates.invariant.within in
     one_fits u.0 c.updates.session.text (operation_of c.updates.op) c.updates.invariant.reads (c.updates.invariant.plans u.0 u.1) (update_holds (program_of c.args.program.now) c.updates.done u.0 c.requires.literals u.1)
 
@@ -36,30 +36,32 @@ plan-requires c =
     let u = update_there (program_of c.args.program.now) c.updates.done c.updates.invariant.within in
     let holds = update_holds (program_of c.args.program.now) c.updates.done u.0 c.requires.literals u.1 in
     let step = one_done u.0 c.updates.session.text (operation_of c.updates.op) c.updates.invariant.reads (c.updates.invariant.plans u.0 u.1) holds
-    c.operand_holds.ensures c.apply.new.self.text c.in_ok-added.added.items c.in_ok-added.ensures.ok in
-    sole_on u.0 c.updates.session.text c.apply.new.self.text c.in_ok-added.added.items holds step.is c.updates.invariant.sole
+    c.operand_holds.ensures c.apply_valid.new.self.text c.in_ok-added.added.items c.in_ok-added.ensures.ok in
+    sole_on u.0 c.updates.session.text c.apply_valid.new.self.text c.in_ok-added.added.items holds step.is c.updates.invariant.sole
 
 pub updates-preserved : goal.updates-preserved
 updates-preserved c =
     let u = update_there (program_of c.args.program.now) c.updates.done c.updates.invariant.within in
     let holds = update_holds (program_of c.args.program.now) c.updates.done u.0 c.requires.literals u.1 in
     let step = one_done u.0 c.updates.session.text (operation_of c.updates.op) c.updates.invariant.reads (c.updates.invariant.plans u.0 u.1) holds
-    c.operand_holds.ensures c.apply.new.self.text c.in_ok-added.added.items c.in_ok-added.ensures.ok in
-    let same : c.plan.new.self.text ≡ c.apply.new.self.text = ap (λ (s : SessionState). s.text) c.in_ok-next.ensures.same in
-    let text = λ (P : List ℕ → Type 0) (x : P c.apply.new.self.text). subst P (sym same) x in
+    c.operand_holds.ensures c.apply_valid.new.self.text c.in_ok-added.added.items c.in_ok-added.ensures.ok in
+    let same : c.plan.new.self.text ≡ c.apply_valid.new.self.text = ap (λ (s : SessionState). s.text) c.in_ok-next.ensures.same in
+    let text = λ (P : List ℕ → Type 0) (x : P c.apply_valid.new.self.text). subst P (sym same) x in
     record {
       from = omega (arith, c.updates.invariant.from);
       count = c.updates.invariant.count;
       within = subst (λ o. IfSome o (λ _. c.updates.done + 1 < update_count (program_of c.args.program.now))) c.in-Some.is c.in_ok-next.ensures.within;
-      plans = text (λ x. PlansAlone (c.updates.done + 1) c.args.program.now x c.in-Some.planned) (subst (λ o. IfSome o (PlansAlone (c.updates.done + 1) c.args.program.now c.apply.new.self.text)) c.in-Some.is c.in_ok-next.ensures.plans);
+      plans = text (λ x. PlansAlone (c.updates.done + 1) c.args.program.now x c.in-Some.planned)
+          (subst (λ o. IfSome o (PlansAlone (c.updates.done + 1) c.args.program.now c.apply_valid.new.self.text)) c.in-Some.is
+          c.in_ok-next.ensures.plans);
       reads = text HasReading (step.is.after, step.is.reads);
-      sole = text (λ x. IsSole (documents_of x)) (sole_on u.0 c.updates.session.text c.apply.new.self.text c.in_ok-added.added.items holds step.is c.updates.invariant.sole);
+      sole = text (λ x. IsSole (documents_of x)) (sole_on u.0 c.updates.session.text c.apply_valid.new.self.text c.in_ok-added.added.items holds step.is c.updates.invariant.sole);
       leads = λ t led. text (λ x. HaveLed (program_of c.args.program.now) t (c.updates.done + 1) x c.append.new.self.items)
-          (led_more (program_of c.args.program.now) c.updates.done t c.updates.session.text c.apply.new.self.text c.updates.splices.items c.append.new.self.items c.updates.invariant.within (c.updates.invariant.leads t led)
+          (led_more (program_of c.args.program.now) c.updates.done t c.updates.session.text c.apply_valid.new.self.text c.updates.splices.items c.append.new.self.items c.updates.invariant.within (c.updates.invariant.leads t led)
           (λ v at. (
             c.in_ok-added.added.items,
             one_done v c.updates.session.text (operation_of c.updates.op) c.updates.invariant.reads (c.updates.invariant.plans v at)
-                (update_holds (program_of c.args.program.now) c.updates.done v c.requires.literals at) c.operand_holds.ensures c.apply.new.self.text
+                (update_holds (program_of c.args.program.now) c.updates.done v c.requires.literals at) c.operand_holds.ensures c.apply_valid.new.self.text
                 c.in_ok-added.added.items c.in_ok-added.ensures.ok,
             c.in_ok-append.ensures.items,
           )));
@@ -67,13 +69,13 @@ updates-preserved c =
 
 pub returns-clause-ok : goal.returns-clause-ok
 returns-clause-ok c =
-    let same : c.plan.new.self.text ≡ c.apply.new.self.text = ap (λ (s : SessionState). s.text) c.in_ok-next.ensures.same in
+    let same : c.plan.new.self.text ≡ c.apply_valid.new.self.text = ap (λ (s : SessionState). s.text) c.in_ok-next.ensures.same in
     λ t led. subst (λ (x : List ℕ). HaveLed (program_of c.args.program.now) t (c.updates.done + 1) x c.append.new.self.items) (sym (c.close-text.ensures ∙ same))
-    (led_more (program_of c.args.program.now) c.updates.done t c.updates.session.text c.apply.new.self.text c.updates.splices.items c.append.new.self.items c.updates.invariant.within (c.updates.invariant.leads t led)
+    (led_more (program_of c.args.program.now) c.updates.done t c.updates.session.text c.apply_valid.new.self.text c.updates.splices.items c.append.new.self.items c.updates.invariant.within (c.updates.invariant.leads t led)
     (λ u at. (
       c.in_ok-added.added.items,
       one_done u c.updates.session.text (operation_of c.updates.op) c.updates.invariant.reads (c.updates.invariant.plans u at)
-          (update_holds (program_of c.args.program.now) c.updates.done u c.requires.literals at) c.operand_holds.ensures c.apply.new.self.text
+          (update_holds (program_of c.args.program.now) c.updates.done u c.requires.literals at) c.operand_holds.ensures c.apply_valid.new.self.text
           c.in_ok-added.added.items c.in_ok-added.ensures.ok,
       c.in_ok-append.ensures.items,
     )))

@@ -1,32 +1,32 @@
 use Rattle.std.{proofs.Common.{option_map, sym, ap, ◌∙◌, subst}, proofs.lemmas.Option.same_Some, specs.Str.IsUtf8}
 use Rattle.yq_text.specs.Halves.{whole}
-use Rattle.yq_places.{specs.RowLineReading.{line_view, numbers}, specs.StandingViews.piece_view}
+use Rattle.yq_places.{specs.RowLineReading.position_in, specs.StandingViews.piece_view}
 use Rattle.yq_places.{proofs.CommentEndLaws.{no_lines_above, other_lines_above, gap_stands, lines_above_is}, proofs.RowLineSpans.row_within}
 use Rattle.yq_documents.{specs.Located.steps_of, specs.Reading.cut_of, specs.LinesInRows.{document_row, row_line_at}}
 use Rattle.yq_row_table.specs.View.{Slices}
 use Rattle.yq_places.specs.CommentPlaces as spec
 use Rattle.yq_lookup.proofs.cut_text.CutText.lines_above.Goals as goal
 
-pub returns-in_err-row_line : goal.returns-in_err-row_line
-returns-in_err-row_line c = ap (option_map (λ x. (x.0, piece_view x.1))) c.from_residual.ensures ∙ no_lines_above c.args.path.now (cut_of c.args.self.now) (document_row c.args.path.now.doc (cut_of c.args.self.now)) c.in_err-row_line.ensures
+pub returns-in_err-at : goal.returns-in_err-at
+returns-in_err-at c = ap (option_map (λ x. (x.0, piece_view x.1))) c.from_residual.ensures ∙ no_lines_above c.args.path.now (cut_of c.args.self.now) (document_row c.args.path.now.doc (cut_of c.args.self.now)) c.in_err-at.ensures
 
-pub returns-then-row_line-ne0 : goal.returns-then-row_line-ne0
-returns-then-row_line-ne0 c = other_lines_above c.args.path.now (cut_of c.args.self.now) (line_view c.in_ok-row_line.row_line) c.in_ok-row_line.ensures c.if-row_line-ne0.true
+pub returns-then-at-ne0 : goal.returns-then-at-ne0
+returns-then-at-ne0 c = other_lines_above c.args.path.now (cut_of c.args.self.now) c.in_ok-at.at c.in_ok-at.ensures c.if-at-ne0.true
 
 pub row_start-start-requires-clause-within : goal.row_start-start-requires-clause-within
 row_start-start-requires-clause-within c =
-    row_within (whole c.self.inside.text) c.self.inside.rows.now c.args.path.now (line_view c.in_ok-row_line.row_line) c.self.invariant.0
-    (c.in_ok-row_line.ensures ∙ ap (λ t. option_map (numbers (document_row c.args.path.now.doc (cut_of t))) (row_line_at c.args.path.now (cut_of t))) (sym c.self.view_is))
+    row_within (whole c.self.inside.text) c.self.inside.rows.now c.args.path.now c.in_ok-at.at c.self.invariant.0
+    (c.in_ok-at.ensures ∙ ap (λ t. option_map (position_in (document_row c.args.path.now.doc (cut_of t))) (row_line_at c.args.path.now (cut_of t))) (sym c.self.view_is))
 
 pub row-row-requires : goal.row-row-requires
 row-row-requires c =
-    row_within (whole c.self.inside.text) c.self.inside.rows.now c.args.path.now (line_view c.in_ok-row_line.row_line) c.self.invariant.0
-    (c.in_ok-row_line.ensures ∙ ap (λ t. option_map (numbers (document_row c.args.path.now.doc (cut_of t))) (row_line_at c.args.path.now (cut_of t))) (sym c.self.view_is))
+    row_within (whole c.self.inside.text) c.self.inside.rows.now c.args.path.now c.in_ok-at.at c.self.invariant.0
+    (c.in_ok-at.ensures ∙ ap (λ t. option_map (position_in (document_row c.args.path.now.doc (cut_of t))) (row_line_at c.args.path.now (cut_of t))) (sym c.self.view_is))
 
 pub above-requires : goal.above-requires
 above-requires c = record {
-  gap = (gap_stands (whole c.self.inside.text) c.self.inside.rows.now c.self.invariant.0 c.args.path.now (line_view c.in_ok-row_line.row_line)
-      (c.in_ok-row_line.ensures ∙ ap (λ t. option_map (numbers (document_row c.args.path.now.doc (cut_of t))) (row_line_at c.args.path.now (cut_of t))) (sym c.self.view_is))
+  gap = (gap_stands (whole c.self.inside.text) c.self.inside.rows.now c.self.invariant.0 c.args.path.now c.in_ok-at.at
+      (c.in_ok-at.ensures ∙ ap (λ t. option_map (position_in (document_row c.args.path.now.doc (cut_of t))) (row_line_at c.args.path.now (cut_of t))) (sym c.self.view_is))
       c.row_start-start.result c.gap-gap.result.now (whole c.whole-whole.result) c.row_start-start.ensures
       (λ (y : Slices) is. c.gap-gap.ensures ∙ ap (λ (s : Slices). s.gap) (same_Some _ _ (sym c.row-row.ensures ∙ is)))
       (c.whole-whole.ensures.text ∙ sym c.self.view_is) (subst IsUtf8 (sym c.self.view_is) c.whole-whole.ensures.utf8)).0;
@@ -34,11 +34,11 @@ above-requires c = record {
 
 pub returns : goal.returns
 returns c =
-    lines_above_is (whole c.self.inside.text) c.self.inside.rows.now c.self.invariant.0 c.args.path.now (line_view c.in_ok-row_line.row_line)
-    (c.in_ok-row_line.ensures ∙ ap (λ t. option_map (numbers (document_row c.args.path.now.doc (cut_of t))) (row_line_at c.args.path.now (cut_of t))) (sym c.self.view_is))
+    lines_above_is (whole c.self.inside.text) c.self.inside.rows.now c.self.invariant.0 c.args.path.now c.in_ok-at.at
+    (c.in_ok-at.ensures ∙ ap (λ t. option_map (position_in (document_row c.args.path.now.doc (cut_of t))) (row_line_at c.args.path.now (cut_of t))) (sym c.self.view_is))
     c.row_start-start.result c.gap-gap.result.now (whole c.whole-whole.result) c.column-column.result _ c.row_start-start.ensures
     (λ (y : Slices) is. c.gap-gap.ensures ∙ ap (λ (s : Slices). s.gap) (same_Some _ _ (sym c.row-row.ensures ∙ is)))
     (c.whole-whole.ensures.text ∙ sym c.self.view_is) (subst IsUtf8 (sym c.self.view_is) c.whole-whole.ensures.utf8)
     (λ (y : Slices) is. c.column-column.ensures ∙ ap (λ (s : Slices). s.column) (same_Some _ _ (sym c.row-row.ensures ∙ is)))
-    c.if-row_line-ne0.false c.above.ensures
+    c.if-at-ne0.false c.above.ensures
     ∙ ap (λ t. spec.lines_above c.args.path.now.doc (steps_of c.args.path.now) (cut_of t)) c.self.view_is
