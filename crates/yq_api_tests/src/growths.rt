@@ -22,7 +22,7 @@ enum Call {
 
 /// Calls in order, and a number that tells what each gives: of a content, a gap and lines for how many bytes
 /// memory was taken, which is more only if it was taken twice.
-static CALLS: [(Call, usize); 51] = [
+static CALLS: [(Call, usize); 50] = [
     (Call::Text(OnText::Content, "a\n b\n\n c"), 8),
     (Call::Text(OnText::Content, "'it''s'"), 5),
     (Call::Text(OnText::Content, "\"\\L\\P\\L\\P\""), 12),
@@ -35,8 +35,7 @@ static CALLS: [(Call, usize); 51] = [
     (Call::Text(OnText::Gap, "|\n  x\n"), 9),
     (Call::Text(OnText::Lines(Break::Lf), "a\n\n b"), 10),
     (Call::Text(OnText::Lines(Break::CrLf), "z\nw\n"), 10),
-    (Call::Text(OnText::Copied, "a b"), 5),
-    (Call::Text(OnText::Null, ""), 4),
+    (Call::Text(OnText::Copied, "more than 16 bytes"), 20),
     (Call::Text(OnText::Inline, "[a, {b: 'c', d: 2}]"), 19),
     (
         Call::Text(

@@ -8,15 +8,14 @@ use yq_scalar::{content, read_block, read_plain, read_quoted, repair, write_bloc
 use yq_scalar_reader::can_write;
 
 /// A call on a text: the content of the scalar in front of it, a gap repaired after that one, its lines in
-/// a block scalar, it as a plain scalar of which a copy is written, null, the inline node in front of it, and
-/// its rows.
+/// a block scalar, it as a plain scalar of which a copy is written, the inline node in front of it, and its
+/// rows.
 #[derive(Clone, Copy)]
 pub enum OnText {
     Content,
     Gap,
     Lines(Break),
     Copied,
-    Null,
     Inline,
     Rows,
 }
@@ -76,10 +75,6 @@ pub fn called(alloc: Global, call: OnText, text: &str) -> Option<usize> {
         OnText::Gap => piece_room(alloc, text, true),
         OnText::Copied => match Scalar::plain(alloc, text) {
             Ok(scalar) => copied_len(alloc, &scalar),
-            Err(_) => None,
-        },
-        OnText::Null => match Scalar::null(alloc) {
-            Ok(null) => Some(null.text().len()),
             Err(_) => None,
         },
         OnText::Inline => node_end(alloc, text),

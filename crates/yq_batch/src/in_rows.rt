@@ -1,10 +1,10 @@
 //! Operations of an update that each change one row: they are carried out together, on the rows as they
 //! were read.
-ghost use Rattle.std.specs.Prelude.{◌≡◌, ◌+◌, ◌≤◌, ◌++◌, ℕ, List, length, true, IfErr, IfOk, IfSome, IsTrue, string_bytes};
+ghost use Rattle.std.specs.Prelude.{◌≡◌, ◌+◌, ◌≤◌, length, true, IfErr, IfOk, IfSome, IsTrue, string_bytes};
 ghost use Rattle.yq_text.specs.Limit.{text_limit};
 ghost use Rattle.yq_core.specs.Values.{value_node};
 ghost use Rattle.yq_documents.{specs.Located.steps_of, specs.Reading.cut_of};
-ghost use Rattle.yq_places.{specs.FirstBreak.first_break, specs.NodesAt.node_in, specs.StandingViews.IsHeldRow};
+ghost use Rattle.yq_places.{specs.NodesAt.node_in, specs.StandingViews.IsHeldRow};
 ghost use Rattle.yq_semantics.specs.Operations.{head_comment, line_comment, operation_of, operations_of, replace};
 ghost use Rattle.yq_edit_rules.specs.Operands.{HasOperand};
 ghost use Rattle.yq_edit_laws.{specs.Answers.EditFails, specs.Carried.{carry_all, carried}, specs.Theorems.IsFitting};
@@ -12,20 +12,17 @@ ghost use Rattle.yq_edit_laws.specs.Valid.{AreServed};
 ghost use Rattle.yq_batch.{specs.HeadRuns.MayGive, specs.Runs.now_text};
 ghost use Rattle.yq_batch.specs.RowRuns as spec;
 
+use crate::kept_breaks::{is_same_break, near_break};
 use crate::run::PutRun;
 use std::alloc::{AllocError, Global};
 use yq_block_edits::{comment_written, head_comment_written, is_kept_in_row};
-use yq_core::lines::text_len;
-use yq_core::{Break, Place, Value, first_is};
+use yq_core::{Place, Value};
 use yq_documents::Path;
 use yq_edit_rules::{is_filled, value_text};
 use yq_lookup::CutText;
 use yq_places::{HeldRow, is_text, line_end};
 use yq_semantics::{ExprError, Op};
 use yq_text::{Edited, Halves};
-
-/// Among how many of the first bytes of a text its first break is looked for.
-const NEAR_BREAK: usize = 1024;
 
 /// A text that an operation puts in a row, in the place of what is between two places.
 #[derive(Drop)]
@@ -192,21 +189,6 @@ fn row_put<'d>(
     }
 }
 
-/// The break that ends the first line of a text, if it is near.
-pub(crate) fn near_break(text: &[u8]) -> Option<Break>
-    ensures { IfSome result (λ b. (more : List ℕ) → first_break (text.now ++ more) ≡ b) }
-{
-    let near = text.split_at(text.len().min(NEAR_BREAK)).0;
-    let end = text_len(near);
-    if end >= near.len() {
-        return None;
-    }
-    if first_is(b'\r', near.split_at(end).1) {
-        return Some(Break::CrLf);
-    }
-    Some(Break::Lf)
-}
-
 /// Whether an operation ends lines by the same break in the text of a run as in the text that was read.
 fn writes_same_break(cut: &CutText<'_, '_>, op: &Op, run: &PutRun) -> bool
     ensures { IsTrue result → spec.KeepsBreak (operation_of op.now) (cut_of cut.now) run.now }
@@ -221,9 +203,9 @@ fn writes_same_break(cut: &CutText<'_, '_>, op: &Op, run: &PutRun) -> bool
     if text.is_empty() || (run.text.is_empty() && run.done == 0) {
         return true;
     }
-    match (near_break(run.text.as_bytes()), cut.first_break()) {
-        (Some(Break::Lf), Break::Lf) | (Some(Break::CrLf), Break::CrLf) => true,
-        _ => false,
+    match near_break(run.text.as_bytes()) {
+        Some(found) => is_same_break(found, cut.first_break()),
+        None => false,
     }
 }
 

@@ -1,14 +1,33 @@
-//! Whether a text keeps its first break, whatever is put on lines at places.
-ghost use Rattle.std.specs.Prelude.{◌≡◌, true};
+//! The first break of a text, and whether the text keeps it, whatever is put on lines at places.
+ghost use Rattle.std.specs.Prelude.{◌≡◌, ◌++◌, ℕ, List, true, IfSome};
 ghost use Rattle.yq_text.specs.Halves.{whole};
 ghost use Rattle.yq_core.specs.Plain.{holds_break};
+ghost use Rattle.yq_places.specs.FirstBreak.{first_break};
 ghost use Rattle.yq_batch.specs.KeptBreaks as spec;
 
-use crate::in_rows::near_break;
 use crate::slots::SlotPlace;
-use yq_core::Break;
 use yq_core::characters::holds_byte;
+use yq_core::lines::text_len;
+use yq_core::{Break, first_is};
 use yq_text::Halves;
+
+/// Among how many of the first bytes of a text its first break is looked for.
+const NEAR_BREAK: usize = 1024;
+
+/// The break that ends the first line of a text, if it is near.
+pub(crate) fn near_break(text: &[u8]) -> Option<Break>
+    ensures { IfSome result (λ b. (more : List ℕ) → first_break (text.now ++ more) ≡ b) }
+{
+    let near = text.split_at(text.len().min(NEAR_BREAK)).0;
+    let end = text_len(near);
+    if end >= near.len() {
+        return None;
+    }
+    if first_is(b'\r', near.split_at(end).1) {
+        return Some(Break::CrLf);
+    }
+    Some(Break::Lf)
+}
 
 /// Whether a break is in a text, near its beginning.
 fn breaks_near(text: &[u8]) -> bool
@@ -18,7 +37,7 @@ fn breaks_near(text: &[u8]) -> bool
 }
 
 /// Whether two breaks are the same.
-fn is_same_break(one: Break, other: Break) -> bool
+pub(crate) fn is_same_break(one: Break, other: Break) -> bool
     ensures { result ≡ true → one ≡ other }
 {
     match (one, other) {

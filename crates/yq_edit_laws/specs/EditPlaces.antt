@@ -31,7 +31,9 @@ placed_ends total e = (total - length e.0, total - length e.1)
 abbrev pub remove_around : List ℕ → PartsAround → Option PlacedEdit
 remove_around t x =
     let total = length t in
-    remove_between t (option_map (placed_ends total) x.before) (total - length x.here.0) (total - length x.here.1) (option_map (λ (l : List ℕ). total - length l) x.next)
+    let here = placed_ends total x.here in
+    remove_between t (option_map (placed_ends total) x.before) here.0 here.1
+        (option_map (λ (l : List ℕ). total - length l) x.next)
 
 -- A place lies in a text, between characters.
 pub record LiesIn (t : List ℕ) (p : PlacedEdit) : Type 0 where

@@ -6,27 +6,27 @@ use std::alloc::Global;
 use std::slice;
 use yq_eval::{FoundPlace, pipe_on, step_each};
 use yq_failure::Failure;
-use yq_semantics::{Comparison, Condition, ExprError, Operand, PathStep, Refusal, Stage, Term};
+use yq_semantics::{Condition, ExprError, Operand, PathStep, Refusal, Stage, Term};
 
 /// The place from which a step leads no further, and why.
 #[derive(Clone, Copy)]
-pub(crate) struct Stop<'a, 't> {
+pub(crate) struct RefusedStep<'a, 't> {
     pub(crate) place: FoundPlace<'a, 't>,
     pub(crate) why: Refusal,
 }
 
 /// The places to which steps lead, or where they stop.
-pub(crate) type Reached<'a, 't> = Result<Vec<FoundPlace<'a, 't>>, Failure<Stop<'a, 't>>>;
+pub(crate) type StepsTaken<'a, 't> = Result<Vec<FoundPlace<'a, 't>>, Failure<RefusedStep<'a, 't>>>;
 
 /// What comes of a step or a stage that was taken from one place.
 fn from_place<'a, 't>(
     place: &FoundPlace<'a, 't>,
     found: Result<Vec<FoundPlace<'a, 't>>, ExprError>,
-) -> Reached<'a, 't> {
+) -> StepsTaken<'a, 't> {
     match found {
         Ok(places) => Ok(places),
         Err(ExprError::Memory) => Err(Failure::Memory),
-        Err(ExprError::Fault(why)) => Err(Failure::Fault(Stop { place: *place, why })),
+        Err(ExprError::Fault(why)) => Err(Failure::Fault(RefusedStep { place: *place, why })),
     }
 }
 
@@ -36,7 +36,7 @@ fn step_on<'a, 't>(
     bump: &'a Bump,
     step: &'a PathStep,
     places: &[FoundPlace<'a, 't>],
-) -> Reached<'a, 't> {
+) -> StepsTaken<'a, 't> {
     let mut next = Vec::new(alloc);
     'places: for place in places {
         let mut found = from_place(place, step_each(alloc, bump, step, slice::from_ref(place)))?;
@@ -51,12 +51,23 @@ fn steps_on<'a, 't>(
     bump: &'a Bump,
     steps: &'a [PathStep],
     start: Vec<FoundPlace<'a, 't>>,
-) -> Reached<'a, 't> {
+) -> StepsTaken<'a, 't> {
     let mut places = start;
     'steps: for step in steps {
         places = step_on(alloc, bump, step, &places)?;
     }
     Ok(places)
+}
+
+/// The steps that a stage compares with a value.
+fn compared_steps(stage: &Stage) -> Option<&[PathStep]> {
+    let Stage::Select(Condition::Compare(comparison)) = stage else {
+        return None;
+    };
+    match &comparison.operand {
+        Operand::Path(steps) => Some(steps),
+        _ => None,
+    }
 }
 
 /// The places for which the condition of a stage holds.
@@ -66,18 +77,10 @@ fn kept_of<'a, 't>(
     doc: usize,
     stage: &'a Stage,
     places: &[FoundPlace<'a, 't>],
-) -> Reached<'a, 't> {
+) -> StepsTaken<'a, 't> {
     let mut kept = Vec::new(alloc);
     'places: for place in places {
-        if let Stage::Select(
-            Condition::Compare(
-                Comparison {
-                    operand: Operand::Path(steps),
-                    ..
-                },
-            ),
-        ) = stage
-        {
+        if let Some(steps) = compared_steps(stage) {
             steps_on(alloc, bump, steps, place.alone(alloc)?)?;
         }
         let found = pipe_on(
@@ -99,7 +102,7 @@ pub(crate) fn stages_on<'a, 't>(
     doc: usize,
     pipe: &'a [Stage],
     start: Vec<FoundPlace<'a, 't>>,
-) -> Reached<'a, 't> {
+) -> StepsTaken<'a, 't> {
     let mut places = start;
     'stages: for stage in pipe {
         places = match stage {
@@ -117,7 +120,7 @@ pub(crate) fn terms_on<'a, 't>(
     doc: usize,
     terms: &'a [Term],
     place: &FoundPlace<'a, 't>,
-) -> Result<(), Failure<Stop<'a, 't>>> {
+) -> Result<(), Failure<RefusedStep<'a, 't>>> {
     'terms: for term in terms {
         if let Term::Pipe(pipe) = term {
             stages_on(alloc, bump, doc, pipe, place.alone(alloc)?)?;

@@ -1,6 +1,6 @@
 //! The value at which an expression goes no further.
 
-use crate::steps::{Reached, Stop, stages_on, terms_on};
+use crate::steps::{RefusedStep, StepsTaken, stages_on, terms_on};
 use bumpalo::Bump;
 use std::alloc::{AllocError, Global};
 use yq_documents::{Documents, Path};
@@ -28,12 +28,12 @@ fn put_at<'a, 't>(
     doc: usize,
     it: &'a Assignment,
     place: &FoundPlace<'a, 't>,
-) -> Result<(), Failure<Stop<'a, 't>>> {
+) -> Result<(), Failure<RefusedStep<'a, 't>>> {
     if it.operator == Operator::Modify {
         terms_on(alloc, bump, doc, &it.right, place)?;
     }
     if misses_item(place.missing) {
-        return Err(Failure::Fault(Stop {
+        return Err(Failure::Fault(RefusedStep {
             place: *place,
             why: Refusal::IndexOutOfRange,
         }));
@@ -48,7 +48,7 @@ fn assign_on<'a, 't>(
     doc: usize,
     it: &'a Assignment,
     root: &FoundPlace<'a, 't>,
-) -> Reached<'a, 't> {
+) -> StepsTaken<'a, 't> {
     let places = stages_on(alloc, bump, doc, &it.left, root.alone(alloc)?)?;
     if it.operator != Operator::Modify && !places.is_empty() {
         terms_on(alloc, bump, doc, &it.right, root)?;
@@ -66,7 +66,7 @@ fn program_on<'a, 't>(
     doc: usize,
     program: &'a Program,
     root: &FoundPlace<'a, 't>,
-) -> Reached<'a, 't> {
+) -> StepsTaken<'a, 't> {
     let pipe = match program.syntax() {
         Syntax::Read(pipe) => pipe,
         Syntax::Updates(updates) => match updates.first() {

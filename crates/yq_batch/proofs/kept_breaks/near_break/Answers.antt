@@ -1,6 +1,6 @@
 use Rattle.std.proofs.Common.{sym, ◌∙◌, arith}
 use Rattle.yq_batch.proofs.RowBreakLaws.{feed_near, return_near}
-use Rattle.yq_batch.proofs.in_rows.near_break.Goals as goal
+use Rattle.yq_batch.proofs.kept_breaks.near_break.Goals as goal
 
 pub returns-then-first_is : goal.returns-then-first_is
 returns-then-first_is c =
