@@ -1,96 +1,50 @@
--- The nodes to which steps lead in the node in front of a text.
-use Rattle.std.proofs.Common.{◌≡◌, ℕ, zero, suc, ◌-◌, ◌<◌, Bool, true, false, List, [], ◌∷◌, length, Option, Some, None, option_and_then}
-use Rattle.std.{proofs.Common.{option_map, refl, sym, ap, ◌∙◌, subst, arith}, proofs.lemmas.Bool.false≢true, proofs.lemmas.Option.same_Some}
-use Rattle.std.specs.Str.{bytes_eq}
-use Rattle.yq_core.{specs.Answers.◌>>=◌, specs.Entries.{EntryPieces, entry_pieces_at, item_at, path_inside}, proofs.Bools.bind_some}
-use Rattle.yq_core.specs.Nodes.{AreFlowItems, FlowNode, Items, Key, bare, begins_with, item, keyed, node_text, none}
-use Rattle.yq_core.{specs.Paths.{Nth, Step, To, further, is_here}, specs.Tree.key_label, specs.Trees.key_content}
-use Rattle.yq_core.{specs.Places.{Placed, locate}, specs.PlacedReading.{key_piece, placed_node, split_key}, specs.Scalars.scalar_content}
-use Rattle.yq_core.{specs.Reading.{all_items, all_node, read_flow_key}, proofs.NodeLaws.{all_again, all_takes, items_step, then_node}}
-use Rattle.yq_core.{proofs.NodeTakes.items_takes, proofs.PathLaws.{items_hold, path_holds}}
-use Rattle.yq_inline.specs.Along.{AreOthers, IsInside, IsPartText, as_item, front_read, located_along, located_from, node_from, part_among}
-use Rattle.yq_inline.{specs.Along.{step_text, part_within, past_value}, specs.BorrowedParts.key_before, specs.Measured.closing_byte}
-use Rattle.yq_inline.specs.declared.in_front.PartsInFront.{PartsInFront}
-use Rattle.yq_inline.proofs.AlongSteps.{FirstPart, KeyRead, first_part, key_read, no_part, others_there, part_further, part_here, shorter}
-use Rattle.yq_inline.{proofs.AlongSteps.value_read, specs.declared.in_front.NodeInFront.NodeInFront}
-
--- an item or entry that was found
-record Among (d k : ℕ) (s : Step) (t u : List ℕ) : Type 0 where
-  pub items : Items
-  pub rest : List ℕ
-  pub valid : AreFlowItems d k items rest
-  pub part : EntryPieces
-  pub there : item_at k s items rest ≡ Some part
-  pub text : node_from part ≡ u
-
-then_some : {A B : Type 0} {f : A → B} {y : B} (o : Option A) → option_map f o ≡ Some y → (x : A) × (o ≡ Some x) × (f x ≡ y)
-then_some None h = cc
-then_some (Some x) h = (x, refl, same_Some _ _ h)
-
-among : (d k : ℕ) (s : Step) (t u : List ℕ) → part_among k s (all_items d k t) ≡ Some u → Among d k s t u
-among d k s t u h =
-    let x = bind_some (all_items d k t) h in
-    let y = then_some (item_at k s x.0.0 x.0.1) x.2 in
-    record { items = x.0.0; rest = x.0.1; valid = (items_takes (suc (length t)) d k t x.0 x.1).1; part = y.0; there = y.1; text = y.2 }
-
--- its node is in front of the text
-pub part_node : (d k : ℕ) (s : Step) (t u : List ℕ) → Some u ≡ part_among k s (all_items d k t) → all_node true (Some 0) d u ≡ None → ⊥
-part_node d k s t u h absent =
-    let x = among d k s t u (sym h) in
-    let e = sym (all_again true (Some 0) d x.part.node x.part.rest (items_hold d k s x.items x.rest x.part x.valid x.there)) ∙ (ap (all_node true (Some 0) d) x.text ∙ absent) in
-    cc
-
--- no key leads to an item, and no index to an entry
-to_item : (d : ℕ) (key : List ℕ) (is : Items) (rest : List ℕ) → AreFlowItems d 93 is rest → item_at 93 (To key) is rest ≡ None
-unfolding AreFlowItems
-to_item d key none rest h = refl
-to_item d key (item bare n s is) rest h = to_item d key is rest h.4
-to_item d key (item (keyed p b g) n s is) rest h = absurd (false≢true h.0.0)
-
-nth_entry : (d i : ℕ) (is : Items) (rest : List ℕ) → AreFlowItems d 125 is rest → item_at 125 (Nth i) is rest ≡ None
-unfolding AreFlowItems
-nth_entry d i none rest h = refl
-nth_entry d i (item bare n s is) rest h = absurd (false≢true (sym h.0))
-nth_entry d zero (item (keyed p b g) n s is) rest h = nth_entry d zero is rest h.4
-nth_entry d (suc i) (item (keyed p b g) n s is) rest h = nth_entry d i is rest h.4
-
-among_none : (d k : ℕ) (s : Step) (t : List ℕ) → ((is : Items) (rest : List ℕ) → AreFlowItems d k is rest → item_at k s is rest ≡ None) → None ≡ part_among k s (all_items d k t)
-among_none d k s t missing = go (all_items d k t) refl where
-  go : (o : Option (Items × List ℕ)) → all_items d k t ≡ o → None ≡ part_among k s o
-  go None e = refl
-  go (Some x) e = ap (option_map node_from) (sym (missing x.0 x.1 (items_takes (suc (length t)) d k t x e).1))
-
-pub no_key_there : (p : PartsInFront) (key : List ℕ) → p.keyed ≡ false → None ≡ step_text (To key) (Some p)
-no_key_there p key is =
-    among_none p.depth 93 (To key) p.text.now (to_item p.depth key) ∙ ap (λ (b : Bool). part_among (closing_byte b) (To key) (all_items p.depth (closing_byte b) p.text.now)) (sym is)
-
-pub no_index_there : (p : PartsInFront) (i : ℕ) → p.keyed ≡ true → None ≡ step_text (Nth i) (Some p)
-no_index_there p i is =
-    among_none p.depth 125 (Nth i) p.text.now (nth_entry p.depth i) ∙ ap (λ (b : Bool). part_among (closing_byte b) (Nth i) (all_items p.depth (closing_byte b) p.text.now)) (sym is)
+-- The nodes and collections to which steps lead in the node in front of a text.
+use Rattle.std.proofs.Common.{◌≡◌, ℕ, Bool, true, false, cond, List, [], ◌∷◌, ◌++◌, length, Option, Some, None, option_and_then, option_map}
+use Rattle.std.{proofs.Common.{refl, sym, ap, ◌∙◌}, proofs.lemmas.Option.same_Some, specs.Prelude.{◌==◌, is_some}}
+use Rattle.yq_core.{specs.Answers.◌>>=◌, specs.Collections.{CollPieces, coll_along, coll_in}, proofs.Bools.bind_some}
+use Rattle.yq_core.specs.Entries.{EntryPieces, entry_pieces_at, item_at, path_inside}
+use Rattle.yq_core.specs.Nodes.{FlowNode, Items, anchored, flow_items_text, item, node_text, none, sep_text}
+use Rattle.yq_core.{specs.Paths.{Step, further, is_here}, specs.Places.{Placed, locate}, specs.PlacedReading.placed_node}
+use Rattle.yq_core.{specs.Reading.all_node, specs.Tree.key_label, specs.Trees.key_content, proofs.NodeLaws.all_takes}
+use Rattle.yq_inline.specs.Along.{all_in, as_item, front_read, located_along, located_from, node_and_rest, one_in}
+use Rattle.yq_inline.{specs.Measured.closing_byte, specs.declared.in_front.PartsInFront.PartsInFront}
+use Rattle.yq_inline.specs.Neighbours.{IsCollectionOf, IsFirstInFront, IsStepPart, IsPassed, PartTexts, PartsAround, around_part}
+use Rattle.yq_inline.specs.Neighbours.{coll_around, coll_end, coll_read, first_ends, first_read, first_text, from_read, last_ends}
+use Rattle.yq_inline.specs.Neighbours.{last_read, rest_from, passed_view, past_last, past_passed}
+use Rattle.yq_inline.{specs.declared.passing.PassedPart.PassedPart, proofs.FirstParts.behind_is}
+use denote.Bor.{Bor}
 
 -- ---- steps
 
-pub along_none : (s : Step) (ss : List Step) (o : Option (FlowNode × List ℕ)) → None ≡ part_within s o → None ≡ located_along (s ∷ ss) o
-along_none s ss None h = refl
-along_none s ss (Some x) h = go (path_inside s x.0 x.1) h where
-  go : (o : Option EntryPieces) → None ≡ option_map node_from o → None ≡ option_map located_from (option_and_then (entry_pieces_at ss) o)
-  go None e = refl
-  go (Some y) e = cc
+pub none_in : (ss : List Step) → all_in ss None ≡ None
+none_in [] = refl
+none_in (s ∷ ss) = none_in ss
 
-same_pieces : (ss : List Step) (y : EntryPieces) → option_map located_from (entry_pieces_at ss y) ≡ option_map located_from (entry_pieces_at ss (as_item (y.node, y.rest)))
+pub one_more : (ss : List Step) (s : Step) (o : Option (FlowNode × List ℕ)) → all_in (ss ++ (s ∷ [])) o ≡ one_in s (all_in ss o)
+one_more [] s o = refl
+one_more (t ∷ ss) s o = one_more ss s (one_in t o)
+
+same_pieces : (ss : List Step) (y : EntryPieces) → option_map located_from (entry_pieces_at ss y) ≡ option_map located_from (entry_pieces_at ss (as_item (node_and_rest y)))
 same_pieces [] y = refl
 same_pieces (s ∷ ss) y = refl
 
-pub along_step : (s : Step) (ss : List Step) (n m : NodeInFront) → Some m.text.now ≡ part_within s (front_read n) → IsInside n m → located_along (s ∷ ss) (front_read n) ≡ located_along ss (front_read m)
-along_step s ss n m h inside =
-    let x = bind_some (front_read n) (sym h) in
-    let y = then_some (path_inside s x.0.0 x.0.1) x.2 in
-    let valid = (all_takes n.flow n.spaces n.depth n.text.now x.0 x.1).1 in
-    let at : entry_pieces_at (s ∷ []) (as_item x.0) ≡ Some y.0 = ap (option_and_then (entry_pieces_at [])) y.1 in
-    let w = path_holds n.flow n.spaces n.depth s [] (as_item x.0) y.0 valid at in
-    let left : w.0 ≡ m.depth = omega (arith, w.1, inside.depth) in
-    let read : front_read m ≡ Some (y.0.node, y.0.rest) = (λ i. all_node (inside.flow i) (inside.spaces i) (sym left i) (sym y.2 i)) ∙ all_again true (Some 0) w.0 y.0.node y.0.rest w.2 in
-    ap (located_along (s ∷ ss)) x.1 ∙ (ap (λ o. option_map located_from (option_and_then (entry_pieces_at ss) o)) y.1 ∙ (same_pieces ss y.0 ∙ ap (located_along ss) (sym read)))
+pub located_in : (ss : List Step) (o : Option (FlowNode × List ℕ)) → located_along ss o ≡ located_along [] (all_in ss o)
+located_in [] o = refl
+located_in (s ∷ ss) None = located_in ss None
+located_in (s ∷ ss) (Some x) = go (path_inside s x.0 x.1) (located_in ss) where
+  go : (o : Option EntryPieces) → ((z : Option (FlowNode × List ℕ)) → located_along ss z ≡ located_along [] (all_in ss z)) →
+      option_map located_from (option_and_then (entry_pieces_at ss) o) ≡ located_along [] (all_in ss (option_map node_and_rest o))
+  go None again = again None
+  go (Some y) again = same_pieces ss y ∙ again (Some (node_and_rest y))
+
+pub collection_in : (ss : List Step) (o : Option (FlowNode × List ℕ)) → coll_read ss o ≡ coll_read [] (all_in ss o)
+collection_in [] o = refl
+collection_in (s ∷ ss) None = collection_in ss None
+collection_in (s ∷ ss) (Some x) = go (path_inside s x.0 x.1) (collection_in ss) where
+  go : (o : Option EntryPieces) → ((z : Option (FlowNode × List ℕ)) → coll_read ss z ≡ coll_read [] (all_in ss z)) →
+      option_and_then (λ (y : EntryPieces). coll_along ss y.node y.rest) o ≡ coll_read [] (all_in ss (option_map node_and_rest o))
+  go None again = again None
+  go (Some y) again = again (Some (node_and_rest y))
 
 -- ---- the node itself
 
@@ -101,92 +55,122 @@ front_found flow spaces d t p r read =
     let is = ap (λ (y : Placed × List ℕ). y.0) (same_Some _ _ x.2) in
     (λ i. Some (text i, sym is i)) ∙ ((λ i. Some (node_text x.0.0 x.0.1, locate (length (text i)) x.0.0 x.0.1)) ∙ ap (located_along []) (sym x.1))
 
--- ---- the items or entries after the first one
+-- ---- the item or entry to which a step leads, by those from it on
 
--- what the code has passed
-module _ (p : PartsInFront) (u r : List ℕ) (j : ℕ) (close : j ≡ closing_byte p.keyed) (is : IsPartText p u) where
-  abbrev first : FirstPart p.depth (closing_byte p.keyed) p.text.now is.key u
-  first = first_part p.depth (closing_byte p.keyed) p.text.now is.key u is.some is.read p.parts
+-- it, and what is next to it
+abbrev item_of : ℕ → Items → List ℕ → Option EntryPieces
+item_of k none rest = None
+item_of k (item key n sep is) rest = Some (record { key = key; node = n; rest = sep_text sep (flow_items_text k is rest) })
 
-  pub value_there : None ≡ past_value j (all_node true (Some 0) p.depth u) → ⊥
-  value_there absent =
-      let e = absent ∙ (ap (λ (k : ℕ). past_value k (all_node true (Some 0) p.depth u)) close ∙ value_read p.depth (closing_byte p.keyed) p.text.now is.key u is.read first) in
-      cc
+abbrev around_of : ℕ → Option PartTexts → Items → List ℕ → Option PartsAround
+around_of k o none rest = None
+around_of k o (item key n sep is) rest = Some (record { before = o; here = first_ends k key n sep is rest; next = first_text k is rest })
 
-  after_is : Some r ≡ past_value j (all_node true (Some 0) p.depth u) →
-      (key : Key) (read : key_before (closing_byte p.keyed) p.text.now ≡ Some (key, u)) →
-      (first_part p.depth (closing_byte p.keyed) p.text.now key u is.some read p.parts).after ≡ r
-  after_is passed key read =
-      same_Some _ _ (sym (value_read p.depth (closing_byte p.keyed) p.text.now key u read
-      (first_part p.depth (closing_byte p.keyed) p.text.now key u is.some read p.parts))
-      ∙ (sym (ap (λ (k : ℕ). past_value k (all_node true (Some 0) p.depth u)) close) ∙ sym passed))
+abbrev first_item : ℕ → Option PartTexts × Items × List ℕ → Option EntryPieces
+first_item k x = item_of k x.1 x.2
 
-  pub others_read : Some r ≡ past_value j (all_node true (Some 0) p.depth u) → all_items p.depth (closing_byte p.keyed) r ≡ None → ⊥
-  others_read passed absent =
-      others_there p.depth (closing_byte p.keyed) p.text.now is.key u is.read first (ap (all_items p.depth (closing_byte p.keyed)) (after_is passed is.key is.read) ∙ absent)
+abbrev first_around : ℕ → Option PartTexts × Items × List ℕ → Option PartsAround
+first_around k x = around_of k x.0 x.1 x.2
 
-  pub others_are : Some r ≡ past_value j (all_node true (Some 0) p.depth u) → (q : PartsInFront) → q.depth ≡ p.depth → q.keyed ≡ p.keyed → q.text.now ≡ r → AreOthers p u q
-  others_are passed q depth keys text = record {
-    keyed = keys;
-    fewer = subst (λ (l : List ℕ). length l < length p.text.now) (after_is passed is.key is.read ∙ sym text) (shorter p.depth (closing_byte p.keyed) p.text.now is.key u is.read first);
-    leads = λ s key read further_on.
-        part_further p.depth (closing_byte p.keyed) p.text.now key u read (first_part p.depth (closing_byte p.keyed) p.text.now key u is.some read p.parts) s further_on
-        ∙ (λ i. part_among (closing_byte (sym keys i)) (further s) (all_items (sym depth i) (closing_byte (sym keys i)) ((after_is passed key read ∙ sym text) i)));
-  }
-
--- ---- items, and entries, one after the other
-
-pub parts_done : (p : PartsInFront) (s : Step) (k : ℕ) → k ≡ closing_byte p.keyed → begins_with k p.text.now ≡ true → None ≡ step_text s (Some p)
-parts_done p s k close ends = sym (no_part p.depth (closing_byte p.keyed) p.text.now s (ap (λ (j : ℕ). begins_with j p.text.now) (sym close) ∙ ends))
-
-item_read : (p : PartsInFront) → p.keyed ≡ false → key_before (closing_byte p.keyed) p.text.now ≡ Some (bare, p.text.now)
-item_read p is = ap (λ (b : Bool). key_before (closing_byte b) p.text.now) is
-
-pub item_text : (p : PartsInFront) → p.keyed ≡ false → begins_with 93 p.text.now ≡ false → IsPartText p p.text.now
-item_text p is before = record { some = ap (λ (b : Bool). begins_with (closing_byte b) p.text.now) is ∙ before; key = bare; read = item_read p is }
-
-pub item_here : (p : PartsInFront) (i : ℕ) → p.keyed ≡ false → begins_with 93 p.text.now ≡ false → i ≡ 0 → Some p.text.now ≡ step_text (Nth i) (Some p)
-item_here p i is before first_one =
-    let some : begins_with (closing_byte p.keyed) p.text.now ≡ false = ap (λ (b : Bool). begins_with (closing_byte b) p.text.now) is ∙ before in
-    sym (part_here p.depth (closing_byte p.keyed) p.text.now bare p.text.now (item_read p is) (first_part p.depth (closing_byte p.keyed) p.text.now bare p.text.now some (item_read p is) p.parts) (Nth 0) refl)
-    ∙ ap (λ (j : ℕ). step_text (Nth j) (Some p)) (sym first_one)
-
-pub item_next : (p q : PartsInFront) (i : ℕ) → p.keyed ≡ false → (i ≡ 0 → ⊥) → AreOthers p p.text.now q → step_text (Nth (i - 1)) (Some q) ≡ step_text (Nth i) (Some p)
-item_next p q zero is some others = absurd (some refl)
-item_next p q (suc i) is some others =
-    let less : suc i - 1 ≡ i = omega arith in
-    ap (λ (j : ℕ). step_text (Nth j) (Some q)) less ∙ sym (others.leads (Nth (suc i)) bare (item_read p is) refl)
-
--- the entry that the code has read the key of
-module _ (p : PartsInFront) (piece u key : List ℕ) (is : p.keyed ≡ true) (before : begins_with 125 p.text.now ≡ false) (read : split_key p.text.now ≡ Some (piece, u)) where
-  abbrev k : KeyRead p.text.now piece u
-  k = key_read p.text.now piece u read
-
-  entry_read : key_before (closing_byte p.keyed) p.text.now ≡ Some (k.key, u)
-  entry_read = ap (λ (b : Bool). key_before (closing_byte b) p.text.now) is ∙ k.read
-
-  entry_before : begins_with (closing_byte p.keyed) p.text.now ≡ false
-  entry_before = ap (λ (b : Bool). begins_with (closing_byte b) p.text.now) is ∙ before
-
-  pub entry_text : IsPartText p u
-  entry_text = record { some = entry_before; key = k.key; read = entry_read }
-
-  here_is : (b : Bool) → bytes_eq (scalar_content piece) key ≡ b → is_here (To key) (key_label (key_content k.key)) ≡ b
-  here_is b same = ap (λ (o : Option (List ℕ)). is_here (To key) (key_label o)) k.content ∙ same
-
-  pub entry_here : bytes_eq (scalar_content piece) key ≡ true → Some u ≡ step_text (To key) (Some p)
-  entry_here same =
-      sym (part_here p.depth (closing_byte p.keyed) p.text.now k.key u entry_read (first_part p.depth (closing_byte p.keyed) p.text.now k.key u entry_before entry_read p.parts) (To key) (here_is true same))
-
-  pub entry_next : bytes_eq (scalar_content piece) key ≡ false → (q : PartsInFront) → AreOthers p u q → step_text (To key) (Some q) ≡ step_text (To key) (Some p)
-  entry_next other q others = sym (others.leads (To key) k.key entry_read (here_is false other))
-
-pub no_entry_key : (p : PartsInFront) → p.keyed ≡ true → begins_with 125 p.text.now ≡ false → split_key p.text.now ≡ None → ⊥
-no_entry_key p is before absent = p.parts (ap (λ (b : Bool). all_items p.depth (closing_byte b) p.text.now) is ∙ (items_step p.depth 125 p.text.now before ∙ ap (λ o. o >>= then_node p.depth 125) (unread (read_flow_key p.text.now) absent)))
+item_from : (k : ℕ) (s : Step) (o : Option PartTexts) (is : Items) (rest : List ℕ) → item_at k s is rest ≡ (rest_from k s o is rest >>= first_item k)
+item_from k s o none rest = refl
+item_from k s o (item key n sep is) rest =
+    go (is_here s (key_label (key_content key))) (rest_from k (further s) (Some (first_ends k key n sep is rest)) is rest) (item_from k (further s) (Some (first_ends k key n sep is rest)) is rest)
   where
-    as_piece : Key × List ℕ → Option (List ℕ × List ℕ)
-    as_piece x = Some (key_piece x.0, x.1)
+    go : (b : Bool) (l : Option (Option PartTexts × Items × List ℕ)) → item_at k (further s) is rest ≡ (l >>= first_item k) →
+        cond b (Some (record { key = key; node = n; rest = sep_text sep (flow_items_text k is rest) })) (item_at k (further s) is rest) ≡ (cond b (Some (o, item key n sep is, rest)) l >>= first_item k)
+    go true l again = refl
+    go false l again = again
 
-    unread : (o : Option (Key × List ℕ)) → (o >>= as_piece) ≡ None → o ≡ None
-    unread None e = refl
-    unread (Some x) e = cc
+around_from : (k : ℕ) (s : Step) (o : Option PartTexts) (is : Items) (rest : List ℕ) → around_part k s o is rest ≡ (rest_from k s o is rest >>= first_around k)
+around_from k s o none rest = refl
+around_from k s o (item key n sep is) rest =
+    go (is_here s (key_label (key_content key))) (rest_from k (further s) (Some (first_ends k key n sep is rest)) is rest) (around_from k (further s) (Some (first_ends k key n sep is rest)) is rest)
+  where
+    go : (b : Bool) (l : Option (Option PartTexts × Items × List ℕ)) → around_part k (further s) (Some (first_ends k key n sep is rest)) is rest ≡ (l >>= first_around k) →
+        cond b (Some (record { before = o; here = first_ends k key n sep is rest; next = first_text k is rest })) (around_part k (further s) (Some (first_ends k key n sep is rest)) is rest) ≡
+        (cond b (Some (o, item key n sep is, rest)) l >>= first_around k)
+    go true l again = refl
+    go false l again = again
+
+-- the items or entries of a node are those of its collection
+in_coll : (s : Step) (node : FlowNode) (rest : List ℕ) → path_inside s node rest ≡ (coll_in node rest >>= λ w. item_at w.close s w.items w.rest)
+in_coll s (anchored n g node) rest = in_coll s node rest
+in_coll s _ rest = refl
+
+pub no_coll : (s : Step) (o : Option (FlowNode × List ℕ)) → coll_read [] o ≡ None → one_in s o ≡ None
+no_coll s None absent = refl
+no_coll s (Some x) absent = ap (option_map node_and_rest) (in_coll s x.0 x.1 ∙ ap (λ (c : Option CollPieces). c >>= λ w. item_at w.close s w.items w.rest) absent)
+
+-- A collection is found in one that was read.
+module _ (s : Step) (w : CollPieces) (x : Bor (List ℕ) × PartsInFront) (h : IsCollectionOf w x) where
+  abbrev k : ℕ
+  k = closing_byte x.1.keyed
+
+  around_is : coll_around s w ≡ (from_read s None x.1 >>= first_around k)
+  around_is = ap (λ (j : ℕ). around_part j s None w.items w.rest) h.close ∙ (around_from k s None w.items w.rest ∙ ap (λ (o : Option (Items × List ℕ)). (o >>= λ y. rest_from k s None y.0 y.1) >>= first_around k) (sym h.read))
+
+  item_is : item_at w.close s w.items w.rest ≡ (from_read s None x.1 >>= first_item k)
+  item_is = ap (λ (j : ℕ). item_at j s w.items w.rest) h.close ∙ (item_from k s None w.items w.rest ∙ ap (λ (o : Option (Items × List ℕ)). (o >>= λ y. rest_from k s None y.0 y.1) >>= first_item k) (sym h.read))
+
+  pub no_around : from_read s None x.1 ≡ None → coll_around s w ≡ None
+  no_around absent = around_is ∙ ap (λ o. o >>= first_around k) absent
+
+  node_is : (o : Option (FlowNode × List ℕ)) → coll_read [] o ≡ Some w → one_in s o ≡ option_map node_and_rest (from_read s None x.1 >>= first_item k)
+  node_is None e = cc
+  node_is (Some y) e = ap (option_map node_and_rest) (in_coll s y.0 y.1 ∙ (ap (λ (c : Option CollPieces). c >>= λ w. item_at w.close s w.items w.rest) e ∙ item_is))
+
+  pub no_node : (o : Option (FlowNode × List ℕ)) → coll_read [] o ≡ Some w → from_read s None x.1 ≡ None → one_in s o ≡ None
+  no_node o there absent = node_is o there ∙ ap (λ c. option_map node_and_rest (c >>= first_item k)) absent
+
+  module _ (y : Option PassedPart × PartsInFront × Bor (List ℕ)) (f : IsStepPart s x.1 y) where
+    pub node_found : (o : Option (FlowNode × List ℕ)) → coll_read [] o ≡ Some w → all_node true (Some 0) y.1.depth y.2.now ≡ one_in s o
+    node_found o there =
+        f.first.read
+        ∙ ((λ i. Some (f.first.node, (behind_is y.1 y.2.now f.first ∙ ap (λ (b : Bool). sep_text f.first.sep (flow_items_text (closing_byte b) f.first.items f.first.rest)) f.keyed) i))
+        ∙ sym (node_is o there ∙ ap (λ c. option_map node_and_rest (c >>= first_item k)) f.found))
+
+    -- what is next to it
+    pub around_found : (z : PassedPart × PartsInFront) → IsPassed y.1 y.2.now f.first z → (next : Option (List ℕ)) → next ≡ first_read z.1 →
+        Some (record { before = option_map passed_view y.0; here = passed_view z.0; next = next }) ≡ coll_around s w
+    around_found z p next is =
+        let from : from_read s None x.1 ≡ Some (option_map passed_view y.0, item f.first.key f.first.node f.first.sep f.first.items, f.first.rest) = f.found in
+        let others : first_read z.1 ≡ first_text k f.first.items f.first.rest =
+        ap (λ (o : Option (Items × List ℕ)). o >>= λ v. first_text (closing_byte z.1.keyed) v.0 v.1) p.others ∙ ap (λ (b : Bool). first_text (closing_byte b) f.first.items f.first.rest) (p.keyed ∙ f.keyed) in
+        let here = p.ends ∙ ap (λ (b : Bool). first_ends (closing_byte b) f.first.key f.first.node f.first.sep f.first.items f.first.rest) f.keyed in
+        (λ i. Some (record { before = option_map passed_view y.0; here = here i; next = (is ∙ others) i })) ∙ sym (around_is ∙ ap (λ c. c >>= first_around k) from)
+
+-- ---- the end of a collection
+
+closing_keyed : (b : Bool) → (closing_byte b == 125) ≡ b
+closing_keyed true = refl
+closing_keyed false = refl
+
+some_last : (k : ℕ) (e : PartTexts) (is : Items) (rest : List ℕ) → last_ends k (Some e) is rest ≡ None → ⊥
+some_last k e none rest absent = cc
+some_last k e (item key n sep is) rest absent = some_last k (first_ends k key n sep is rest) is rest absent
+
+none_last : (k : ℕ) (is : Items) (rest : List ℕ) → last_ends k None is rest ≡ None → flow_items_text k is rest ≡ k ∷ rest
+unfolding flow_items_text
+none_last k none rest absent = refl
+none_last k (item key n sep is) rest absent = absurd (some_last k (first_ends k key n sep is rest) is rest absent)
+
+module _ (w : CollPieces) (x : Bor (List ℕ) × PartsInFront) (h : IsCollectionOf w x) where
+  last_is : (o : Option PassedPart) → option_map passed_view o ≡ last_read None x.1 → last_ends w.close None w.items w.rest ≡ option_map passed_view o
+  last_is o is =
+      ap (λ (k : ℕ). last_ends k None w.items w.rest) h.close
+      ∙ (sym (ap (λ (y : Option (Items × List ℕ)). y >>= λ z. last_ends (closing_byte x.1.keyed) None z.0 z.1) h.read) ∙ sym is)
+
+  past_is : (o : Option PassedPart) → last_ends w.close None w.items w.rest ≡ option_map passed_view o → past_passed o x.0.now ≡ past_last w (option_map passed_view o)
+  past_is None is = h.inside ∙ ap (λ (l : List ℕ). w.gap ++ l) (none_last w.close w.items w.rest is)
+  past_is (Some p) is = refl
+
+  some_is : (o : Option PassedPart) → is_some o ≡ is_some (option_map passed_view o)
+  some_is None = refl
+  some_is (Some p) = refl
+
+  pub end_is : (o : Option PassedPart) → option_map passed_view o ≡ last_read None x.1 → (x.1.keyed, is_some o, past_passed o x.0.now) ≡ coll_end w
+  end_is o is =
+      let last = last_is o is in
+      (λ i. (sym (closing_keyed x.1.keyed) i, some_is o i, past_is o last i))
+      ∙ (λ i. (sym h.close i == 125, is_some (sym last i), past_last w (sym last i)))

@@ -3,15 +3,12 @@ use Rattle.std.specs.Prelude.{◌≡◌, ℕ, ◌<◌, ◌==◌, Bool, true, Lis
 use Rattle.std.specs.Prelude.{if◌then◌else◌}
 use Rattle.yq_core.{specs.Answers.◌>>=◌, specs.Collections.{CollPieces, coll_along}, specs.Paths.{Nth, Step, To, further, is_here}}
 use Rattle.yq_core.specs.Nodes.{FlowNode, Items, Key, Sep, flow_items_text, item, key_text, node_text, none, sep_text}
-use Rattle.yq_core.{specs.Reading.all_items, specs.Quoted.IsQuotedText, specs.Scalars.{is_quoted, scalar_content}, specs.Tree.key_label}
-use Rattle.yq_core.specs.Trees.{key_content}
-use Rattle.yq_inline.{specs.Along.{front_read, parts_read}, specs.BorrowedParts.key_before, specs.Measured.closing_byte}
-use Rattle.yq_inline.{specs.declared.in_front.NodeInFront.NodeInFront, specs.declared.in_front.PartsInFront.PartsInFront}
-use Rattle.yq_inline.{specs.declared.neighbours.CollectionEnd.CollectionEnd, specs.declared.neighbours.CollectionInFront.CollectionInFront}
-use Rattle.yq_inline.{specs.declared.passing.FirstPassed.FirstPassed, specs.declared.neighbours.Neighbours.Neighbours}
-use Rattle.yq_inline.{specs.declared.passing.PassedPart.PassedPart, specs.declared.neighbours.StepLeft.StepLeft}
+use Rattle.yq_core.{specs.Reading.{all_items, all_node, sep_at}, specs.Quoted.IsQuotedText, specs.Scalars.{is_quoted, scalar_content}}
+use Rattle.yq_core.{specs.Tree.key_label, specs.Trees.key_content}
+use Rattle.yq_inline.{specs.Along.{front_read, parts_read}, specs.Measured.closing_byte, specs.declared.in_front.NodeInFront.NodeInFront}
+use Rattle.yq_inline.{specs.declared.in_front.PartsInFront.PartsInFront, specs.declared.passing.PassedPart.PassedPart}
+use Rattle.yq_inline.{specs.declared.neighbours.CollectionEnd.CollectionEnd, specs.declared.neighbours.Neighbours.Neighbours}
 use denote.Bor.{Bor}
-use Rattle.yq_inline.specs.declared.neighbours.StepLeft.TheVariants as left
 
 -- ---- what items and entries are next to each other
 
@@ -45,6 +42,13 @@ around_part k s o none rest = None
 around_part k s o (item key n sep is) rest =
     if is_here s (key_label (key_content key)) then Some (record { before = o; here = first_ends k key n sep is rest; next = first_text k is rest })
     else around_part k (further s) (Some (first_ends k key n sep is rest)) is rest
+
+-- the items or entries from the one on to which a step leads, before a rest, and the one before it; before the first one is this one
+abbrev pub rest_from : ℕ → Step → Option PartTexts → Items → List ℕ → Option (Option PartTexts × Items × List ℕ)
+rest_from k s o none rest = None
+rest_from k s o (item key n sep is) rest =
+    if is_here s (key_label (key_content key)) then Some (o, item key n sep is, rest)
+    else rest_from k (further s) (Some (first_ends k key n sep is rest)) is rest
 
 -- what follows the last item or entry of a collection, or its opening bracket, if it has none
 abbrev pub past_last : CollPieces → Option PartTexts → List ℕ
@@ -82,10 +86,10 @@ around_view x = record { before = option_map passed_view x.before; here = passed
 abbrev pub end_view : CollectionEnd → Bool × Bool × List ℕ
 end_view x = (x.keyed, x.some, x.rest.now)
 
--- the step that one of the code shows
-abbrev pub step_left : StepLeft → Step
-step_left (left.Key k) = To k.now
-step_left (left.Index i) = Nth i
+-- a step with this index, if it is one
+abbrev pub with_index : ℕ → Step → Step
+with_index i (To k) = To k
+with_index i (Nth n) = Nth i
 
 -- a key as it is written means this
 abbrev pub key_means : Option (Bor (List ℕ)) → Option (List ℕ)
@@ -96,42 +100,33 @@ abbrev pub IsWrittenKey : Option (Bor (List ℕ)) → Type 0
 IsWrittenKey None = Unit {0}
 IsWrittenKey (Some k) = is_quoted k.now ≡ true → IsQuotedText k.now
 
+-- The first of the items or entries in front, whose node begins this text.
+pub record IsFirstInFront (p : PartsInFront) (u : List ℕ) : Type 0 where
+  pub key : Key
+  pub node : FlowNode
+  pub sep : Sep
+  pub items : Items
+  pub rest : List ℕ
+  pub behind : List ℕ
+  pub after : List ℕ
+  pub read : all_node true (Some 0) p.depth u ≡ Some (node, behind)
+  pub sep_read : sep_at (closing_byte p.keyed) behind ≡ Some (sep, after)
+  pub others : all_items p.depth (closing_byte p.keyed) after ≡ Some (items, rest)
+  pub all : parts_read p ≡ Some (item key node sep items, rest)
+  pub fewer : length after < length p.text.now
+
 -- The key in front, if entries have one, and the text from the node after it on.
 pub record IsKeyInFront (p : PartsInFront) (x : Option (Bor (List ℕ)) × Bor (List ℕ)) : Type 0 where
-  pub key : Key
-  pub read : key_before (closing_byte p.keyed) p.text.now ≡ Some (key, x.1.now)
-  pub means : key_content key ≡ key_means x.0
+  pub first : IsFirstInFront p x.1.now
+  pub means : key_content first.key ≡ key_means x.0
   pub quoted : IsWrittenKey x.0
 
--- What follows the node of the first item or entry, and what follows the comma after it, where that has a key.
-pub record IsPastKey (p : PartsInFront) (key : Key) (x : Bor (List ℕ) × Bor (List ℕ)) : Type 0 where
-  pub node : FlowNode
-  pub sep : Sep
-  pub items : Items
-  pub rest : List ℕ
-  pub all : parts_read p ≡ Some (item key node sep items, rest)
-  pub others : all_items p.depth (closing_byte p.keyed) x.1.now ≡ Some (items, rest)
-  pub behind : x.0.now ≡ sep_text sep (flow_items_text (closing_byte p.keyed) items rest)
-  pub fewer : length x.1.now < length p.text.now
-
--- the same of the one whose node begins this text
-abbrev pub IsPastFirst : PartsInFront → List ℕ → Bor (List ℕ) × Bor (List ℕ) → Type 0
-IsPastFirst p u x = (key : Key) → key_before (closing_byte p.keyed) p.text.now ≡ Some (key, u) → IsPastKey p key x
-
 -- The first item or entry is passed, and the others are those after it.
-pub record IsPassed (p : PartsInFront) (x : FirstPassed) : Type 0 where
-  pub key : Key
-  pub node : FlowNode
-  pub sep : Sep
-  pub items : Items
-  pub rest : List ℕ
-  pub all : parts_read p ≡ Some (item key node sep items, rest)
-  pub others : parts_read x.others ≡ Some (items, rest)
-  pub keyed : x.others.keyed ≡ p.keyed
-  pub fewer : length x.others.text.now < length p.text.now
-  pub ends : passed_view x.part ≡ first_ends (closing_byte p.keyed) key node sep items rest
-  pub means : key_content key ≡ key_means x.key
-  pub quoted : IsWrittenKey x.key
+pub record IsPassed (p : PartsInFront) (u : List ℕ) (f : IsFirstInFront p u) (x : PassedPart × PartsInFront) : Type 0 where
+  pub others : parts_read x.1 ≡ Some (f.items, f.rest)
+  pub keyed : x.1.keyed ≡ p.keyed
+  pub fewer : length x.1.text.now < length p.text.now
+  pub ends : passed_view x.0 ≡ first_ends (closing_byte p.keyed) f.key f.node f.sep f.items f.rest
 
 -- the texts of the last of the items or entries in front; of another one, if there is none
 abbrev pub last_read : Option PartTexts → PartsInFront → Option PartTexts
@@ -141,25 +136,31 @@ last_read o p = parts_read p >>= λ x. last_ends (closing_byte p.keyed) o x.0 x.
 abbrev pub first_read : PartsInFront → Option (List ℕ)
 first_read p = parts_read p >>= λ x. first_text (closing_byte p.keyed) x.0 x.1
 
--- the one of them to which a step leads; before the first one is this one
-abbrev pub around_read : Step → Option PartTexts → PartsInFront → Option PartsAround
-around_read s o p = parts_read p >>= λ x. around_part (closing_byte p.keyed) s o x.0 x.1
+-- those from the one on to which a step leads, and the one before it; before the first one is this one
+abbrev pub from_read : Step → Option PartTexts → PartsInFront → Option (Option PartTexts × Items × List ℕ)
+from_read s o p = parts_read p >>= λ x. rest_from (closing_byte p.keyed) s o x.0 x.1
+
+-- A step leads to the first one of others, of which one is before these, if any, and whose node begins this text.
+pub record IsStepPart (s : Step) (p : PartsInFront) (x : Option PassedPart × PartsInFront × Bor (List ℕ)) : Type 0 where
+  pub keyed : x.1.keyed ≡ p.keyed
+  pub first : IsFirstInFront x.1 x.2.now
+  pub found : from_read s None p ≡ Some (option_map passed_view x.0, item first.key first.node first.sep first.items, first.rest)
+
+-- what the code finds is where a step leads; nothing, where it leads to none
+abbrev pub FindsStep : Step → PartsInFront → Option (Option PassedPart × PartsInFront × Bor (List ℕ)) → Type 0
+FindsStep s p None = from_read s None p ≡ None
+FindsStep s p (Some x) = IsStepPart s p x
 
 -- A collection is in front, by what follows its bracket and by its items or entries.
-pub record IsCollectionOf (w : CollPieces) (x : CollectionInFront) : Type 0 where
-  pub close : w.close ≡ closing_byte x.parts.keyed
-  pub read : parts_read x.parts ≡ Some (w.items, w.rest)
-  pub inside : x.inside.now ≡ w.gap ++ flow_items_text w.close w.items w.rest
+pub record IsCollectionOf (w : CollPieces) (x : Bor (List ℕ) × PartsInFront) : Type 0 where
+  pub close : w.close ≡ closing_byte x.1.keyed
+  pub read : parts_read x.1 ≡ Some (w.items, w.rest)
+  pub inside : x.0.now ≡ w.gap ++ flow_items_text w.close w.items w.rest
 
--- what the code finds is the collection to which steps lead in a node that was read; nothing, where none is there
-abbrev pub FindsCollection : List Step → Option (FlowNode × List ℕ) → Option CollectionInFront → Type 0
-FindsCollection ss o None = coll_read ss o ≡ None
-FindsCollection ss o (Some x) = (w : CollPieces) × (coll_read ss o ≡ Some w) × IsCollectionOf w x
-
--- the collection to which steps lead in the node in front is that in another one, if there is one
-abbrev pub LeadsToCollection : List Step → NodeInFront → Option NodeInFront → Type 0
-LeadsToCollection ss n None = coll_read ss (front_read n) ≡ None
-LeadsToCollection ss n (Some m) = coll_read ss (front_read n) ≡ coll_read [] (front_read m)
+-- what the code finds is a collection, if there is one
+abbrev pub FindsCollection : Option CollPieces → Option (Bor (List ℕ) × PartsInFront) → Type 0
+FindsCollection o None = o ≡ None
+FindsCollection o (Some x) = (w : CollPieces) × (o ≡ Some w) × IsCollectionOf w x
 
 -- what the code finds is the end of the collection to which steps lead in the node in front
 abbrev pub FindsEnd : List Step → NodeInFront → Option CollectionEnd → Type 0

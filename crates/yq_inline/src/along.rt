@@ -1,10 +1,11 @@
 //! Nodes to which steps lead in the node in front of a text, read without the trees of what is around them.
-ghost use Rattle.std.specs.Prelude.{◌≡◌, [], IfOk, IfSome, map};
+ghost use Rattle.std.specs.Prelude.{◌≡◌, [], IfOk, map};
 ghost use Rattle.yq_core.specs.Entries.{tree_step};
 ghost use Rattle.yq_inline.specs.Along as spec;
 
 use crate::in_front::NodeInFront;
 use crate::parts_in_front::parts_in_front;
+use crate::passing::find_part;
 use crate::reading::read_node;
 use std::alloc::{AllocError, Global};
 use yq_core::{Inline, ReadError, Step};
@@ -17,16 +18,19 @@ pub struct NodeAlong<'t> {
 }
 
 /// The node of the item or entry to which a step leads.
-pub(crate) fn part_along<'t>(node: NodeInFront<'t>, step: &Step) -> Option<NodeInFront<'t>>
-    ensures part { spec.text_in_front result ≡ spec.text_inside (tree_step step.now) node.entry }
-    ensures inside { IfSome result (spec.IsInside node.entry) }
+fn part_along<'t>(node: NodeInFront<'t>, step: &Step) -> Option<NodeInFront<'t>>
+    ensures { spec.read_in result ≡ spec.one_in (tree_step step.now) (spec.front_read node.entry) }
 {
-    let parts = parts_in_front(node)?;
-    let text = parts.part(step)?;
+    let Some((_, parts)) = parts_in_front(node) else {
+        return None;
+    };
+    let Some((_, from, text)) = find_part(parts, step) else {
+        return None;
+    };
     Some(NodeInFront {
         flow: true,
         spaces: Some(0),
-        depth: parts.depth,
+        depth: from.depth,
         text,
     })
 }
@@ -45,7 +49,7 @@ fn read_front<'t>(alloc: Global, node: NodeInFront<'t>) -> Result<Option<NodeAlo
 }
 
 /// The node in front to which steps lead, if there is one.
-fn front_along<'t>(node: NodeInFront<'t>, steps: &[Step]) -> Option<NodeInFront<'t>>
+pub(crate) fn front_along<'t>(node: NodeInFront<'t>, steps: &[Step]) -> Option<NodeInFront<'t>>
     ensures { spec.LeadsAlong (map tree_step steps.now) node.entry result }
 {
     let mut found = node;

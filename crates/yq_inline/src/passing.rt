@@ -1,14 +1,17 @@
 //! Items and entries of collections in front of a text, passed one after the other without their trees.
-ghost use Rattle.std.specs.Prelude.{◌≡◌, IfSome, None, false, option_map, true};
-ghost use Rattle.yq_core.specs.Nodes.{begins_with};
-ghost use Rattle.yq_inline.{specs.Along.IsPartText, specs.Measured.closing_byte};
+ghost use Rattle.std.{specs.Prelude.{◌≡◌, None, false, option_map, true}, specs.Str.bytes_eq};
+ghost use Rattle.yq_core.{specs.Entries.tree_step, specs.Nodes.begins_with, specs.Quoted.IsQuotedText};
+ghost use Rattle.yq_core.{specs.Scalars.{is_quoted as is_in_quotes, scalar_content}, specs.Tree.key_label};
+ghost use Rattle.yq_inline.specs.Measured.{closing_byte};
+ghost use Rattle.yq_core.specs.Paths as paths;
 ghost use Rattle.yq_inline.specs.Neighbours as spec;
 
 use crate::in_front::PartsInFront;
 use crate::measuring::measure_value;
 use crate::parts::closing_bracket;
 use crate::pieces::{read_key, read_sep};
-use yq_core::first_is;
+use yq_core::{Step, first_is, is_quoted};
+use yq_scalar_reader::same_content::{is_plain_content, is_quoted_content};
 
 /// An item or entry that was passed.
 #[derive(Clone, Copy)]
@@ -17,15 +20,6 @@ pub struct PassedPart<'t> {
     pub text: &'t str,
     /// What follows its node.
     pub rest: &'t str,
-}
-
-/// The first item or entry, and the others after it.
-#[derive(Clone, Copy)]
-pub(crate) struct FirstPassed<'t> {
-    /// Its key as it is written, if it has one.
-    pub(crate) key: Option<&'t str>,
-    pub(crate) part: PassedPart<'t>,
-    pub(crate) others: PartsInFront<'t>,
 }
 
 /// Whether no item or entry is in front.
@@ -50,46 +44,31 @@ fn key_in_front<'t>(parts: PartsInFront<'t>) -> (Option<&'t str>, &'t str)
     }
 }
 
-/// What follows the node of the first item or entry, which begins this text, and what follows the comma after it.
-fn past_part<'t>(parts: PartsInFront<'t>, node: &'t str) -> (&'t str, &'t str)
-    requires { IsPartText parts node.now }
-    ensures { spec.IsPastFirst parts.entry node.now result }
+/// The first item or entry, whose node begins this text, and the others after it.
+pub(crate) fn pass<'t>(parts: PartsInFront<'t>, node: &'t str) -> (PassedPart<'t>, PartsInFront<'t>)
+    requires { spec.IsFirstInFront parts node.now }
+    ensures { (f : spec.IsFirstInFront parts.entry node.now) → spec.IsPassed parts.entry node.now f result }
 {
     let value = match measure_value(node, parts.depth, node) {
         Ok(value) => value,
         // A node is in front.
         Err(_) => unreachable!(),
     };
-    match read_sep(closing_bracket(parts.keyed), node, node, value.rest) {
-        Ok(rest) => (value.rest, rest),
+    let text = match read_sep(closing_bracket(parts.keyed), node, node, value.rest) {
+        Ok(text) => text,
         // It is followed by a comma, or by the closing bracket.
         Err(_) => unreachable!(),
-    }
-}
-
-/// The first item or entry in front, if there is one.
-pub(crate) fn pass<'t>(parts: PartsInFront<'t>) -> Option<FirstPassed<'t>>
-    ensures none { result ≡ None →
-        begins_with (closing_byte parts.entry.keyed) parts.entry.text.now ≡ true }
-    ensures some { IfSome result (spec.IsPassed parts.entry) }
-{
-    if are_none(parts) {
-        return None;
-    }
-    let (key, node) = key_in_front(parts);
-    let (rest, text) = past_part(parts, node);
-    Some(FirstPassed {
-        key,
-        part: PassedPart {
-            text: parts.text,
-            rest,
-        },
-        others: PartsInFront {
-            depth: parts.depth,
-            keyed: parts.keyed,
-            text,
-        },
-    })
+    };
+    let passed = PassedPart {
+        text: parts.text,
+        rest: value.rest,
+    };
+    let others = PartsInFront {
+        depth: parts.depth,
+        keyed: parts.keyed,
+        text,
+    };
+    (passed, others)
 }
 
 /// The last item or entry in front, if there is one.
@@ -98,9 +77,11 @@ pub(crate) fn last_part<'t>(parts: PartsInFront<'t>) -> Option<PassedPart<'t>>
 {
     let mut rest = parts;
     let mut last = None;
-    'each: while let Some(first) = pass(rest) {
-        last = Some(first.part);
-        rest = first.others;
+    'each: while !are_none(rest) {
+        let (_, node) = key_in_front(rest);
+        let (passed, others) = pass(rest, node);
+        last = Some(passed);
+        rest = others;
     }
     last
 }
@@ -113,4 +94,63 @@ pub(crate) fn first_text<'t>(parts: PartsInFront<'t>) -> Option<&'t str>
         return None;
     }
     Some(parts.text)
+}
+
+/// Whether a key, as it is written, means this.
+#[tactic(auto, unfolding(yq_core::specs::Scalars::scalar_content))]
+fn means(piece: &str, key: &str) -> bool
+    requires { is_in_quotes piece.now ≡ true → IsQuotedText piece.now }
+    ensures { result ≡ bytes_eq (scalar_content piece.now) key.now }
+{
+    if is_quoted(piece.as_bytes()) {
+        is_quoted_content(piece, key)
+    } else {
+        is_plain_content(piece, key)
+    }
+}
+
+/// The index to which a step leads; 0 for a key.
+fn index_of(step: &Step) -> usize
+    ensures { spec.with_index result (tree_step step.now) ≡ tree_step step.now }
+{
+    match step {
+        Step::Key(_) => 0,
+        Step::Index(index) => *index,
+    }
+}
+
+/// Whether a step, with the index that is left of it, leads to the first item or entry, which has this key if it has one.
+fn is_here(step: &Step, left: usize, key: Option<&str>) -> bool
+    requires { spec.IsWrittenKey key }
+    ensures { result ≡ paths.is_here (spec.with_index left (tree_step step.now))
+        (key_label (spec.key_means key.entry)) }
+{
+    match (step, key) {
+        (Step::Key(own), Some(piece)) => means(piece, own.as_str()),
+        (Step::Index(_), None) => left == 0,
+        (Step::Key(_), None) | (Step::Index(_), Some(_)) => false,
+    }
+}
+
+/// Where a step leads among items or entries: the one before that place, those from it on, and the text from its node on.
+pub(crate) fn find_part<'t>(
+    parts: PartsInFront<'t>,
+    step: &Step,
+) -> Option<(Option<PassedPart<'t>>, PartsInFront<'t>, &'t str)>
+    ensures { spec.FindsStep (tree_step step.now) parts.entry result }
+{
+    let mut rest = parts;
+    let mut left = index_of(step);
+    let mut before = None;
+    'each: while !are_none(rest) {
+        let (key, node) = key_in_front(rest);
+        if is_here(step, left, key) {
+            return Some((before, rest, node));
+        }
+        let (passed, others) = pass(rest, node);
+        left = left.saturating_sub(1);
+        before = Some(passed);
+        rest = others;
+    }
+    None
 }

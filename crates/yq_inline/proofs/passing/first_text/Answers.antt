@@ -1,5 +1,5 @@
 use Rattle.std.proofs.Common.{sym, ◌∙◌}
-use Rattle.yq_inline.proofs.NeighbourLaws.{first_done, first_there}
+use Rattle.yq_inline.proofs.FirstParts.{first_done, first_there}
 use Rattle.yq_inline.proofs.passing.first_text.Goals as goal
 
 pub returns-then-are_none : goal.returns-then-are_none

@@ -1,6 +1,10 @@
 use Rattle.std.proofs.Common.{option_map, sym, ◌∙◌}
-use Rattle.yq_inline.{specs.Neighbours.passed_view, proofs.NeighbourLaws.last_done}
+use Rattle.yq_inline.{specs.Neighbours.passed_view, proofs.FirstParts.{last_done, last_further}}
 use Rattle.yq_inline.proofs.passing.last_part.Goals as goal
 
+pub each-preserved : goal.each-preserved
+each-preserved c =
+    sym (last_further c.each.rest c.key_in_front.result.1.now c.key_in_front.ensures.first c.pass.result (c.pass.ensures c.key_in_front.ensures.first) (option_map passed_view c.each.last)) ∙ c.each.invariant
+
 pub returns : goal.returns
-returns c = sym (last_done c.each.rest (c.pass.ensures.none c.in_default.is) (option_map passed_view c.each.last)) ∙ c.each.invariant
+returns c = sym (last_done c.each.rest (sym c.are_none.ensures ∙ c.each-test.false) (option_map passed_view c.each.last)) ∙ c.each.invariant

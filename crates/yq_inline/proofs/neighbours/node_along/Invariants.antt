@@ -1,7 +1,0 @@
-use Rattle.std.proofs.Common.{◌≡◌, drop, map}
-use Rattle.yq_core.specs.Entries.{tree_step}
-use Rattle.yq_inline.{specs.Along.front_read, specs.Neighbours.coll_read}
-use Rattle.yq_inline.proofs.neighbours.node_along.Given as goal
-
-abbrev pub invariant-steps : goal.invariant-steps
-invariant-steps l = coll_read (map tree_step (drop l.step-index l.steps)) (front_read l.found) ≡ coll_read (map tree_step l.fn.steps) (front_read l.fn.node)
