@@ -33,7 +33,7 @@ remove_around t x =
     let total = length t in
     let here = placed_ends total x.here in
     remove_between t (option_map (placed_ends total) x.before) here.0 here.1
-        (option_map (λ (l : List ℕ). total - length l) x.next)
+    (option_map (λ (l : List ℕ). total - length l) x.next)
 
 -- A place lies in a text, between characters.
 pub record LiesIn (t : List ℕ) (p : PlacedEdit) : Type 0 where
