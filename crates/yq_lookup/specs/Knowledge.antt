@@ -2,8 +2,8 @@
 use Rattle.std.{specs.Prelude.{ℕ, true, false, IfSome, List, Option, Some, Vec}, specs.declared.alloc.Global.Global}
 use Rattle.yq_row_table.{specs.Rows.Cut, specs.Touched.TouchesOnly, specs.View.{RowsView, Slices, rows_view}}
 use Rattle.yq_outline.{specs.RowWalk.AreKnown, specs.declared.line_position.KnownItem.KnownItem}
-use Rattle.yq_places.specs.StepReading.{IsSearched}
-use Rattle.yq_row_walk.{specs.Walk.{ArriveAt, IsKnownLine}, specs.declared.walk.KnownLine.KnownLine}
+use Rattle.yq_places.{specs.StepReading.IsSearched, specs.declared.places.way.Way.Way}
+use Rattle.yq_row_walk.specs.Walk.{ArriveAt, IsKnownLine, IsLineAbove}
 use Rattle.yq_lookup.{specs.KnownDocuments.AreKnownDocuments, specs.declared.knowledge.Knowledge.Knowledge}
 use Rattle.yq_lookup.{specs.declared.line_above.LineAbove.LineAbove, specs.declared.knowledge.StepSearches.StepSearches}
 
@@ -19,9 +19,13 @@ SearchesStay front c k = (new : Cut) (back : ℕ) → TouchesOnly front back c n
 abbrev pub IsLineKept : RowsView → LineAbove → Type 0
 IsLineKept s k = ArriveAt s k.document k.steps.items (Some k.at)
 
+-- The lines on the way of a path are known.
+abbrev pub IsWay : RowsView → Way → Type 0
+IsWay s way = IfSome way.line (IsKnownLine s) × IfSome way.above (IsLineAbove s)
+
 -- Items, lines and searches are known among rows.
-abbrev pub AreKnownInRows : RowsView → Option (Vec KnownItem Global) → Option KnownLine → Option LineAbove → StepSearches → Type 0
-AreKnownInRows s items line above steps = IfSome items (λ v. AreKnown s.rows v.items) × IfSome line (IsKnownLine s) × IfSome above (IsLineKept s) × AreSearches s.rows steps
+abbrev pub AreKnownInRows : RowsView → Option (Vec KnownItem Global) → Way → Option LineAbove → StepSearches → Type 0
+AreKnownInRows s items way above steps = IfSome items (λ v. AreKnown s.rows v.items) × IsWay s way × IfSome above (IsLineKept s) × AreSearches s.rows steps
 
 -- This is known of the rows of a text and of the ends of its parts.
 pub record IsKnowledge (s : RowsView) (k : Knowledge) : Type 0 where

@@ -5,8 +5,8 @@ ghost use Rattle.yq_row_table.{specs.Grammar.IsCut, specs.View.rows_view};
 ghost use Rattle.yq_documents.specs.Reading.{all_documents, cut_of, read_at};
 ghost use Rattle.yq_outline.specs.RowWalk.{AreKnown, stretch_view};
 ghost use Rattle.yq_places.specs.RowWalk.{HasCut, document_row_range};
-ghost use Rattle.yq_row_walk.specs.Walk.{IsKnownLine};
-ghost use Rattle.yq_lookup.{specs.Knowledge.{AreKnownInRows, IsKnowledge}, specs.KnownDocuments.AreKnownDocuments};
+ghost use Rattle.yq_row_walk.specs.Walk.{IsKnownLine, IsLineAbove};
+ghost use Rattle.yq_lookup.{specs.Knowledge.{AreKnownInRows, IsKnowledge, IsWay}, specs.KnownDocuments.AreKnownDocuments};
 
 use crate::knowledge::{Knowledge, StepSearches};
 use crate::known_document::{KnownDocuments, find_document};
@@ -16,7 +16,7 @@ use std::marker::Model;
 use std::mem;
 use yq_documents::Documents;
 use yq_outline::{KnownItem, Position, Stretch};
-use yq_places::is_text;
+use yq_places::{Way, is_text};
 use yq_row_table::Rows;
 use yq_row_walk::KnownLine;
 use yq_text::Halves;
@@ -29,7 +29,8 @@ pub struct CutText<'d, 't> {
     /// The documents of which it is the text, if they are there.
     pub(crate) source: Option<&'d Documents<'t>>,
     pub(crate) known: Option<Vec<KnownItem>>,
-    pub(crate) line: Option<KnownLine<'d>>,
+    /// The lines on the way of the last path.
+    pub(crate) way: Way<'d>,
     pub(crate) above: Option<LineAbove>,
     /// Where the line above the last path is.
     pub(crate) parent: Option<Position>,
@@ -43,7 +44,7 @@ impl<'d, 't> Model for CutText<'d, 't> {
     ghost view = { λ c. whole c.text };
 
     ghost invariant = { λ c. HasCut (whole c.text) c.rows.now ×
-        AreKnownInRows c.rows.now c.known c.line c.above c.steps ×
+        AreKnownInRows c.rows.now c.known c.way c.above c.steps ×
         AreKnownDocuments c.rows.now.bounds c.documents ×
         IfSome c.source (λ d. d.now ≡ whole c.text) };
 }
@@ -58,7 +59,7 @@ impl<'d, 't> CutText<'d, 't> {
             rows: documents.rows(),
             source: Some(documents),
             known: None,
-            line: None,
+            way: Way::none(),
             above: None,
             parent: None,
             documents: KnownDocuments::none(),
@@ -76,7 +77,7 @@ impl<'d, 't> CutText<'d, 't> {
             rows,
             source: None,
             known: None,
-            line: None,
+            way: Way::none(),
             above: None,
             parent: None,
             documents: KnownDocuments::none(),
@@ -101,7 +102,7 @@ impl<'d, 't> CutText<'d, 't> {
             rows,
             source: None,
             known: Some(items),
-            line: None,
+            way: Way::none(),
             above: None,
             parent: None,
             documents,
@@ -118,7 +119,7 @@ impl<'d, 't> CutText<'d, 't> {
             rows: self.rows,
             source: self.source,
             known: None,
-            line: None,
+            way: Way::none(),
             above: None,
             parent: None,
             documents: self.documents,
@@ -137,14 +138,14 @@ impl<'d, 't> CutText<'d, 't> {
         }
     }
 
-    /// From now on these items are known, and the line of a path, if that is one.
-    pub(crate) fn put_items(&mut self, known: Vec<KnownItem>, line: Option<KnownLine<'d>>)
+    /// From now on these items are known, and the lines on the way of a path.
+    pub(crate) fn put_items(&mut self, known: Vec<KnownItem>, way: Way<'d>)
         requires known { AreKnown (rows_view (cut_of self.old)).rows known.items }
-        requires line { IfSome line (IsKnownLine (rows_view (cut_of self.old))) }
+        requires way { IsWay (rows_view (cut_of self.old)) way }
         ensures { self.new ≡ self.old }
     {
         self.known = Some(known);
-        self.line = line;
+        self.way = way;
     }
 
     /// From now on document `doc` is known, if there is one, and the last one before it.
@@ -196,7 +197,14 @@ impl<'d, 't> CutText<'d, 't> {
     pub(crate) fn line(&self) -> Option<&KnownLine<'d>>
         ensures { IfSome result (λ k. IsKnownLine (rows_view (cut_of self.now)) k.now) }
     {
-        self.line.as_ref()
+        self.way.line.as_ref()
+    }
+
+    /// The line to which the steps before the last one of that path lead, if it is known.
+    pub(crate) fn line_above(&self) -> Option<KnownLine<'d>>
+        ensures { IfSome result (IsLineAbove (rows_view (cut_of self.now))) }
+    {
+        self.way.above
     }
 
     /// The items that are known.

@@ -64,11 +64,11 @@ impl<'d, 't> CutText<'d, 't> {
         self.to_document(path.doc);
         let mut known = self.take_items(alloc);
         let way = self.way_along(&mut known, path);
-        self.put_items(known, None);
+        self.put_items(known, Way::none());
         self.keep_above(alloc, way.above);
     }
 
-    /// The same, and the line to which the path leads is known as well.
+    /// The same, and the line to which the path leads is known as well, with that above it.
     #[inline(always)]
     pub fn go_to_line(&mut self, alloc: Global, path: &'d Path)
         ensures { self.new ≡ self.old }
@@ -76,8 +76,7 @@ impl<'d, 't> CutText<'d, 't> {
         self.to_document(path.doc);
         let mut known = self.take_items(alloc);
         let way = self.way_along(&mut known, path);
-        self.put_items(known, way.line);
-        self.keep_above(alloc, way.above);
+        self.put_items(known, way);
     }
 
     /// The same, and the end of the collection at the path is known as well.
@@ -87,8 +86,7 @@ impl<'d, 't> CutText<'d, 't> {
         self.to_document(path.doc);
         let mut known = self.take_items(alloc);
         let way = self.end_along(&mut known, path);
-        self.put_items(known, way.line);
-        self.keep_above(alloc, way.above);
+        self.put_items(known, way);
     }
 
     /// The key or dash of the item or entry at a path with its row, where the row ends in its line. From
@@ -101,7 +99,7 @@ impl<'d, 't> CutText<'d, 't> {
         self.to_document(path.doc);
         let mut known = self.take_items(alloc);
         let (row, above) = self.row_along(&mut known, path);
-        self.put_items(known, None);
+        self.put_items(known, Way::none());
         self.keep_above(alloc, above);
         row
     }

@@ -1,6 +1,6 @@
 //! Documents whose parts are known, from which a search for later ones goes on.
-ghost use Rattle.std.specs.Prelude.{◌≡◌, ◌<◌, ◌≤◌, length, IfSome, None, option_map, true};
-ghost use Rattle.yq_row_table.{specs.Rows.Cut, specs.View.rows_view};
+ghost use Rattle.std.specs.Prelude.{◌≡◌, ◌<◌, ◌≤◌, ℕ, length, IfSome, List, None, option_map, true};
+ghost use Rattle.yq_row_table.{specs.Rows.Cut, specs.View.{Bound, rows_view}};
 ghost use Rattle.yq_lookup.specs.KnownDocuments.{AreKnownDocuments, DocumentStays, NumbersGoOn, IsKnownDocument, part_by_number};
 ghost use Rattle.yq_documents.specs.PartNumbers as numbers;
 
@@ -23,19 +23,6 @@ pub struct KnownDocuments {
     pub before: Option<KnownDocument>,
 }
 
-/// Where a search for a document begins.
-#[derive(Clone, Copy)]
-struct Start {
-    /// The number of the part.
-    part: usize,
-    /// How many documents come before it.
-    doc: usize,
-    /// Whether it is one.
-    is_document: bool,
-    /// A document before it that is known.
-    before: Option<KnownDocument>,
-}
-
 impl KnownDocuments {
     /// No documents.
     pub fn none() -> KnownDocuments
@@ -49,38 +36,37 @@ impl KnownDocuments {
     }
 }
 
-/// Where a search for document `doc` begins: at a known document that isn't after it, else at the first part.
-fn start_of(rows: &Rows<'_>, known: KnownDocuments, doc: usize) -> Start
-    requires { AreKnownDocuments rows.now.bounds known }
-    ensures order { result.doc ≤ doc }
-    ensures goes_on { NumbersGoOn rows.now.bounds result.part result.doc result.is_document }
-    ensures before { IfSome result.before (IsKnownDocument rows.now.bounds) }
+/// Of documents that are known the last one that isn't after document `doc`, and the one before it.
+fn known_upto(known: KnownDocuments, doc: usize) -> KnownDocuments
+    ensures order { IfSome result.last (λ k. k.doc ≤ doc) }
+    ensures known { (bs : List Bound) → AreKnownDocuments bs known → AreKnownDocuments bs result }
 {
     if let Some(last) = known.last
         && last.doc <= doc
     {
-        return Start {
-            part: last.part,
-            doc: last.doc,
-            is_document: true,
-            before: known.before,
-        };
+        return known;
     }
     if let Some(before) = known.before
         && before.doc <= doc
     {
-        return Start {
-            part: before.part,
-            doc: before.doc,
-            is_document: true,
+        return KnownDocuments {
+            last: Some(before),
             before: None,
         };
     }
-    Start {
-        part: 0,
-        doc: 0,
-        is_document: first_is_document(rows),
-        before: None,
+    KnownDocuments::none()
+}
+
+/// Where a search goes on from a document, or begins: how many documents come before a part, the number of that, and
+/// whether it is one.
+fn search_start(rows: &Rows<'_>, from: Option<KnownDocument>) -> (usize, usize, bool)
+    requires { IfSome from (IsKnownDocument rows.now.bounds) }
+    ensures order { (doc : ℕ) → IfSome from (λ k. k.doc ≤ doc) → result.0 ≤ doc }
+    ensures goes_on { NumbersGoOn rows.now.bounds result.1 result.0 result.2 }
+{
+    match from {
+        Some(known) => (known.doc, known.part, true),
+        None => (0, 0, first_is_document(rows)),
     }
 }
 
@@ -92,11 +78,12 @@ pub(crate) fn find_document(rows: &Rows<'_>, known: KnownDocuments, doc: usize) 
     ensures within { IfSome result.last (λ k. k.part < length rows.now.bounds) }
     ensures known { AreKnownDocuments rows.now.bounds result }
 {
-    let start = start_of(rows, known, doc);
-    let mut count = start.doc;
-    let mut is_document = start.is_document;
-    let mut before = start.before;
-    'parts: for part in start.part..rows.parts() {
+    let from = known_upto(known, doc);
+    let (start, first, begins) = search_start(rows, from.last);
+    let mut count = start;
+    let mut is_document = begins;
+    let mut before = from.before;
+    'parts: for part in first..rows.parts() {
         let bound = rows.part(part);
         if is_document {
             let here = KnownDocument { doc: count, part };

@@ -52,13 +52,24 @@ impl LineAbove {
 }
 
 impl CutText<'_, '_> {
-    /// The line from which walks along other paths go on, if one is known.
-    pub(crate) fn above(&self) -> Option<KnownLine<'_>>
+    /// The line that is kept.
+    fn kept(&self) -> Option<KnownLine<'_>>
         ensures { IfSome result (IsLineAbove (rows_view (cut_of self.now))) }
     {
         match &self.above {
             Some(above) => Some(above.line()),
             None => None,
+        }
+    }
+
+    /// The line from which walks along other paths go on, if one is known: that on the way of the last path, or the
+    /// one that is kept.
+    pub(crate) fn above(&self) -> Option<KnownLine<'_>>
+        ensures { IfSome result (IsLineAbove (rows_view (cut_of self.now))) }
+    {
+        match self.line_above() {
+            Some(line) => Some(line),
+            None => self.kept(),
         }
     }
 

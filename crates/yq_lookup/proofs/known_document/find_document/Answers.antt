@@ -6,6 +6,13 @@ use Rattle.yq_lookup.specs.KnownDocuments.{IsKnownDocument, part_by_number}
 use Rattle.yq_lookup.proofs.KnownDocumentLaws.{goes_on_next, goes_on_none, known_here}
 use Rattle.yq_lookup.proofs.known_document.find_document.Goals as goal
 
+pub parts-init : goal.parts-init
+parts-init c = record {
+  order = c.search_start-start.ensures.order c.args.doc c.known_upto-from.ensures.order;
+  goes_on = c.search_start-start.ensures.goes_on;
+  before = (c.known_upto-from.ensures.known c.args.rows.now.bounds c.requires).1;
+}
+
 pub returns-then-count-doc-clause-part : goal.returns-then-count-doc-clause-part
 returns-then-count-doc-clause-part c =
     let bs = c.args.rows.now.bounds in

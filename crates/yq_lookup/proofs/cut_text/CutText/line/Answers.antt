@@ -8,4 +8,4 @@ use Rattle.yq_lookup.proofs.cut_text.CutText.line.Goals as goal
 pub returns : goal.returns
 returns c =
     let rows = c.self.invariant.0.rows ∙ ap (λ t. rows_view (cut_of t)) c.self.view_is in
-    subst (λ s. IfSome c.as_ref.result (λ k. IsKnownLine s k.now)) rows (line_borrowed c.self.inside.rows.now c.self.inside.line c.as_ref.result c.as_ref.ensures.value c.self.invariant.1.1)
+    subst (λ s. IfSome c.as_ref.result (λ k. IsKnownLine s k.now)) rows (line_borrowed c.self.inside.rows.now c.self.inside.way.line c.as_ref.result c.as_ref.ensures.value c.self.invariant.1.1.0)

@@ -3,7 +3,7 @@ use Rattle.yq_documents.specs.Reading.{cut_of}
 use Rattle.yq_row_table.specs.View.{rows_view}
 use Rattle.yq_row_walk.specs.Walk.{IsLineAbove}
 use Rattle.yq_lookup.specs.Knowledge.{IsLineKept}
-use Rattle.yq_lookup.proofs.cut_text.CutText.above.Goals as goal
+use Rattle.yq_lookup.proofs.cut_text.CutText.kept.Goals as goal
 
 pub returns-in-Some : goal.returns-in-Some
 returns-in-Some c =
