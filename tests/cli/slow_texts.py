@@ -83,6 +83,16 @@ def check_paths_through_long_collections(folder):
     each_within_a_second(folder, [*(PLACES + put for put in puts), f"del({PLACES})"])
 
 
+def check_values_at_the_ends_of_long_paths(folder):
+    """They are put in parts, as each operation has all keys of its path: together they would take 1.3 GB."""
+    keys = "".join('{"' + f"k{n}".ljust(1000, "x") + '": ' for n in range(60))
+    folder.write("f", (keys + "[" + ", ".join("1" for _ in range(MANY)) + "]" + "}" * 60 + "\n").encode())
+    for update in (" = 22", " += 1", " |= . + 1"):
+        status, seconds, megabytes = hostile.used(folder.yq, folder.name("f"), f".{'[]' * 61}{update}", 2 * hostile.SECONDS)
+        within = status, seconds <= hostile.SECONDS, megabytes <= hostile.MEGABYTES
+        equal(within, (0, True, True), (update, seconds, megabytes))
+
+
 def check_collections_put_on_lines_of_their_own(folder):
     """Each stays on its line: how deep collections are isn't asked."""
     folder.write("f", b"-\n  5\n" * MANY)

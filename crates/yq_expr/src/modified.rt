@@ -1,4 +1,4 @@
-//! How much memory the values take that an update by `|=` makes, place by place.
+//! How much memory the operations of an assignment take, place by place.
 ghost use Rattle.std.specs.Prelude.{◌≡◌, ◌<◌, ◌≤◌, IfErr, IfOk, length};
 ghost use Rattle.yq_nodes.specs.Nodes.{node_of};
 ghost use Rattle.yq_semantics.specs.Judgement.{ExprError};
@@ -8,8 +8,9 @@ ghost use Rattle.yq_failure.specs.declared.failure.Failure.TheVariants as failur
 
 use crate::document::DocumentRoot;
 use crate::oversized::oversized;
+use crate::path_weights::path_weight;
 use crate::right_value::right_value;
-use crate::weights::{VALUES_LIMIT, weight};
+use crate::weights::{VALUES_LIMIT, ValueWeight, weight};
 use bumpalo::Bump;
 use std::alloc::Global;
 use yq_documents::Documents;
@@ -19,7 +20,7 @@ use yq_semantics::{Assignment, ExprError, Stage, Term};
 
 /// How many bytes the value takes that terms give from a place in a document: as many as a number may say, where
 /// no text can hold it; nothing, where they are refused.
-fn weight_there<'a, 't>(
+fn value_there<'a, 't>(
     alloc: Global,
     document: &DocumentRoot<'a, 't>,
     right: &'a [Term],
@@ -38,12 +39,29 @@ fn weight_there<'a, 't>(
     }
 }
 
-/// For the values of how many of the first places there is room; and how many bytes of room are left then. Where
-/// all the room is left that a part has, there is room for one value at least.
+/// How many bytes the operation at a place in a document takes: its value and its path.
+fn weight_there<'a, 't>(
+    alloc: Global,
+    document: &DocumentRoot<'a, 't>,
+    value: ValueWeight<'a>,
+    place: &FoundPlace<'a, 't>,
+) -> Result<usize, ExprError>
+    requires { HasScalars (place_of place.now).node }
+    ensures { IfErr result (λ e. e ≡ failure.Memory) }
+{
+    let weight = match value {
+        ValueWeight::Alike(weight) => weight,
+        ValueWeight::Found(right) => value_there(alloc, document, right, place)?,
+    };
+    Ok(weight.saturating_add(path_weight(place)))
+}
+
+/// For the operations at how many of the first places there is room; and how many bytes of room are left then. Where
+/// all the room is left that a part has, there is room for one at least.
 pub(crate) fn count_within<'a, 't>(
     alloc: Global,
     document: &DocumentRoot<'a, 't>,
-    right: &'a [Term],
+    value: ValueWeight<'a>,
     places: &[FoundPlace<'a, 't>],
     room: usize,
 ) -> Result<(usize, usize), ExprError>
@@ -55,7 +73,7 @@ pub(crate) fn count_within<'a, 't>(
     let mut count = 0;
     let mut left = room;
     'places: for place in places {
-        let weight = weight_there(alloc, document, right, place)?;
+        let weight = weight_there(alloc, document, value, place)?;
         if weight >= left && left < VALUES_LIMIT {
             return Ok((count, 0));
         }
@@ -65,8 +83,8 @@ pub(crate) fn count_within<'a, 't>(
     Ok((count, left))
 }
 
-/// How many bytes of room are left after the values of an assignment at all places of a document, if there is
-/// room for them.
+/// How many bytes of room are left after the operations of an assignment by `|=` at all places of a document, if
+/// there is room for them.
 fn rest_after<'a>(
     alloc: Global,
     document: DocumentRoot<'a, '_>,
@@ -79,7 +97,8 @@ fn rest_after<'a>(
     let left: &[Stage] = &assignment.left;
     let right: &[Term] = &assignment.right;
     let places = find(alloc, &bump, document.doc, left, document.root)?;
-    let (count, rest) = count_within(alloc, &document, right, &places, room)?;
+    let value = ValueWeight::Found(right);
+    let (count, rest) = count_within(alloc, &document, value, &places, room)?;
     if count < places.len() || rest == 0 {
         return Ok(None);
     }
@@ -103,7 +122,7 @@ fn room_after<'a>(
     }
 }
 
-/// Whether the values take more than there is room for that an assignment finds from places of documents.
+/// Whether the operations of an assignment by `|=` in documents take more than there is room for.
 pub(crate) fn are_many(
     alloc: Global,
     assignment: &Assignment,

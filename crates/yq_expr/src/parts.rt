@@ -14,7 +14,7 @@ use crate::changes::{changes_at, left};
 use crate::document::{DocumentPlaces, DocumentRoot};
 use crate::modified::count_within;
 use crate::oversized::begins_oversized;
-use crate::weights::{VALUES_LIMIT, modified, weight_at};
+use crate::weights::{VALUES_LIMIT, ValueWeight, modified, weight_at};
 use bumpalo::Bump;
 use std::alloc::{AllocError, Global};
 use yq_documents::Documents;
@@ -44,22 +44,8 @@ struct OpenPart {
     is_oversized: bool,
 }
 
-/// How many of so many places a part has, where there is room for values of so many bytes, each of which takes
-/// some: where all the room is left that a part has, one at least.
-fn few_of(count: usize, room: usize, weight: usize) -> usize
-    ensures some { room ≡ values_limit → 0 < count → 0 < result }
-    ensures within { result ≤ count }
-{
-    let few = if weight == 0 { count } else { room / weight };
-    if few < 1 && room == VALUES_LIMIT {
-        count.min(1)
-    } else {
-        count.min(few)
-    }
-}
-
-/// How many of some places of a document a part has, where there is room for values of so many bytes; and how
-/// many bytes of room are left then.
+/// How many of some places of a document a part has, where there is room for so many bytes; and how many bytes of
+/// room are left then.
 fn part_count<'a, 't>(
     alloc: Global,
     update: &'a Update,
@@ -73,15 +59,11 @@ fn part_count<'a, 't>(
     ensures within { IfOk result (λ x. x.0 ≤ length places.now) }
     ensures err { IfErr result (λ e. e ≡ failure.Memory) }
 {
-    if let Some(right) = modified(update) {
-        return count_within(alloc, document, right, places, room);
-    }
-    let weight = weight_at(alloc, update, document)?;
-    let few = few_of(places.len(), room, weight);
-    if few == 0 {
-        return Ok((0, 0));
-    }
-    Ok((few, room.saturating_sub(few.saturating_mul(weight))))
+    let value = match modified(update) {
+        Some(right) => ValueWeight::Found(right),
+        None => ValueWeight::Alike(weight_at(alloc, update, document)?),
+    };
+    count_within(alloc, document, value, places, room)
 }
 
 /// Some of places, from one on and before another one.

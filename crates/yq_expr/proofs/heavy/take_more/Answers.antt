@@ -1,10 +1,10 @@
 use Rattle.std.proofs.Common.{◌<◌, List, length, sym, subst, arith}
 use Rattle.yq_documents.{specs.Documents.{Document, document_parts}, specs.Reading.{cut_of, documents_of}}
 use Rattle.yq_eval.{specs.TreeScalars.HasScalars, proofs.MatchLaws.document_there, proofs.TreeScalarLaws.documents_have}
-use Rattle.yq_expr.proofs.weights.are_heavy.Goals as goal
+use Rattle.yq_expr.proofs.heavy.take_more.Goals as goal
 
-pub document_weight-requires : goal.document_weight-requires
-document_weight-requires c =
+pub values_weight-requires : goal.values_weight-requires
+values_weight-requires c =
     let docs : List Document = documents_of c.args.documents.now in
     let within : c.documents.doc < length docs = omega (arith, c.count-doc-end.ensures, c.documents-test.true) in
     let d = document_there docs c.documents.doc within in
