@@ -26,7 +26,7 @@ def inside(line):
 
 
 def clauses_of(path):
-    """The clauses of a file: the function or type of each, its name, and its width."""
+    """The clauses of a file: the function or type of each, its name, and the clause joined to one line."""
     with open(path, encoding="utf-8") as text:
         lines = text.read().split("\n")
     item, name, depth, joined = None, None, 0, []
@@ -40,13 +40,13 @@ def clauses_of(path):
             joined.append(line.strip())
             depth += inside(line)
             if not depth:
-                yield item, name, len(" ".join(joined))
+                yield item, name, " ".join(joined)
 
 
 def over(found):
     """How many clauses of each crate are over 100 columns, and which are over 240."""
-    counts = {crate: sum(width > AIM for *_, width in each) for crate, each in found.items()}
-    wide = [(crate, item, name) for crate, each in found.items() for item, name, width in each if width > MOST]
+    counts = {crate: sum(len(text) > AIM for *_, text in each) for crate, each in found.items()}
+    wide = [(crate, item, name) for crate, each in found.items() for item, name, text in each if len(text) > MOST]
     return counts, [f"{crate}: `{name}` of {item} is over {MOST} columns in one line: name its hypotheses" for crate, item, name in wide]
 
 

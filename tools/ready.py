@@ -6,9 +6,9 @@
   crate names or list what it doesn't
 - lines that say memory ran out where none was asked for (tools/memory.py)
 - sentences of the pages with more than 35 words, and words that have a plainer one (tools/plain.py)
-- lines of definitions and proofs, and clauses, that are too wide, more functions of many parameters, wrong bodies of both tiers that
-  can't be applied, versions that differ, options that help, man page or a completion says otherwise than the table, rows of codes that
-  are other than the manual's, and links of pages that lead nowhere
+- lines of definitions and proofs, and clauses, that are too wide, more functions of many parameters, more clauses that come together,
+  wrong bodies of both tiers that can't be applied, versions that differ, options that help, man page or a completion says otherwise than
+  the table, rows of codes that are other than the manual's, and links of pages that lead nowhere
 
 usage: ready.py
 
@@ -33,6 +33,7 @@ from memory import unasked
 from options import retold
 from parameters import too_many
 from plain import not_plain
+from together import too_many_together
 from version import other_versions
 from widths import wide_lines
 
@@ -198,7 +199,7 @@ def main(words):
         shutil.copytree(ROOT, copy, symlinks=True, ignore=LEFT)
         of_copy = (misplaced, badly_laid, misformed, faulty_definitions, coined, unasked, unknown_crates, other_libraries, not_plain)
         found = [it for look in of_copy for it in look(copy)]
-        found += [*wide_lines(), *too_wide(), *too_many(), *not_applied(), *other_versions(), *otherwise_told(), *other_codes(), *lost_links()]
+        found += [*wide_lines(), *too_wide(), *too_many(), *too_many_together(), *not_applied(), *other_versions(), *otherwise_told(), *other_codes(), *lost_links()]
     finally:
         shutil.rmtree(room, ignore_errors=True)
     for it in found:

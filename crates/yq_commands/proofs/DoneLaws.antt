@@ -1,5 +1,5 @@
 -- What a command does where a call within it failed, or its text stays equal.
-use Rattle.std.proofs.Common.{rules, ◌≡◌, ◌≢◌, ℕ, Bool, true, false, List, Option, None, Result, Ok, Err, OnOk, sym, ap, subst, refl}
+use Rattle.std.proofs.Common.{rules, ◌≡◌, ◌≢◌, ℕ, Bool, true, false, List, Option, None, Result, Ok, Err, OnOk, sym, subst, refl}
 use Rattle.std.{proofs.Common.string_bytes, specs.FinMap.get}
 use Rattle.yq_semantics.specs.Program.{Program}
 use Rattle.yq_journal.{specs.History.History, specs.State.State}
@@ -12,7 +12,7 @@ use Rattle.yq_fault.{specs.declared.fault.Fault.Fault, specs.Faults.is_outer_fau
 use Rattle.yq_commands.{specs.CommandDone.{EditsFrom, EditsInPlace, EditsOpened, Evaluates}, specs.CommandEffects.edit_effect}
 use Rattle.yq_commands.{specs.CommandSteps.{update_cause, update_next}, specs.Editing.{Refuses, program_edits, program_in}}
 use Rattle.yq_commands.{specs.CommandFaults.cause_in, specs.Evaluation.{evaluated, of_file, shows}, proofs.EditEffects.parsed_works}
-use Rattle.yq_commands.proofs.OutcomeLaws.{arrives_as, each_error, unopened}
+use Rattle.yq_commands.proofs.OutcomeLaws.{all_left, arrives_as, unopened}
 use Rattle.yq_fault.specs.declared.fault.Fault.TheVariants as fault
 
 -- what is said of a success, where there is none
@@ -45,8 +45,7 @@ module _ (expr : List ℕ) (options : EvalOptions) (f j : List ℕ) (c : FileMap
     output = λ h good. no_success _ r e is;
     listed = λ apart. no_success _ r e is;
     expected = no_success _ r e is;
-    kept = each_error _ r (λ x inside. same);
-    others = λ q apart beside. ap (λ x. get x q) same;
+    names = all_left _ c m r same;
   }
 
 -- ---- an edit of a text

@@ -1,5 +1,5 @@
 -- Texts without a reading, and why a program is refused on a text.
-use Rattle.std.proofs.Common.{rules, ◌≡◌, ◌≢◌, ℕ, List, true, false, if◌then◌else◌, None, sym, ap, subst, ◌∙◌, true≢false, Err}
+use Rattle.std.proofs.Common.{rules, ◌≡◌, ◌≢◌, ℕ, List, true, false, if◌then◌else◌, None, sym, ap, subst, ◌∙◌, true≢false}
 use Rattle.std.specs.Str.{is_utf8}
 use Rattle.yq_core.{specs.declared.ReadFault.ReadFault, specs.declared.fault.FaultKind.TheVariants.NotUtf8}
 use Rattle.yq_documents.specs.Reading.{read_at, checked_at}

@@ -1,14 +1,14 @@
 -- What a command comes to, by the contract of the call that carries it out.
 use Rattle.std.{proofs.Common.{rules, ap, ◌≡◌, ◌≢◌, ℕ, Bool, List, Option, Result, Ok, Err, OnOk, refl, ◌∙◌, subst}, specs.FinMap.get}
 use Rattle.yq_journal.{specs.State.State, specs.History.History}
-use Rattle.yq_history.{specs.Causes.Cause, specs.Effects.{Effect, Works, from_names, listing_effect, printed_by}}
-use Rattle.yq_history.{specs.Pair.{Arrives, GoodIn, OthersStay}, specs.Report.{Report, nothing}}
+use Rattle.yq_history.{specs.Causes.Cause, specs.Effects.{Effect, Works, from_names, listing_effect, printed_by}, specs.Leaves.LeavesNames}
+use Rattle.yq_history.{specs.Pair.{Arrives, Differs, GoodIn}, specs.Report.{Report, nothing}}
 use Rattle.yq_history.specs.Output.{IsOutput, Shows, listing_output, showing, showing_nothing}
 use Rattle.yq_fault.specs.declared.fault.Fault.{Fault}
 use Rattle.yq_args.specs.declared.eval_options.EvalOptions.{EvalOptions}
 use Rattle.yq_store.specs.FileMap.{FileMap}
-use Rattle.yq_commands.{specs.CommandEffects.{update_effect, output_by}, specs.CommandNames.Differs, specs.Editing.program_in}
-use Rattle.yq_commands.{specs.CommandFaults.cause_in, specs.Evaluation.{evaluated, report_in}, specs.FileEdits.{IsFileEdited, PrintsChange}}
+use Rattle.yq_commands.{specs.CommandEffects.{update_effect, output_by}, specs.Editing.program_in, specs.CommandFaults.cause_in}
+use Rattle.yq_commands.{specs.Evaluation.{evaluated, report_in}, specs.FileEdits.{IsFileEdited, PrintsChange}}
 use Rattle.yq_commands.specs.Expecting.{report_edit, works_as_expected}
 
 -- nothing is shown
@@ -31,8 +31,8 @@ module _ (s t f j : List ℕ) (file_is : s ≡ f) (journal_is : t ≡ j) where
       (file journal : List ℕ) → file ≢ journal → (f ≡ file) × (j ≡ journal) → Works (from_names c file journal go) file journal c d r
   pair_works c d r go h file journal apart on = by_names (λ x y. x ≢ y → Works (from_names c x y go) x y c d r) file journal on h apart
 
-  pub pair_others : (c d : FileMap) → OthersStay c d s t → (q : List ℕ) → Differs q f j → get d q ≡ get c q
-  pair_others c d h q apart = h q (λ is. apart.0 (is ∙ file_is)) (λ is. apart.1 (is ∙ journal_is))
+  pub pair_names : (c d : FileMap) {T : Type 0} (r : Result T Fault) → LeavesNames (λ q. Differs q s t) c d r → LeavesNames (λ q. Differs q f j) c d r
+  pair_names c d r h = record { kept = h.kept; others = λ q apart. h.others q (λ is. apart.0 (is ∙ file_is), λ is. apart.1 (is ∙ journal_is)) }
 
   -- a listing
   pub listing_shows : (c : FileMap) {T : Type 0} (r : Result T Fault) (o : Report) (diffs : Bool) →

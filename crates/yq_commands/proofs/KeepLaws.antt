@@ -91,7 +91,7 @@ module _ {T : Type 0} (c e : FileMap) (cmd : Command) (r : Result T Fault) (a : 
       let p = arrived e f j cmd h r a s k.answered (k.done.output f j on h good) k.no_output (k.done.arrives f j apart on h good) in
       (p.0, inl (on, p.1), p.2)
   goes_on f j apart (inr (inl strange)) h good =
-      (h, inr (inl strange, refl), subst (λ x. Good x (get e j) h) (sym (k.done.others f strange.0)) (subst (λ y. Good (get c f) y h) (sym (k.done.others j strange.1)) good))
+      (h, inr (inl strange, refl), subst (λ x. Good x (get e j) h) (sym (k.done.names.others f strange.0)) (subst (λ y. Good (get c f) y h) (sym (k.done.names.others j strange.1)) good))
   goes_on f j apart (inr (inr printing)) h good = (h, inr (inr printing, refl), same_pair c e f j h (k.done.still printing.1) good)
 
   has_effect : HasEffect cmd (reply a s.printed) c e
@@ -102,9 +102,9 @@ module _ {T : Type 0} (c e : FileMap) (cmd : Command) (r : Result T Fault) (a : 
   left_by = record {
     all = λ holds. elim (prints cmd) as (λ b. prints cmd ≡ b → e ≡ c) [
       | true ↦ λ p. k.done.still p
-      | false ↦ λ p. kept_by c e cmd r a s k.answered (k.silent p) p (sym (ap (leaves_names cmd) (reply-answer a s.printed)) ∙ holds) k.done.kept
+      | false ↦ λ p. kept_by c e cmd r a s k.answered (k.silent p) p (sym (ap (leaves_names cmd) (reply-answer a s.printed)) ∙ holds) k.done.names.kept
     ] refl;
-    others = k.done.others;
+    others = k.done.names.others;
     effect = has_effect;
     steps = λ f j apart fits h good. goes_on f j apart fits h good;
     edited = edited_by c e cmd r a s k.answered k.done.edited;

@@ -1,27 +1,24 @@
 -- How a command ends, by how a call within it ended.
-use Rattle.std.proofs.Common.{rules, ◌≡◌, ℕ, false, List, Option, Some, None, Result, Ok, Err, IfErr, Vec, sym, subst}
+use Rattle.std.{proofs.Common.{rules, ◌≡◌, ℕ, List, Option, Some, None, Result, Ok, Err, IfErr, Vec, ap, subst}, specs.FinMap.get}
 use Rattle.std.specs.declared.alloc.Global.{Global}
 use Rattle.yq_journal.{specs.History.History, specs.State.State}
 use Rattle.yq_semantics.specs.Program.{Program}
-use Rattle.yq_store.{specs.FileMap.FileMap, specs.Count.failures_after}
+use Rattle.yq_store.{specs.FileMap.FileMap, specs.declared.store.Store.Ghosts}
 use Rattle.yq_fault.{specs.declared.fault.Fault.Fault, specs.declared.fault.Fault.TheVariants.{NotThere, OutOfMemory}}
-use Rattle.yq_fault.specs.Faults.{is_output}
-use Rattle.yq_history.{specs.Causes.{Cause, named}, specs.Pair.{Arrives, GoodIn, Opens, PairAtRest}}
-
--- what is known of an error
-pub told : {T : Type 0} (P : Fault → Type 0) (r : Result T Fault) (e : Fault) → r ≡ Err e → P e → IfErr r P
-told P r e is h = subst (λ x. IfErr x P) (sym is) h
+use Rattle.yq_history.{specs.Causes.{Cause, named}, specs.Leaves.{LeavesNames, LeavesStore}}
+use Rattle.yq_history.specs.Pair.{Arrives, GoodIn, Opens, PairAtRest}
 
 -- what holds anyway holds of each error
 pub each_error : {T : Type 0} (P : Fault → Type 0) (r : Result T Fault) → ((e : Fault) → P e) → IfErr r P
 each_error P r h = search rules
 
 -- want of memory tells of no output, and of no failed call
-pub memory_no_output : {T : Type 0} (r : Result T Fault) → IfErr r (λ e. e ≡ OutOfMemory) → IfErr r (λ e. is_output e ≡ false)
-memory_no_output r h = search rules
+pub memory_left : {S : Type 0} (d : Ghosts S) (s : S) {T : Type 0} (r : Result T Fault) → IfErr r (λ e. e ≡ OutOfMemory) → LeavesStore d s s r
+memory_left d s r h = search rules
 
-pub memory_counted : {T : Type 0} (r : Result T Fault) (n : ℕ) → IfErr r (λ e. e ≡ OutOfMemory) → n ≡ failures_after r n
-memory_counted r n h = search rules
+-- where all names hold what they held, a call leaves what it has to
+pub all_left : (Others : List ℕ → Type 0) (c e : FileMap) {T : Type 0} (r : Result T Fault) → e ≡ c → LeavesNames Others c e r
+all_left Others c e r same = record { kept = each_error _ r (λ x inside. same); others = λ q apart. ap (λ m. get m q) same }
 
 -- the same, by what an expression is
 pub arrives_as : (c : FileMap) (f j : List ℕ) {T : Type 0} (r : Result T Fault) (cause : Result Program Cause → Option Cause) (next : Result Program Cause → Option History) (h : Option History) (p q : Result Program Cause) → p ≡ q →

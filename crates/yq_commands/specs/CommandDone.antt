@@ -4,11 +4,12 @@ use Rattle.std.specs.FinMap.{get}
 use Rattle.yq_journal.{specs.History.History, specs.State.State}
 use Rattle.yq_semantics.specs.Program.{Program}
 use Rattle.yq_args.{specs.declared.command.Command.Command, specs.declared.eval_options.EvalOptions.EvalOptions}
-use Rattle.yq_store.{specs.Calls.Call, specs.FileMap.FileMap}
+use Rattle.yq_store.{specs.Calls.Call, specs.FileMap.FileMap, specs.declared.store.Store.Ghosts}
 use Rattle.yq_text.specs.declared.edited.Edited.{Edited}
-use Rattle.yq_history.{specs.Causes.Cause, specs.Effects.{Effect, Works}, specs.Leaves.{ArrivesBy, HoldsBytes, LeavesRefused}}
+use Rattle.yq_history.{specs.Causes.Cause, specs.Effects.{Effect, Works}, specs.Leaves.{ArrivesBy, HoldsBytes, LeavesNames}}
 use Rattle.yq_history.{specs.Output.{IsOutput, Showing, Shows}, specs.OpenedAnswers.{IsHeld, MakesFrom}}
-use Rattle.yq_history.{specs.Pair.{NamesDiffer, Arrives, GoodIn, OthersStay}, specs.Report.Report, specs.declared.opened.OpenPair.OpenPair}
+use Rattle.yq_history.{specs.Pair.{NamesDiffer, Arrives, Differs, GoodIn, IsOther}, specs.Report.Report}
+use Rattle.yq_history.specs.declared.opened.OpenPair.{OpenPair}
 use Rattle.yq_fault.specs.declared.fault.Fault.{Fault}
 use Rattle.yq_commands.specs.CommandEffects.{IsListing, OfEffect, edit_effect, output_by, update_effect}
 use Rattle.yq_commands.{specs.CommandNames.{IsNotNamed, IsOn, file_of}, specs.CommandSteps.{cause_of, next_of, update_cause, update_next}}
@@ -54,8 +55,8 @@ abbrev pub ExpectsOn : {T : Type 0} → FileMap → Result T Fault → Bool → 
 ExpectsOn old r is_match c = (file journal : List ℕ) → IsOn file journal c → ReportsExpected r is_match c old file journal
 
 -- it leaves what names hold that it doesn't name
-abbrev pub OthersOn : FileMap → FileMap → Command → Type 0
-OthersOn old new c = (q : List ℕ) → IsNotNamed q c → get new q ≡ get old q
+abbrev pub LeavesOn : {T : Type 0} → FileMap → FileMap → Result T Fault → Command → Type 0
+LeavesOn old new r c = LeavesNames (λ q. IsNotNamed q c) old new r
 
 -- a command that prints nothing, nor what it changes, shows no bytes
 abbrev pub IsSilent : Command → Report → Type 0
@@ -74,8 +75,7 @@ pub record CarriesOut (c : Command) (old new : FileMap) {T : Type 0} (r : Result
   pub edited : EditsOn old new r s.printed c
   pub expected : ExpectsOn old r s.is_match c
   pub still : prints c ≡ true → new ≡ old
-  pub kept : LeavesRefused old new r
-  pub others : OthersOn old new c
+  pub names : LeavesOn old new r c
 
 -- ---- an edit in place
 
@@ -92,8 +92,7 @@ pub record EditsInPlace (expr : List ℕ) (options : EvalOptions) (file journal 
   pub output : ShowsBy (report_edit options (program_in expr)) file journal old r s
   pub listed : file ≢ journal → OnOk r (IsOutput file (output_by options.diff (get old file) (update_on expr old file journal)) s.printed)
   pub expected : OnOk r (s.is_match ≡ works_as_expected options.expect_change (update_on expr old file journal))
-  pub kept : LeavesRefused old new r
-  pub others : OthersStay old new file journal
+  pub names : LeavesNames (λ q. Differs q file journal) old new r
 
 -- what an edit of a text by a program does
 abbrev pub program_effect : List ℕ → Program → List ℕ → State → Effect
@@ -119,19 +118,18 @@ pub record EditsOpened (p : Program) (expr : List ℕ) (diffs : Bool) (o : OpenP
     {T : Type 0} (r : Result T Fault) (report : Report) : Type 0 where
   pub edit : NamesDiffer o.pair → EditsFrom p expr o old new r
   pub held : NamesDiffer o.pair → HoldsBytes old o.pair.file.now o.text.items → OnOk r (LeavesEdited p o diffs new report)
-  pub kept : LeavesRefused old new r
-  pub others : OthersStay old new o.pair.file.now o.pair.journal.now
+  pub names : LeavesNames (IsOther o.pair) old new r
 
 -- an edit to this text does so, whatever program makes it
-abbrev pub EditsByAny : {S : Type 0} → Bool → (S → FileMap) → (old new : S) → OpenPair → List ℕ → Edited → {T : Type 0} → Result T Fault → Type 0
-EditsByAny keeps content old new o expr e r =
-    IsTrue keeps → NamesDiffer o.pair → EachProgram o.text.items e (λ p. EditsFrom p expr o (content old) (content new) r)
+abbrev pub EditsByAny : {S : Type 0} → Ghosts S → (old new : S) → OpenPair → List ℕ → Edited → {T : Type 0} → Result T Fault → Type 0
+EditsByAny d old new o expr e r =
+    IsTrue d.keeps → NamesDiffer o.pair → EachProgram o.text.items e (λ p. EditsFrom p expr o (d.content old) (d.content new) r)
 
 -- a success leaves the edited text in the file that held the text
-abbrev pub LeavesText : {S : Type 0} → Bool → (S → FileMap) → (old new : S) → OpenPair → Edited → {T E : Type 0} → Result T E → Type 0
-LeavesText keeps content old new o e r =
-    IsTrue keeps → NamesDiffer o.pair → HoldsBytes (content old) o.pair.file.now o.text.items →
-    OnOk r (HoldsBytes (content new) o.pair.file.now (string_bytes e.text))
+abbrev pub LeavesText : {S : Type 0} → Ghosts S → (old new : S) → OpenPair → Edited → {T E : Type 0} → Result T E → Type 0
+LeavesText d old new o e r =
+    IsTrue d.keeps → NamesDiffer o.pair → HoldsBytes (d.content old) o.pair.file.now o.text.items →
+    OnOk r (HoldsBytes (d.content new) o.pair.file.now (string_bytes e.text))
 
 -- it is done by these calls
 abbrev pub CallsOfEdit : {S T : Type 0} → (S → Call → S → Type 0) → Result T Fault → OpenPair → List ℕ → Edited → S → S → Type 0

@@ -1,12 +1,17 @@
 -- Why a call of a command gives nothing (own).
-use Rattle.std.specs.Prelude.{◌≢◌, Option, Some, None, Result, Ok, Err, IfErr, MatchResult}
+use Rattle.std.specs.Prelude.{◌≡◌, ◌≢◌, false, Option, Some, None, Result, Ok, Err, IfErr, MatchResult}
 use Rattle.yq_history.specs.Causes.{Cause, IsFor}
 use Rattle.yq_fault.{specs.declared.fault.Fault.Fault, specs.declared.fault.Fault.TheVariants.OutOfMemory}
+use Rattle.yq_fault.specs.Faults.{is_failure, is_output}
 
 -- why nothing is due
 abbrev pub cause_in : {X : Type 0} → Result X Cause → Option Cause
 cause_in (Ok x) = None
 cause_in (Err x) = Some x
+
+-- no call failed, of a store or of an output
+abbrev pub IsOfNoCall : Fault → Type 0
+IsOfNoCall e = (is_failure e ≡ false) × (is_output e ≡ false)
 
 -- nothing is given for that cause, or for want of memory
 abbrev pub FailsFor : {X : Type 0} → Result X Cause → {T : Type 0} → Result T Fault → Type 0

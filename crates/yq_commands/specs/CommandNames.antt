@@ -1,5 +1,6 @@
 -- The file and the journal that a command names (own).
 use Rattle.std.{specs.Prelude.{◌≡◌, ◌≢◌, ℕ, List, [], true, false}, specs.String.string_bytes}
+use Rattle.yq_history.specs.Pair.{Differs}
 use Rattle.yq_args.specs.declared.command.Command.{Command}
 use Rattle.yq_args.specs.declared.command.Command.TheVariants.{Eval, Undo, Redo, History as Lists, Squash, Help}
 
@@ -12,10 +13,6 @@ IsOn file journal (Redo f j) = (string_bytes f ≡ file) × (string_bytes j ≡ 
 IsOn file journal (Lists f j diffs) = (string_bytes f ≡ file) × (string_bytes j ≡ journal)
 IsOn file journal (Squash n f j) = (string_bytes f ≡ file) × (string_bytes j ≡ journal)
 IsOn file journal Help = ⊥
-
--- the command names neither
-abbrev pub Differs : List ℕ → List ℕ → List ℕ → Type 0
-Differs q file journal = (q ≢ file) × (q ≢ journal)
 
 -- the command doesn't name this name; an expression that isn't carried out in place needs no journal
 abbrev pub IsNotNamed : List ℕ → Command → Type 0

@@ -13,7 +13,7 @@ use Rattle.yq_history.{specs.Output.{Showing, Shows, showing_by}, specs.Report.r
 use Rattle.yq_fault.specs.declared.fault.Fault.{Fault}
 use Rattle.yq_journal.specs.State.{State}
 use Rattle.yq_semantics.{specs.Program.is_read, specs.View.program_of, specs.declared.program.Syntax.Syntax}
-use Rattle.yq_store.specs.FileMap.{FileMap}
+use Rattle.yq_store.specs.declared.store.Store.{Ghosts}
 use Rattle.yq_history.specs.declared.report.Report as declared
 
 -- a success adds a match to what is printed, after one of the document of that number
@@ -49,34 +49,34 @@ abbrev pub parsed_showing : Parsed → List ℕ → Result Showing Cause
 parsed_showing e = shows e.options (program_of e.program.now)
 
 -- what was printed of a file is the text that a program makes of it, or with `--diff` a diff, where the program is no read
-abbrev pub PrintsParsed : Bool → FileMap → List ℕ → Parsed → declared.Report → {T E : Type 0} → Result T E → Type 0
-PrintsParsed keeps content file e report r =
-    IsTrue keeps → is_read (program_of e.program.now) ≡ false →
-    OnOk r (PrintsHeldEdit e.options.diff file (program_of e.program.now) (get content file) (string_bytes report.text))
+abbrev pub PrintsParsed : {S : Type 0} → Ghosts S → S → List ℕ → Parsed → declared.Report → {T E : Type 0} → Result T E → Type 0
+PrintsParsed d old file e report r =
+    IsTrue d.keeps → is_read (program_of e.program.now) ≡ false →
+    OnOk r (PrintsHeldEdit e.options.diff file (program_of e.program.now) (get (d.content old) file) (string_bytes report.text))
 
 -- in a store that keeps what is put into it such an edit does what is defined
-abbrev pub EditsParsed : {S : Type 0} → Bool → (S → FileMap) → (old new : S) → OpenPair → Parsed → {T : Type 0} → Result T Fault → declared.Report → Type 0
-EditsParsed keeps content old new o e r report =
-    IsTrue keeps → EditsOpened (program_of e.program.now) e.expr.now e.options.diff o (content old) (content new) r (report_by report)
+abbrev pub EditsParsed : {S : Type 0} → Ghosts S → (old new : S) → OpenPair → Parsed → {T : Type 0} → Result T Fault → declared.Report → Type 0
+EditsParsed d old new o e r report =
+    IsTrue d.keeps → EditsOpened (program_of e.program.now) e.expr.now e.options.diff o (d.content old) (d.content new) r (report_by report)
 
--- by whether the store keeps what is put into it, its files by their names, and the stores before and after a call
-module _ {S : Type 0} (keeps : Bool) (content : S → FileMap) (old new : S) (w : EvalWords) {T : Type 0} (r : Result T Fault) where
+-- by a store before and after a call
+module _ {S : Type 0} (d : Ghosts S) (old new : S) (w : EvalWords) {T : Type 0} (r : Result T Fault) where
   -- `eval` edits in place what its words name
   abbrev pub Updates : declared.Report → Type 0
   Updates report =
-      IsTrue keeps → EditsInPlace (string_bytes w.expr) w.options (string_bytes w.file) (string_bytes w.journal) (content old) (content new) r (report_by report)
+      IsTrue d.keeps → EditsInPlace (string_bytes w.expr) w.options (string_bytes w.file) (string_bytes w.journal) (d.content old) (d.content new) r (report_by report)
 
   -- it shows what they ask for
   abbrev pub ShowsWords : declared.Report → Type 0
   ShowsWords report =
-      IsTrue keeps →
-      Evaluates (evaluated w.options (program_in (string_bytes w.expr))) (string_bytes w.file) (content old) (content new) r (report_by report)
+      IsTrue d.keeps →
+      Evaluates (evaluated w.options (program_in (string_bytes w.expr))) (string_bytes w.file) (d.content old) (d.content new) r (report_by report)
 
   -- what it printed of an update is the edited text, or with `--diff` a diff
   abbrev pub PrintsWords : declared.Report → Type 0
   PrintsWords report =
-      IsTrue keeps → OnOk r (PrintsUpdate w.options.diff (string_bytes w.expr) (string_bytes w.file) (get (content old) (string_bytes w.file)) (string_bytes report.text))
+      IsTrue d.keeps → OnOk r (PrintsUpdate w.options.diff (string_bytes w.expr) (string_bytes w.file) (get (d.content old) (string_bytes w.file)) (string_bytes report.text))
 
 -- in a store that keeps what is put into it a command is carried out
-abbrev pub Executes : {S : Type 0} → Bool → (S → FileMap) → (old new : S) → Command → {T : Type 0} → Result T Fault → declared.Report → Type 0
-Executes keeps content old new c r report = IsTrue keeps → CarriesOut c (content old) (content new) r (report_by report)
+abbrev pub Executes : {S : Type 0} → Ghosts S → (old new : S) → Command → {T : Type 0} → Result T Fault → declared.Report → Type 0
+Executes d old new c r report = IsTrue d.keeps → CarriesOut c (d.content old) (d.content new) r (report_by report)

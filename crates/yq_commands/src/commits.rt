@@ -1,11 +1,9 @@
 //! An edited text, kept in its file beside the journal.
-ghost use Rattle.std.specs.Prelude.{◌≡◌, Some, IfOk, IfErr, IsTrue, false, length};
+ghost use Rattle.std.specs.Prelude.{◌≡◌, Some, IfOk, length};
 ghost use Rattle.yq_text.specs.Splice.{lengths_done};
 ghost use Rattle.yq_commands.{specs.CommandDone.{CallsOfEdit, EditsByAny, LeavesText}, specs.Editing.{LengthsLead, SplicesLead}};
 ghost use Rattle.yq_commands.specs.Edits.{record_between};
-ghost use Rattle.yq_history.specs.Leaves.{LeavesRefused, KeepsOthers};
-ghost use Rattle.yq_fault.specs.Faults.{is_output};
-ghost use Rattle.yq_store.specs.Count.{failures_after};
+ghost use Rattle.yq_history.{specs.Leaves.Leaves, specs.Pair.IsOther};
 
 use std::alloc::{AllocError, Global};
 use yq_fault::Fault;
@@ -39,13 +37,9 @@ pub fn commit<D: Store>(
 ) -> Result<(), Fault>
     requires lengths { LengthsLead open.text.items edited }
     requires leads { SplicesLead open.text.items edited }
-    ensures done { EditsByAny D.keeps D.content store.old store.new open.entry expr.now edited result }
-    ensures text { LeavesText D.keeps D.content store.old store.new open.entry edited result }
-    ensures kept { IsTrue D.keeps →
-        LeavesRefused (D.content store.old) (D.content store.new) result }
-    ensures others { IsTrue D.keeps → KeepsOthers D.content store.old store.new open.entry.pair }
-    ensures no_output { IfErr result (λ e. is_output e ≡ false) }
-    ensures count { D.failures store.new ≡ failures_after result (D.failures store.old) }
+    ensures done { EditsByAny D.Store store.old store.new open.entry expr.now edited result }
+    ensures text { LeavesText D.Store store.old store.new open.entry edited result }
+    ensures leaves { Leaves D.Store (IsOther open.entry.pair) store.old store.new result }
     ensures calls { CallsOfEdit D.leads result open.entry expr.now edited store.old store.new }
 {
     let Edited { text, splices } = edited;

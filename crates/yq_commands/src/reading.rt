@@ -1,10 +1,9 @@
 //! An expression as a program, and the bytes of a file as a text.
-ghost use Rattle.std.{specs.Prelude.{◌≡◌, ◌≢◌, None, Ok, IfOk, IfErr, OnErr, true, false}, specs.Str.is_utf8};
+ghost use Rattle.std.{specs.Prelude.{◌≡◌, ◌≢◌, None, Ok, IfOk, IfErr, OnErr, true}, specs.Str.is_utf8};
 ghost use Rattle.yq_semantics.specs.View.{program_of};
 ghost use Rattle.yq_documents.specs.Reading.{read_at};
 ghost use Rattle.yq_history.specs.Causes.{IsUnreadable};
-ghost use Rattle.yq_fault.specs.Faults.{is_failure, is_output};
-ghost use Rattle.yq_commands.{specs.CommandFaults.FailsFor, specs.Editing.program_in};
+ghost use Rattle.yq_commands.{specs.CommandFaults.{FailsFor, IsOfNoCall}, specs.Editing.program_in};
 
 use std::alloc::Global;
 use yq_expr_parser::{ParseError, parse_expr};
@@ -17,8 +16,7 @@ use yq_tree::text_of;
 pub fn parse(alloc: Global, expr: &str) -> Result<Program, Fault>
     ensures ok { IfOk result (λ p. program_in expr.now ≡ Ok (program_of p)) }
     ensures err { FailsFor (program_in expr.now) result }
-    ensures inside { IfErr result (λ e. is_failure e ≡ false) }
-    ensures no_output { IfErr result (λ e. is_output e ≡ false) }
+    ensures inside { IfErr result IsOfNoCall }
 {
     match parse_expr(alloc, expr) {
         Ok(program) => Ok(program),
@@ -33,8 +31,7 @@ pub fn utf8_text(bytes: &[u8]) -> Result<&str, Fault>
     ensures utf8 { IfOk result (λ s. is_utf8 bytes.now ≡ true) }
     ensures err { IfErr result (IsUnreadable bytes.now) }
     ensures none { OnErr result (read_at bytes.now ≡ None) }
-    ensures inside { IfErr result (λ e. is_failure e ≡ false) }
-    ensures no_output { IfErr result (λ e. is_output e ≡ false) }
+    ensures inside { IfErr result IsOfNoCall }
 {
     match text_of(bytes) {
         Ok(text) => Ok(text),

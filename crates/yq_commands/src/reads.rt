@@ -1,11 +1,11 @@
 //! Reads: matches, as they are printed.
-ghost use Rattle.std.{specs.Prelude.{◌≡◌, IfOk, IfErr, true, false}, specs.List.list_all, specs.String.string_bytes};
+ghost use Rattle.std.{specs.Prelude.{◌≡◌, IfOk, IfErr, true}, specs.List.list_all, specs.String.string_bytes};
 ghost use Rattle.yq_core.{specs.Values.value_node, specs.Strings.AddsText};
 ghost use Rattle.yq_eval.specs.MatchView.{matches_of};
 ghost use Rattle.yq_semantics.{specs.Program.is_read, specs.View.program_of};
 ghost use Rattle.yq_history.specs.Output.{showing_by};
-ghost use Rattle.yq_fault.specs.Faults.{is_failure, is_output};
-ghost use Rattle.yq_commands.{specs.CommandFaults.FailsFor, specs.Evaluation.shows, specs.ProgramAnswers.{PrintsMatch, ShowsProgram}};
+ghost use Rattle.yq_commands.{specs.CommandFaults.{FailsFor, IsOfNoCall}, specs.Evaluation.shows};
+ghost use Rattle.yq_commands.specs.ProgramAnswers.{PrintsMatch, ShowsProgram};
 ghost use Rattle.yq_commands.specs.Reads as spec;
 
 use crate::reading::utf8_text;
@@ -116,8 +116,7 @@ pub fn show_read(
     requires { is_read (program_of program.now) ≡ true }
     ensures ok { ShowsProgram options program.now text.now result }
     ensures err { FailsFor (shows options (program_of program.now) text.now) result }
-    ensures inside { IfErr result (λ e. is_failure e ≡ false) }
-    ensures no_output { IfErr result (λ e. is_output e ≡ false) }
+    ensures inside { IfErr result IsOfNoCall }
 {
     let text = utf8_text(text)?;
     let documents = read(alloc, text.as_bytes())?;

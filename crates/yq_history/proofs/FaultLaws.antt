@@ -1,15 +1,11 @@
 -- What is reported where a call within a move failed.
 use Rattle.std.proofs.Common.{rules, ◌≡◌, ℕ, false, List, Some, None, Result, Err, IfErr, IsTrue, IsNone, is_some, if◌then◌else◌, sym, ap}
-use Rattle.std.proofs.Common.{◌∙◌, subst}
+use Rattle.std.proofs.Common.{◌∙◌}
 use Rattle.yq_journal.{specs.Refusals.{move_fault, no_way, way_fault}, specs.declared.moves.Move.Move, specs.State.{State, moved_text}}
 use Rattle.yq_fault.{specs.declared.fault.Fault.Fault, specs.Faults.is_outer_fault}
 use Rattle.yq_store.specs.Count.{failures_after}
 use Rattle.yq_history.proofs.MoveLaws.{no_way_free, none_of}
 use Rattle.yq_journal.specs.declared.fault.JournalFault.TheVariants as journal
-
--- what is known of an error
-pub told : {T : Type 0} (P : Fault → Type 0) (r : Result T Fault) (e : Fault) → r ≡ Err e → P e → IfErr r P
-told P r e is h = subst (λ x. IfErr x P) (sym is) h
 
 pub all_outside : {T : Type 0} (P : Fault → Type 0) (r : Result T Fault) → IfErr r (λ e. IsTrue (is_outer_fault e)) → IfErr r (λ e. is_outer_fault e ≡ false → P e)
 all_outside P r out = search rules

@@ -49,6 +49,10 @@ Arrives content file journal cause h k (Ok v) = (cause ≡ None) × GoodIn conte
 Arrives content file journal cause h k (Err e) =
     MatchBool (is_outer_fault e) (GoodIn content file journal h ⊎ GoodIn content file journal k) (IsFor cause e × GoodIn content file journal h)
 
--- the store's other names hold what they held
-abbrev pub OthersStay : FileMap → FileMap → List ℕ → List ℕ → Type 0
-OthersStay old new file journal = (q : List ℕ) → q ≢ file → q ≢ journal → get new q ≡ get old q
+-- a name is neither a file's nor its journal's
+abbrev pub Differs : List ℕ → List ℕ → List ℕ → Type 0
+Differs q file journal = (q ≢ file) × (q ≢ journal)
+
+-- the same, of a pair
+abbrev pub IsOther : Pair → List ℕ → Type 0
+IsOther pair q = Differs q pair.file.now pair.journal.now

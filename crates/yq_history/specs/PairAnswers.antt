@@ -3,7 +3,7 @@ use Rattle.std.specs.Prelude.{◌≡◌, ◌⊎◌, ℕ, Bool, List, Option, Som
 use Rattle.std.{specs.Prelude.string_bytes, specs.FinMap.get, specs.declared.alloc.Global.Global}
 use Rattle.yq_journal.{specs.Good.journal_beside, specs.History.History, specs.State.State}
 use Rattle.yq_journal.specs.declared.fault.JournalFault.TheVariants.{BadJournal}
-use Rattle.yq_store.{specs.Calls.Call, specs.FileMap.FileMap}
+use Rattle.yq_store.{specs.Calls.Call, specs.FileMap.FileMap, specs.declared.store.Store.Ghosts}
 use Rattle.yq_history.{specs.declared.opened.Pair.Pair, specs.Actions.Action, specs.Calls.{CallsOnPair, IsOpened, ReadsPair}}
 use Rattle.yq_history.{specs.Causes.named, specs.Effects.{Effect, Works, from_names, listing_effect, printed_by, refuses}}
 use Rattle.yq_history.{specs.Leaves.{ArrivesBy, HoldsBytes}, specs.Steps.listing_cause}
@@ -43,57 +43,57 @@ OpensBy leads r pair s t = ReadsPair leads r pair.file.now pair.journal.now (IsO
 
 -- ---- writing
 
--- by whether the store keeps what is put into it, its files by their names, and the stores before and after a call
-module _ {S : Type 0} (keeps : Bool) (content : S → FileMap) (old new : S) where
+-- by a store before and after a call
+module _ {S : Type 0} (d : Ghosts S) (old new : S) where
   -- for each history for which the pair is good it is opened
   abbrev pub OpensPair : Pair → Result (Vec ℕ Global × State) Fault → Type 0
   OpensPair pair r =
-      IsTrue keeps → (h : Option History) → GoodIn (content old) pair.file.now pair.journal.now h →
-      Opens (content new) pair.file.now pair.journal.now h r
+      IsTrue d.keeps → (h : Option History) → GoodIn (d.content old) pair.file.now pair.journal.now h →
+      Opens (d.content new) pair.file.now pair.journal.now h r
 
   -- a success writes a journal under a name
   abbrev pub WritesState : List ℕ → State → {T E : Type 0} → Result T E → Type 0
-  WritesState name s r = IsTrue keeps → OnOk r (Writes (content old) (content new) name s)
+  WritesState name s r = IsTrue d.keeps → OnOk r (Writes (d.content old) (d.content new) name s)
 
   -- an error leaves all names as they were, or has written the journal
   abbrev pub MayWriteState : List ℕ → State → {T E : Type 0} → Result T E → Type 0
-  MayWriteState name s r = IsTrue keeps → OnErr r ((content new ≡ content old) ⊎ Writes (content old) (content new) name s)
+  MayWriteState name s r = IsTrue d.keeps → OnErr r ((d.content new ≡ d.content old) ⊎ Writes (d.content old) (d.content new) name s)
 
   module _ (pair : Pair) where
     -- an action arrives at the next history, or is refused for its cause
     abbrev pub ActsOnPair : Action → {T : Type 0} → Result T Fault → Type 0
     ActsOnPair a r =
-        IsTrue keeps → NamesDiffer pair → ArrivesBy a.cause a.next pair.file.now pair.journal.now (content old) (content new) r
+        IsTrue d.keeps → NamesDiffer pair → ArrivesBy a.cause a.next pair.file.now pair.journal.now (d.content old) (d.content new) r
 
     -- its effect came about
     abbrev pub WorksOnPair : Action → {T : Type 0} → Result T Fault → Type 0
     WorksOnPair a r =
-        IsTrue keeps → NamesDiffer pair →
-        Works (from_names (content old) pair.file.now pair.journal.now a.effect) pair.file.now pair.journal.now (content old) (content new) r
+        IsTrue d.keeps → NamesDiffer pair →
+        Works (from_names (d.content old) pair.file.now pair.journal.now a.effect) pair.file.now pair.journal.now (d.content old) (d.content new) r
 
     -- a listing leaves every history for which the pair is good, or is refused for its cause
     abbrev pub ArrivesListed : {T : Type 0} → Result T Fault → Type 0
     ArrivesListed r =
-        IsTrue keeps → (h : Option History) → GoodIn (content old) pair.file.now pair.journal.now h →
-        Arrives (content new) pair.file.now pair.journal.now (listing_cause h) h h r
+        IsTrue d.keeps → (h : Option History) → GoodIn (d.content old) pair.file.now pair.journal.now h →
+        Arrives (d.content new) pair.file.now pair.journal.now (listing_cause h) h h r
 
     -- the effect of one came about
     abbrev pub ListsPair : Bool → {T : Type 0} → Result T Fault → Type 0
     ListsPair diffs r =
-        IsTrue keeps →
-        Works (from_names (content old) pair.file.now pair.journal.now (listing_effect diffs)) pair.file.now pair.journal.now (content old) (content new) r
+        IsTrue d.keeps →
+        Works (from_names (d.content old) pair.file.now pair.journal.now (listing_effect diffs)) pair.file.now pair.journal.now (d.content old) (d.content new) r
 
-module _ (keeps : Bool) (content : FileMap) (pair : Pair) where
+module _ {S : Type 0} (d : Ghosts S) (old : S) (pair : Pair) where
   -- what a listing prints is what its effect on the bytes of both names says
   abbrev pub Lists : Bool → declared.Report → {T E : Type 0} → Result T E → Type 0
   Lists diffs report r =
-      IsTrue keeps →
-      OnOk r (IsOutput pair.file.now (printed_by (from_names content pair.file.now pair.journal.now (listing_effect diffs))) (string_bytes report.text))
+      IsTrue d.keeps →
+      OnOk r (IsOutput pair.file.now (printed_by (from_names (d.content old) pair.file.now pair.journal.now (listing_effect diffs))) (string_bytes report.text))
 
   -- it is the history's, for each history for which the pair is good
   abbrev pub Prints : Bool → declared.Report → {T E : Type 0} → Result T E → Type 0
   Prints diffs report r =
-      IsTrue keeps → (h : Option History) → GoodIn content pair.file.now pair.journal.now h →
+      IsTrue d.keeps → (h : Option History) → GoodIn (d.content old) pair.file.now pair.journal.now h →
       OnOk r (Shows pair.file.now (showing (listing_output diffs h)) (report_by report))
 
 -- an action on a pair is done by these calls

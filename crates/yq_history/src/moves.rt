@@ -1,10 +1,8 @@
 //! Moves of a file and its journal.
-ghost use Rattle.yq_history.{specs.Leaves.{KeepsOthers, LeavesRefused, RefusedFor, RefusedOnlyFor}, specs.Effects.move_effect};
+ghost use Rattle.yq_history.{specs.Leaves.{Leaves, RefusedFor, RefusedOnlyFor}, specs.Effects.move_effect, specs.Pair.IsOther};
 ghost use Rattle.yq_history.specs.OpenedAnswers.{CutsShort, GoodAfter, GoodAround, HasMoved, HoldsText, MakesFrom, StaysIfBarred};
 ghost use Rattle.yq_history.specs.OpenedAnswers.{way_barred};
-ghost use Rattle.yq_fault.specs.Faults.{is_output};
-ghost use Rattle.yq_store.specs.Count.{failures_after};
-ghost use Rattle.std.specs.Prelude.{◌≡◌, ◌≢◌, false, IsTrue, IfErr};
+ghost use Rattle.std.specs.Prelude.{◌≢◌};
 ghost use Rattle.yq_journal.specs.State.{MovesTo};
 
 use crate::{OpenPair, write_journal};
@@ -24,19 +22,15 @@ pub fn carry_out<D: Store>(
 ) -> Result<(), Fault>
     requires moves { MovesTo open.state step open.text.items new.now }
     requires changes { new.now ≢ open.text.items }
-    ensures ok { GoodAfter D.keeps D.content store.old store.new open.entry step new.now result }
-    ensures err { GoodAround D.keeps D.content store.old store.new open.entry step new.now result }
-    ensures text { HoldsText D.keeps (D.content store.new) open.entry.pair new.now result }
-    ensures moved { HasMoved D.keeps (D.content store.new) open.entry step result }
-    ensures cut { CutsShort D.keeps D.content store.old store.new open.entry step new.now result }
+    ensures ok { GoodAfter D.Store store.old store.new open.entry step new.now result }
+    ensures err { GoodAround D.Store store.old store.new open.entry step new.now result }
+    ensures text { HoldsText D.Store store.new open.entry.pair new.now result }
+    ensures moved { HasMoved D.Store store.new open.entry step result }
+    ensures cut { CutsShort D.Store store.old store.new open.entry step new.now result }
     ensures fault { RefusedOnlyFor (way_barred open.entry step) result }
     ensures refused { RefusedFor (way_barred open.entry step) result }
-    ensures kept { IsTrue D.keeps →
-        LeavesRefused (D.content store.old) (D.content store.new) result }
-    ensures barred { StaysIfBarred D.keeps D.content store.old store.new open.entry step }
-    ensures others { IsTrue D.keeps → KeepsOthers D.content store.old store.new open.entry.pair }
-    ensures no_output { IfErr result (λ e. is_output e ≡ false) }
-    ensures count { D.failures store.new ≡ failures_after result (D.failures store.old) }
+    ensures barred { StaysIfBarred D.Store store.old store.new open.entry step }
+    ensures leaves { Leaves D.Store (IsOther open.entry.pair) store.old store.new result }
     ensures calls { MakesFrom D.leads result open.entry (move_effect step) store.old store.new }
 {
     let OpenPair {

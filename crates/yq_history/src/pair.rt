@@ -1,10 +1,10 @@
 //! A file and its journal, read from a store and written to it.
-ghost use Rattle.yq_store.{specs.Changes.WritesOnly, specs.Count.failures_after};
-ghost use Rattle.yq_history.{specs.Leaves.HasState, specs.Calls.{PutsJournal, ReadsJournal}};
+ghost use Rattle.yq_store.specs.Changes.{WritesOnly};
+ghost use Rattle.yq_history.{specs.Leaves.{HasState, LeavesStore}, specs.Calls.{PutsJournal, ReadsJournal}};
 ghost use Rattle.yq_history.specs.PairAnswers.{BadOnlyIfNone, IsReadFrom, FindsPair, MissesPair, OpensText, OpensBy, OpensPair};
 ghost use Rattle.yq_history.specs.PairAnswers.{WritesState, MayWriteState};
-ghost use Rattle.yq_fault.specs.Faults.{is_outer_fault, is_output};
-ghost use Rattle.std.specs.Prelude.{◌≡◌, false, IfOk, IfErr, IsTrue, IsNone};
+ghost use Rattle.yq_fault.specs.Faults.{is_outer_fault};
+ghost use Rattle.std.specs.Prelude.{◌≡◌, IfOk, IfErr, IsTrue, IsNone};
 
 use crate::Pair;
 use std::alloc::Global;
@@ -17,8 +17,7 @@ fn read_journal<D: Store>(alloc: Global, store: &mut D, journal: &str) -> Result
     ensures ok { IsTrue D.keeps → IfOk result (λ j. HasState (D.content store.old) journal.now j) }
     ensures err { IsTrue D.keeps → BadOnlyIfNone (D.content store.old) journal.now result }
     ensures same { IsTrue D.keeps → D.content store.new ≡ D.content store.old }
-    ensures no_output { IfErr result (λ e. is_output e ≡ false) }
-    ensures count { D.failures store.new ≡ failures_after result (D.failures store.old) }
+    ensures leaves { LeavesStore D.Store store.old store.new result }
     ensures calls { ReadsJournal D.leads result journal.now (IsReadFrom result) store.old store.new }
 {
     match store.read(alloc, journal) {
@@ -35,12 +34,11 @@ pub fn write_journal<D: Store>(
     journal: &str,
     state: &Journal,
 ) -> Result<(), Fault>
-    ensures ok { WritesState D.keeps D.content store.old store.new journal.now state.now result }
-    ensures err { MayWriteState D.keeps D.content store.old store.new journal.now state.now result }
+    ensures ok { WritesState D.Store store.old store.new journal.now state.now result }
+    ensures err { MayWriteState D.Store store.old store.new journal.now state.now result }
     ensures outside { IfErr result (λ e. IsTrue (is_outer_fault e)) }
     ensures others { IsTrue D.keeps → WritesOnly D.content store.old store.new journal.now }
-    ensures no_output { IfErr result (λ e. is_output e ≡ false) }
-    ensures count { D.failures store.new ≡ failures_after result (D.failures store.old) }
+    ensures leaves { LeavesStore D.Store store.old store.new result }
     ensures calls { PutsJournal D.leads result journal.now state.now store.old store.new }
 {
     let bytes = state.to_json(alloc)?;
@@ -54,14 +52,13 @@ pub fn open_pair<D: Store>(
     store: &mut D,
     pair: &Pair<'_>,
 ) -> Result<(Vec<u8>, Journal), Fault>
-    ensures opens { OpensPair D.keeps D.content store.old store.new pair.now result }
+    ensures opens { OpensPair D.Store store.old store.new pair.now result }
     ensures found { IsTrue D.keeps → FindsPair (D.content store.old) pair.now result }
     ensures missed { IsTrue D.keeps → MissesPair (D.content store.old) pair.now result }
     ensures same { IsTrue D.keeps → D.content store.new ≡ D.content store.old }
     ensures text { IsTrue D.keeps → OpensText (D.content store.old) pair.now result }
     ensures at_rest { IfOk result (λ p. IsNone p.1.pending) }
-    ensures no_output { IfErr result (λ e. is_output e ≡ false) }
-    ensures count { D.failures store.new ≡ failures_after result (D.failures store.old) }
+    ensures leaves { LeavesStore D.Store store.old store.new result }
     ensures calls { OpensBy D.leads result pair.now store.old store.new }
 {
     let text = store.read(alloc, pair.file)?;

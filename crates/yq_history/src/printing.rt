@@ -1,10 +1,8 @@
 //! The lines of a history.
 ghost use Rattle.yq_core.specs.Strings.{AddsText};
-ghost use Rattle.yq_history.{specs.Output.{IsOutputText, record_output}, specs.Visible.{in_quotes, visible}};
+ghost use Rattle.yq_history.{specs.Leaves.LeavesStore, specs.Output.{IsOutputText, record_output}, specs.Visible.{in_quotes, visible}};
 ghost use Rattle.yq_history.{specs.Report.{nothing, report_by}, specs.PairAnswers.{ArrivesListed, Lists, CallsListing, ListsPair, Prints}};
-ghost use Rattle.yq_fault.specs.Faults.{is_output};
-ghost use Rattle.yq_store.specs.Count.{failures_after};
-ghost use Rattle.std.{specs.Prelude.{◌≡◌, IfErr, IfOk, IsTrue, false, true, decimal}, specs.String.string_bytes};
+ghost use Rattle.std.{specs.Prelude.{◌≡◌, IfOk, IsTrue, true, decimal}, specs.String.string_bytes};
 ghost use Rattle.json.specs.Print as json;
 ghost use Rattle.yq_history.specs.Listing as spec;
 
@@ -138,14 +136,13 @@ pub fn listing<D: Store>(
     report: &mut Report,
 ) -> Result<(), Fault>
     requires empty { report_by report.old ≡ nothing }
-    ensures arrives { ArrivesListed D.keeps D.content store.old store.new pair.now result }
-    ensures effect { ListsPair D.keeps D.content store.old store.new pair.now diffs result }
-    ensures lines { Lists D.keeps (D.content store.old) pair.now diffs report.new result }
-    ensures output { Prints D.keeps (D.content store.old) pair.now diffs report.new result }
+    ensures arrives { ArrivesListed D.Store store.old store.new pair.now result }
+    ensures effect { ListsPair D.Store store.old store.new pair.now diffs result }
+    ensures lines { Lists D.Store store.old pair.now diffs report.new result }
+    ensures output { Prints D.Store store.old pair.now diffs report.new result }
     ensures matched { report.new.is_match ≡ true }
     ensures same { IsTrue D.keeps → D.content store.new ≡ D.content store.old }
-    ensures no_output { IfErr result (λ e. is_output e ≡ false) }
-    ensures count { D.failures store.new ≡ failures_after result (D.failures store.old) }
+    ensures leaves { LeavesStore D.Store store.old store.new result }
     ensures calls { CallsListing D.leads result pair.now diffs store.old store.new }
 {
     let (text, state) = open_pair(alloc, store, pair)?;

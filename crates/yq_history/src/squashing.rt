@@ -1,10 +1,8 @@
 //! Squashes: the last edits of a file joined into one in its journal.
-ghost use Rattle.yq_store.{specs.Changes.WritesOnly, specs.Count.failures_after};
-ghost use Rattle.yq_history.{specs.Actions.squashing, specs.Leaves.{LeavesRefused, RefusedFor}};
+ghost use Rattle.yq_history.{specs.Actions.squashing, specs.Leaves.{Leaves, RefusedFor}};
 ghost use Rattle.yq_history.specs.OpenedAnswers.{ActsFrom, MakesFrom, WorksFrom};
 ghost use Rattle.yq_history.specs.PairAnswers.{ActsOnPair, CallsAction, WorksOnPair};
-ghost use Rattle.yq_fault.specs.Faults.{is_output};
-ghost use Rattle.std.specs.Prelude.{◌≡◌, IfErr, IsTrue, false};
+ghost use Rattle.std.specs.Prelude.{◌≡◌, ◌≢◌, IsTrue};
 ghost use Rattle.yq_journal.specs.Refusals.{squash_fault};
 
 use crate::{OpenPair, Pair, open_pair, write_journal};
@@ -19,16 +17,11 @@ fn squash_from<D: Store>(
     open: OpenPair<'_>,
     n: u64,
 ) -> Result<(), Fault>
-    ensures arrives { ActsFrom D.keeps D.content store.old store.new open.entry (squashing n) result }
-    ensures effect { WorksFrom D.keeps D.content store.old store.new open.entry (squashing n) result }
+    ensures arrives { ActsFrom D.Store store.old store.new open.entry (squashing n) result }
+    ensures effect { WorksFrom D.Store store.old store.new open.entry (squashing n) result }
     ensures refused { RefusedFor (squash_fault open.entry.state n) result }
-    ensures kept { IsTrue D.keeps →
-        LeavesRefused (D.content store.old) (D.content store.new) result }
     ensures one { IsTrue D.keeps → n ≡ 1 → D.content store.new ≡ D.content store.old }
-    ensures others { IsTrue D.keeps →
-        WritesOnly D.content store.old store.new open.entry.pair.journal.now }
-    ensures no_output { IfErr result (λ e. is_output e ≡ false) }
-    ensures count { D.failures store.new ≡ failures_after result (D.failures store.old) }
+    ensures leaves { Leaves D.Store (λ q. q ≢ open.entry.pair.journal.now) store.old store.new result }
     ensures calls { MakesFrom D.leads result open.entry (squashing n).effect store.old store.new }
 {
     let OpenPair {
@@ -45,14 +38,10 @@ fn squash_from<D: Store>(
 
 /// Joins the last `n` done edits of a file into one. The file isn't written.
 pub fn squash<D: Store>(alloc: Global, store: &mut D, pair: &Pair<'_>, n: u64) -> Result<(), Fault>
-    ensures arrives { ActsOnPair D.keeps D.content store.old store.new pair.now (squashing n) result }
-    ensures effect { WorksOnPair D.keeps D.content store.old store.new pair.now (squashing n) result }
-    ensures kept { IsTrue D.keeps →
-        LeavesRefused (D.content store.old) (D.content store.new) result }
+    ensures arrives { ActsOnPair D.Store store.old store.new pair.now (squashing n) result }
+    ensures effect { WorksOnPair D.Store store.old store.new pair.now (squashing n) result }
     ensures one { IsTrue D.keeps → n ≡ 1 → D.content store.new ≡ D.content store.old }
-    ensures others { IsTrue D.keeps → WritesOnly D.content store.old store.new pair.now.journal.now }
-    ensures no_output { IfErr result (λ e. is_output e ≡ false) }
-    ensures count { D.failures store.new ≡ failures_after result (D.failures store.old) }
+    ensures leaves { Leaves D.Store (λ q. q ≢ pair.now.journal.now) store.old store.new result }
     ensures calls { CallsAction D.leads result pair.now (squashing n) store.old store.new }
 {
     let (text, state) = open_pair(alloc, store, pair)?;

@@ -1,10 +1,8 @@
 //! Undo and redo of a file and its journal.
-ghost use Rattle.yq_history.{specs.Actions.walking, specs.Directions.walk_move, specs.Leaves.{KeepsOthers, LeavesRefused}};
+ghost use Rattle.yq_history.{specs.Actions.walking, specs.Directions.walk_move, specs.Leaves.Leaves, specs.Pair.IsOther};
 ghost use Rattle.yq_history.{specs.Effects.move_effect, specs.OpenedAnswers.{ActsFrom, MakesFrom, WorksFrom}};
 ghost use Rattle.yq_history.specs.PairAnswers.{ActsOnPair, CallsAction, WorksOnPair};
-ghost use Rattle.yq_fault.specs.Faults.{is_output};
-ghost use Rattle.yq_store.specs.Count.{failures_after};
-ghost use Rattle.std.specs.Prelude.{◌≡◌, None, false, IsTrue, IfErr};
+ghost use Rattle.std.specs.Prelude.{◌≡◌, None};
 ghost use Rattle.yq_journal.{specs.Refusals.way_fault, specs.State.MovesTo};
 
 use crate::{Direction, OpenPair, Pair, carry_out, open_pair, write_journal};
@@ -21,13 +19,9 @@ fn move_only<D: Store>(
 ) -> Result<(), Fault>
     requires way { way_fault open.state.records open.state.at (walk_move dir) open.text.items ≡ None }
     requires equal { MovesTo open.state (walk_move dir) open.text.items open.text.items }
-    ensures arrives { ActsFrom D.keeps D.content store.old store.new open.entry (walking dir) result }
-    ensures effect { WorksFrom D.keeps D.content store.old store.new open.entry (walking dir) result }
-    ensures kept { IsTrue D.keeps →
-        LeavesRefused (D.content store.old) (D.content store.new) result }
-    ensures others { IsTrue D.keeps → KeepsOthers D.content store.old store.new open.entry.pair }
-    ensures no_output { IfErr result (λ e. is_output e ≡ false) }
-    ensures count { D.failures store.new ≡ failures_after result (D.failures store.old) }
+    ensures arrives { ActsFrom D.Store store.old store.new open.entry (walking dir) result }
+    ensures effect { WorksFrom D.Store store.old store.new open.entry (walking dir) result }
+    ensures leaves { Leaves D.Store (IsOther open.entry.pair) store.old store.new result }
     ensures calls { MakesFrom D.leads result open.entry (walking dir).effect store.old store.new }
 {
     let OpenPair {
@@ -46,13 +40,9 @@ fn move_from<D: Store>(
     open: OpenPair<'_>,
     dir: Direction,
 ) -> Result<(), Fault>
-    ensures arrives { ActsFrom D.keeps D.content store.old store.new open.entry (walking dir) result }
-    ensures effect { WorksFrom D.keeps D.content store.old store.new open.entry (walking dir) result }
-    ensures kept { IsTrue D.keeps →
-        LeavesRefused (D.content store.old) (D.content store.new) result }
-    ensures others { IsTrue D.keeps → KeepsOthers D.content store.old store.new open.entry.pair }
-    ensures no_output { IfErr result (λ e. is_output e ≡ false) }
-    ensures count { D.failures store.new ≡ failures_after result (D.failures store.old) }
+    ensures arrives { ActsFrom D.Store store.old store.new open.entry (walking dir) result }
+    ensures effect { WorksFrom D.Store store.old store.new open.entry (walking dir) result }
+    ensures leaves { Leaves D.Store (IsOther open.entry.pair) store.old store.new result }
     ensures calls { MakesFrom D.leads result open.entry (walking dir).effect store.old store.new }
 {
     let old = open.text.as_slice();
@@ -71,13 +61,9 @@ pub fn move_file<D: Store>(
     pair: &Pair<'_>,
     dir: Direction,
 ) -> Result<(), Fault>
-    ensures arrives { ActsOnPair D.keeps D.content store.old store.new pair.now (walking dir) result }
-    ensures effect { WorksOnPair D.keeps D.content store.old store.new pair.now (walking dir) result }
-    ensures kept { IsTrue D.keeps →
-        LeavesRefused (D.content store.old) (D.content store.new) result }
-    ensures others { IsTrue D.keeps → KeepsOthers D.content store.old store.new pair.now }
-    ensures no_output { IfErr result (λ e. is_output e ≡ false) }
-    ensures count { D.failures store.new ≡ failures_after result (D.failures store.old) }
+    ensures arrives { ActsOnPair D.Store store.old store.new pair.now (walking dir) result }
+    ensures effect { WorksOnPair D.Store store.old store.new pair.now (walking dir) result }
+    ensures leaves { Leaves D.Store (IsOther pair.now) store.old store.new result }
     ensures calls { CallsAction D.leads result pair.now (walking dir) store.old store.new }
 {
     let (text, state) = open_pair(alloc, store, pair)?;

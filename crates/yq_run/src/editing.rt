@@ -3,11 +3,9 @@ ghost use Rattle.std.{specs.Prelude.{◌≡◌, IfOk, IfErr, [], false}, specs.S
 ghost use Rattle.yq_semantics.specs.View.{program_of};
 ghost use Rattle.yq_commands.specs.CommandDone.{MatchesStill};
 ghost use Rattle.yq_commands.specs.Editing.{LengthsLead, RefusedBy, SplicesLead, outcome_of, program_edits};
-ghost use Rattle.yq_commands.{specs.Expecting.changes_as_expected, specs.FileEdits.IsEditedBy};
+ghost use Rattle.yq_commands.{specs.CommandFaults.IsOfNoCall, specs.Expecting.changes_as_expected, specs.FileEdits.IsEditedBy};
 ghost use Rattle.yq_commands.specs.ProgramAnswers.{EditsParsed, GivesChange, GivesProgramChange, ShowsEdit, parsed_effect};
-ghost use Rattle.yq_history.{specs.OpenedAnswers.MakesFrom, specs.Report.report_by};
-ghost use Rattle.yq_fault.specs.Faults.{is_failure, is_output};
-ghost use Rattle.yq_store.specs.Count.{failures_after};
+ghost use Rattle.yq_history.{specs.Leaves.LeavesStore, specs.OpenedAnswers.MakesFrom, specs.Report.report_by};
 
 use std::alloc::{AllocError, Global};
 use yq_args::EvalOptions;
@@ -36,7 +34,7 @@ fn change_of(
 }
 
 /// Edits a file's text, which need be no UTF-8, by a program, and says with `diff` what that changes.
-#[tactic(auto, unfolding(yq_commands::specs::Editing::program_edits), using(yq_commands::proofs::EditingLaws::unread_refuses, crate::proofs::EditFaults::edit_refuses, crate::proofs::EditFaults::edit_inside, crate::proofs::EditFaults::edit_prints))]
+#[tactic(auto, unfolding(yq_commands::specs::Editing::program_edits), using(yq_commands::proofs::EditingLaws::unread_refuses, crate::proofs::EditFaults::edit_refuses, crate::proofs::EditFaults::edit_inside))]
 pub fn edit_text(
     alloc: Global,
     file: &str,
@@ -51,8 +49,7 @@ pub fn edit_text(
     ensures edited { IfOk result (λ e. IsEditedBy (program_of program.now) text.now e.0) }
     ensures change { GivesProgramChange file.now diff text.now program.now result }
     ensures err { RefusedBy (program_edits (program_of program.now) text.now) result }
-    ensures inside { IfErr result (λ e. is_failure e ≡ false) }
-    ensures no_output { IfErr result (λ e. is_output e ≡ false) }
+    ensures inside { IfErr result IsOfNoCall }
 {
     let text = utf8_text(text)?;
     let edited = edit(alloc, text, program)?;
@@ -77,12 +74,11 @@ pub fn edit_from<D: Store>(
     report: &mut Report,
 ) -> Result<(), Fault>
     requires empty { string_bytes report.old.text ≡ [] }
-    ensures done { EditsParsed D.keeps D.content store.old store.new open.entry parsed.now result report.new }
+    ensures done { EditsParsed D.Store store.old store.new open.entry parsed.now result report.new }
     ensures silent { parsed.now.options.diff ≡ false → string_bytes report.new.text ≡ [] }
     ensures shows { ShowsEdit open.entry parsed.now report.new result }
     ensures unasked { MatchesStill parsed.now.options (report_by report.old) (report_by report.new) }
-    ensures no_output { IfErr result (λ e. is_output e ≡ false) }
-    ensures count { D.failures store.new ≡ failures_after result (D.failures store.old) }
+    ensures leaves { LeavesStore D.Store store.old store.new result }
     ensures calls { MakesFrom D.leads result open.entry (parsed_effect parsed.now) store.old store.new }
 {
     let options = parsed.options;

@@ -1,11 +1,9 @@
 //! Expressions that aren't carried out in place: what they show of a file.
 ghost use Rattle.std.{specs.Prelude.{◌≡◌, Some, IfErr, IsTrue, false}, specs.String.string_bytes};
 ghost use Rattle.yq_semantics.{specs.Program.is_read, specs.View.program_of};
-ghost use Rattle.yq_history.{specs.Calls.ReadsFile, specs.Report.report_by, specs.Causes.Cause};
-ghost use Rattle.yq_fault.specs.Faults.{is_failure, is_output};
-ghost use Rattle.yq_store.specs.Count.{failures_after};
+ghost use Rattle.yq_history.{specs.Calls.ReadsFile, specs.Causes.Cause, specs.Leaves.LeavesStore, specs.Report.report_by};
 ghost use Rattle.yq_commands.{specs.Calls.CallsOfEvaluation, specs.CommandDone.Evaluates, specs.Editing.program_in};
-ghost use Rattle.yq_commands.{specs.CommandFaults.{FailsFor, IsUnparsed, cause_in}, specs.FileEdits.GivesEdit};
+ghost use Rattle.yq_commands.{specs.CommandFaults.{FailsFor, IsOfNoCall, IsUnparsed, cause_in}, specs.FileEdits.GivesEdit};
 ghost use Rattle.yq_commands.specs.Evaluation.{GivesShowing, of_file, shows};
 ghost use Rattle.yq_commands.specs.ProgramAnswers.{GivesUpdate, PrintsParsed, PrintsWords, ShowsWords, parsed_showing};
 
@@ -30,8 +28,7 @@ fn show_edit(
     ensures edited { GivesEdit options.diff file.now (program_of program.now) text.now result }
     ensures ok { GivesShowing file.now (shows options (program_of program.now) text.now) result }
     ensures err { FailsFor (shows options (program_of program.now) text.now) result }
-    ensures inside { IfErr result (λ e. is_failure e ≡ false) }
-    ensures no_output { IfErr result (λ e. is_output e ≡ false) }
+    ensures inside { IfErr result IsOfNoCall }
 {
     let (edited, change) = edit_text(alloc, file, program, text, options.diff)?;
     let is_match = is_as_expected(options, text, edited.text.as_bytes());
@@ -58,8 +55,7 @@ fn show(
     ensures edited { GivesUpdate options.diff file.now program.now text.now result }
     ensures ok { GivesShowing file.now (shows options (program_of program.now) text.now) result }
     ensures err { FailsFor (shows options (program_of program.now) text.now) result }
-    ensures inside { IfErr result (λ e. is_failure e ≡ false) }
-    ensures no_output { IfErr result (λ e. is_output e ≡ false) }
+    ensures inside { IfErr result IsOfNoCall }
 {
     if program.is_read() {
         show_read(alloc, program, text, options)
@@ -78,9 +74,8 @@ fn evaluate_program<D: Store>(
 ) -> Result<(), Fault>
     ensures done { IsTrue D.keeps → Evaluates (of_file (parsed_showing parsed.now)) file.now
         (D.content store.old) (D.content store.new) result (report_by report.new) }
-    ensures edited { PrintsParsed D.keeps (D.content store.old) file.now parsed.now report.new result }
-    ensures no_output { IfErr result (λ e. is_output e ≡ false) }
-    ensures count { D.failures store.new ≡ failures_after result (D.failures store.old) }
+    ensures edited { PrintsParsed D.Store store.old file.now parsed.now report.new result }
+    ensures leaves { LeavesStore D.Store store.old store.new result }
     ensures calls { ReadsFile D.leads result file.now (λ text s t. t ≡ s) store.old store.new }
 {
     let text = store.read(alloc, file)?;
@@ -96,12 +91,11 @@ pub fn evaluate<D: Store>(
     words: &EvalWords,
     report: &mut Report,
 ) -> Result<(), Fault>
-    ensures done { ShowsWords D.keeps D.content store.old store.new words.now result report.new }
-    ensures edited { PrintsWords D.keeps D.content store.old store.new words.now result report.new }
+    ensures done { ShowsWords D.Store store.old store.new words.now result report.new }
+    ensures edited { PrintsWords D.Store store.old store.new words.now result report.new }
     ensures unparsed { (x : Cause) →
         cause_in (program_in (string_bytes words.now.expr)) ≡ Some x → IsUnparsed x result }
-    ensures no_output { IfErr result (λ e. is_output e ≡ false) }
-    ensures count { D.failures store.new ≡ failures_after result (D.failures store.old) }
+    ensures leaves { LeavesStore D.Store store.old store.new result }
     ensures calls { CallsOfEvaluation D.leads result words.now store.old store.new }
 {
     let expr = words.expr.as_str();

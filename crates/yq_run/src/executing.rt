@@ -1,11 +1,9 @@
 //! One command, carried out over a store.
-ghost use Rattle.std.{specs.Prelude.{◌≡◌, [], Some, IfErr, false}, specs.String.string_bytes};
+ghost use Rattle.std.{specs.Prelude.{◌≡◌, [], Some, false}, specs.String.string_bytes};
 ghost use Rattle.yq_commands.{specs.CommandDone.{IsSilent, MatchesStill, MatchesUnasked}, specs.CommandFaults.{IsUnparsed, cause_in}};
 ghost use Rattle.yq_commands.{specs.CommandEffects.expression_cause, specs.Editing.program_in, specs.Calls.{CallsOf, CallsOfUpdate}};
 ghost use Rattle.yq_commands.{specs.Help.Helps, specs.ProgramAnswers.{Executes, Updates}};
-ghost use Rattle.yq_history.{specs.Causes.Cause, specs.Report.{nothing, report_by}};
-ghost use Rattle.yq_fault.specs.Faults.{is_output};
-ghost use Rattle.yq_store.specs.Count.{failures_after};
+ghost use Rattle.yq_history.{specs.Causes.Cause, specs.Leaves.LeavesStore, specs.Report.{nothing, report_by}};
 
 use crate::editing::edit_from;
 use crate::evaluating::evaluate;
@@ -25,13 +23,12 @@ fn update<D: Store>(
     report: &mut Report,
 ) -> Result<(), Fault>
     requires empty { string_bytes report.old.text ≡ [] }
-    ensures done { Updates D.keeps D.content store.old store.new words.now result report.new }
+    ensures done { Updates D.Store store.old store.new words.now result report.new }
     ensures unparsed { (x : Cause) →
         cause_in (program_in (string_bytes words.now.expr)) ≡ Some x → IsUnparsed x result }
     ensures silent { words.now.options.diff ≡ false → string_bytes report.new.text ≡ [] }
     ensures unasked { MatchesStill words.now.options (report_by report.old) (report_by report.new) }
-    ensures no_output { IfErr result (λ e. is_output e ≡ false) }
-    ensures count { D.failures store.new ≡ failures_after result (D.failures store.old) }
+    ensures leaves { LeavesStore D.Store store.old store.new result }
     ensures calls { CallsOfUpdate D.leads result words.now store.old store.new }
 {
     let expr = words.expr.as_str();
@@ -57,13 +54,12 @@ pub fn execute<D: Store>(
     report: &mut Report,
 ) -> Result<(), Fault>
     requires empty { report_by report.old ≡ nothing }
-    ensures done { Executes D.keeps D.content store.old store.new command.now result report.new }
+    ensures done { Executes D.Store store.old store.new command.now result report.new }
     ensures unparsed { (x : Cause) → expression_cause command.now ≡ Some x → IsUnparsed x result }
     ensures silent { IsSilent command.now (report_by report.new) }
     ensures matched { MatchesUnasked command.now (report_by report.new) }
     ensures helped { Helps command.now result (report_by report.new) }
-    ensures no_output { IfErr result (λ e. is_output e ≡ false) }
-    ensures count { D.failures store.new ≡ failures_after result (D.failures store.old) }
+    ensures leaves { LeavesStore D.Store store.old store.new result }
     ensures calls { CallsOf D.leads result command.now store.old store.new }
 {
     match command {

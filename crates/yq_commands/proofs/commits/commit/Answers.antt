@@ -40,10 +40,7 @@ returns g c =
                 (program_edits p t) _ c.carry_out.result makes changes move;
           };
       text = λ keeps apart there. on_ok_map c.carry_out.result (e.text keeps apart) (λ held. held ∙ ap Some is);
-      kept = e.kept;
-      others = e.others;
-      no_output = e.no_output;
-      count = e.count;
+      leaves = e.leaves;
       calls = λ p gives.
           subst (λ x. Makes g.D.Store.leads c.carry_out.result o.pair.file.now o.pair.journal.now t x c.args.store.now c.carry_out.new.store)
           (sym (edit_moves o.pair.file.now o.pair.journal.now (g.D.Store.content c.args.store.now) c.args.expr.now o.state t _ _ _ made (program_edits p t) (gives ∙ ap (λ (x : List ℕ). edited x splices) (sym is)) changes leads)) e.calls;

@@ -37,12 +37,18 @@ returns g c =
       fault = all_outside _ c.write_journal-2.result c.write_journal-2.ensures.outside;
       refused = λ f why.
           absurd (none-some f (sym free ∙ why));
-      kept = λ keeps. all_outside _ c.write_journal-2.result c.write_journal-2.ensures.outside;
       barred = λ keeps barred.
           absurd (barred free);
-      others = λ keeps q apart beside. c.write_journal-2.ensures.others keeps q beside ∙ c.in_ok-replace.ensures.others keeps q apart ∙ c.in_ok-write_journal.ensures.others keeps q beside;
-      no_output = c.write_journal-2.ensures.no_output;
-      count = c.write_journal-2.ensures.count ∙ ap (failures_after c.write_journal-2.result) (c.in_ok-replace.ensures.count ∙ c.in_ok-write_journal.ensures.count);
+      leaves = record {
+        store = record {
+          no_output = c.write_journal-2.ensures.leaves.no_output;
+          count = c.write_journal-2.ensures.leaves.count ∙ ap (failures_after c.write_journal-2.result) (c.in_ok-replace.ensures.count ∙ c.in_ok-write_journal.ensures.leaves.count);
+        };
+        names = λ keeps. record {
+          kept = all_outside _ c.write_journal-2.result c.write_journal-2.ensures.outside;
+          others = λ q apart. c.write_journal-2.ensures.others keeps q apart.1 ∙ c.in_ok-replace.ensures.others keeps q apart.0 ∙ c.in_ok-write_journal.ensures.others keeps q apart.1;
+        };
+      };
       calls =
           let first = was_put_as g.D.Store.leads tt c.args.open.pair.journal.now _ _ c.args.store.now c.write_journal.new.store c.in_ok-start_known.ensures.ok c.in_ok-write_journal.ensures.calls in
           let settled = settled_is c.args.open.state _ _ c.args.step _ _ c.requires.moves c.requires.changes c.in_ok-start_known.ensures.ok c.in_ok-finish.ensures.ok in
@@ -121,8 +127,32 @@ returns-in_err-finish-clause-calls g c =
     c.args.step c.args.open.text.items c.args.store.now c.replace.new.self c.args.new.now free c.requires.moves c.requires.changes
     (inr (inr (c.write_journal.new.store, first, inr (inr (c.replace.new.self, c.in_ok-replace.ensures.call, inl (fails c.from_residual-in_err-finish.result _ p.1, refl))))))
 
-pub returns-in_err-replace-clause-count : goal.returns-in_err-replace-clause-count
-returns-in_err-replace-clause-count g c =
+pub returns-in_err-write_journal-clause-leaves : goal.returns-in_err-write_journal-clause-leaves
+returns-in_err-write_journal-clause-leaves g c = record {
+  store = search rules;
+  names = λ keeps. record { kept = search rules; others = λ q apart. c.in_err-write_journal.ensures.others keeps q apart.1 };
+}
+
+pub returns-in_err-replace-clause-leaves : goal.returns-in_err-replace-clause-leaves
+returns-in_err-replace-clause-leaves g c =
     let r = c.from_residual-in_err-replace.result in
     let p = err_from_is_err_and r c.from_residual-in_err-replace.ensures.1 in
-    c.in_err-replace.ensures.count ∙ failed_write r _ _ (p.1 ∙ ap Err p.2) ∙ ap (failures_after r) c.in_ok-write_journal.ensures.count
+    record {
+      store = record {
+        no_output = search rules;
+        count = c.in_err-replace.ensures.count ∙ failed_write r _ _ (p.1 ∙ ap Err p.2) ∙ ap (failures_after r) c.in_ok-write_journal.ensures.leaves.count;
+      };
+      names = λ keeps. record {
+        kept = search rules;
+        others = λ q apart. c.in_err-replace.ensures.others keeps q apart.0 ∙ c.in_ok-write_journal.ensures.others keeps q apart.1;
+      };
+    }
+
+pub returns-in_err-finish-clause-leaves : goal.returns-in_err-finish-clause-leaves
+returns-in_err-finish-clause-leaves g c = record {
+  store = search rules;
+  names = λ keeps. record {
+    kept = search rules;
+    others = λ q apart. c.in_ok-replace.ensures.others keeps q apart.0 ∙ c.in_ok-write_journal.ensures.others keeps q apart.1;
+  };
+}

@@ -1,6 +1,7 @@
-use Rattle.std.{proofs.Common.{Err, ap, ◌∙◌, rules}, specs.FinMap.get, proofs.lemmas.Result.err_from_is_err_and}
-use Rattle.yq_history.{proofs.SquashLaws.squash_opened, specs.Effects.squash_effect, proofs.EffectLaws.{not_opened, from_opened}}
-use Rattle.yq_history.proofs.CallLaws.{opened_calls, unopened_calls}
+use Rattle.std.{proofs.Common.{◌≢◌, Err, ap, ◌∙◌, rules, subst}, specs.FinMap.get, proofs.lemmas.Result.err_from_is_err_and}
+use Rattle.yq_store.specs.Count.{failures_after}
+use Rattle.yq_history.{proofs.SquashLaws.squash_opened, specs.Effects.squash_effect, specs.Leaves.LeavesNames}
+use Rattle.yq_history.{proofs.EffectLaws.{not_opened, from_opened}, proofs.CallLaws.{opened_calls, unopened_calls}}
 use Rattle.yq_history.proofs.squashing.squash.Goals as goal
 
 pub returns-clause-arrives : goal.returns-clause-arrives
@@ -24,3 +25,13 @@ pub returns-clause-calls : goal.returns-clause-calls
 returns-clause-calls g c =
     opened_calls g.D.Store.leads c.squash_from.result c.args.pair.now.file.now c.args.pair.now.journal.now (squash_effect c.args.n) (c.in_ok-text.text, c.in_ok-text.state)
     c.open_pair.new.store c.squash_from.new.store c.squash_from.ensures.calls c.args.store.now c.in_ok-text.ensures.calls
+
+pub returns-clause-leaves : goal.returns-clause-leaves
+returns-clause-leaves g c =
+    let e = c.squash_from.ensures.leaves in
+    let r = c.squash_from.result in
+    record {
+      store = record { no_output = e.store.no_output; count = e.store.count ∙ ap (failures_after r) c.in_ok-text.ensures.leaves.count };
+      names = λ keeps. subst (λ m. LeavesNames (λ q. q ≢ c.args.pair.now.journal.now) m (g.D.Store.content c.squash_from.new.store) r)
+          (c.in_ok-text.ensures.same keeps) (e.names keeps);
+    }

@@ -30,8 +30,7 @@ returns g c =
               printed = change_comes options.diff file text u a.edited.splices.items (program_edits p text)
                   (get (g.D.Store.content c.commit.new.store) file) (string_bytes a.change) gives is change;
             });
-        kept = e.kept keeps;
-        others = e.others keeps;
+        names = e.leaves.names keeps;
       };
       silent = λ off. subst (λ b. IsOutput file (change_output b text (program_edits p text)) (string_bytes a.change)) off change;
       shows = on_ok c.commit.result
@@ -41,8 +40,7 @@ returns g c =
                 ∙ ap (changes_as_expected options text) c.as_bytes.ensures.value ∙ ap (edits_as_expected options text) (sym gives);
           });
       unasked = λ free matched. c.is_as_expected-report.ensures ∙ free_edit options c.as_slice-old.result.now c.as_bytes.result.now free;
-      no_output = e.no_output;
-      count = e.count;
+      leaves = e.leaves.store;
       calls = e.calls p gives;
     }
 

@@ -2,7 +2,6 @@ use Rattle.std.{proofs.Common.{◌≡◌, Err, OnOk, Some, ap, ◌∙◌, refl, 
 use Rattle.std.specs.String.{string_bytes}
 use Rattle.yq_semantics.specs.View.{program_of}
 use Rattle.yq_history.{proofs.CallLaws.fails, specs.Causes.Cause, specs.Report.report_by}
-use Rattle.yq_fault.specs.declared.fault.Fault.{Fault}
 use Rattle.yq_commands.{proofs.DoneLaws.{by_words, parsed_shows, unparsed_shows}, proofs.CommandCalls.{none_yet, parsed_calls}}
 use Rattle.yq_commands.{specs.Calls.CallsToShow, specs.CommandDone.Evaluates, specs.CommandFaults.{IsUnparsed, cause_in}}
 use Rattle.yq_commands.{specs.Editing.program_in, specs.Evaluation.evaluated, specs.FileEdits.PrintsUpdate}

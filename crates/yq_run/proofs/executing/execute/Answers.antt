@@ -1,16 +1,16 @@
-use Rattle.std.{proofs.Common.{◌≡◌, Bool, true, false, refl, sym, ap, ◌∙◌, subst, true≢false}, proofs.lemmas.Bool.false≢true}
-use Rattle.std.{proofs.lemmas.Option.none-some, specs.FinMap.get, specs.String.string_bytes}
+use Rattle.std.{proofs.Common.{◌≡◌, true, false, refl, sym, ap, ◌∙◌, subst, true≢false}, proofs.lemmas.Bool.false≢true}
+use Rattle.std.{proofs.lemmas.Option.none-some, specs.String.string_bytes}
 use Rattle.yq_history.{specs.Effects.{listing_effect, move_effect, squash_effect}, specs.Report.{Report, report_by}}
 use Rattle.yq_history.{specs.Steps.{listing_cause, move_cause, move_next, squash_cause, squash_next}, proofs.EffectLaws.on_ok}
 use Rattle.yq_args.specs.declared.command.Command.TheVariants.{Eval}
 use Rattle.yq_commands.{specs.CommandEffects.expression_cause, specs.Editing.program_in}
 use Rattle.yq_commands.{specs.Prints.{prints, reads_journal, prints_change}, specs.Expecting.expects_change}
 use Rattle.yq_commands.proofs.ExpectingLaws.{none_expected}
-use Rattle.yq_commands.specs.CommandDone.{ArrivesOn, EditsOn, ExpectsOn, ListsOn, OthersOn, ShowsOn, WorksOn}
-use Rattle.yq_commands.proofs.ExecuteLaws.{evaluate_arrives, evaluate_shows, pair_arrives, pair_others, pair_works, empty_shows}
+use Rattle.yq_commands.specs.CommandDone.{ArrivesOn, EditsOn, ExpectsOn, LeavesOn, ListsOn, ShowsOn, WorksOn}
+use Rattle.yq_commands.proofs.ExecuteLaws.{evaluate_arrives, evaluate_shows, pair_arrives, pair_names, pair_works, empty_shows}
 use Rattle.yq_commands.proofs.ExecuteLaws.{update_edits, update_expects, update_shows, update_works, listing_lists, listing_shows}
 use Rattle.yq_commands.{proofs.ExecuteLaws.update_lists, specs.CommandSteps.{update_cause, update_next}, specs.Calls.CallsOf}
-use Rattle.yq_commands.{specs.Help.Helps, proofs.CommandCalls.pair_calls, proofs.OutcomeLaws.{each_error, memory_counted, memory_no_output}}
+use Rattle.yq_commands.{specs.Help.Helps, proofs.CommandCalls.pair_calls, proofs.OutcomeLaws.{all_left, memory_left}}
 use Rattle.yq_journal.specs.declared.moves.Move.TheVariants as move
 use Rattle.yq_run.proofs.executing.execute.Goals as goal
 
@@ -27,15 +27,13 @@ returns-in-Undo g c =
         edited = subst (EditsOn _ _ c.move_file.result _) (sym is) (on_ok c.move_file.result tt);
         expected = subst (ExpectsOn _ c.move_file.result _) (sym is) (λ file journal on. on_ok c.move_file.result (ap (λ (s : Report). s.is_match) c.requires.empty ∙ none_expected _));
         still = λ shown. absurd (false≢true (sym (ap prints is) ∙ shown));
-        kept = e.kept keeps;
-        others = subst (OthersOn _ _) (sym is) (pair_others _ _ _ _ c.as_str.ensures.value c.as_str-in-Undo.ensures.value _ _ (e.others keeps));
+        names = subst (LeavesOn _ _ c.move_file.result) (sym is) (pair_names _ _ _ _ c.as_str.ensures.value c.as_str-in-Undo.ensures.value _ _ c.move_file.result (e.leaves.names keeps));
       };
       unparsed = λ x cause. absurd (none-some x (sym (ap expression_cause is) ∙ cause));
       silent = λ hidden still. ap (λ (s : Report). s.printed) c.requires.empty;
       matched = λ reads free. ap (λ (s : Report). s.is_match) c.requires.empty;
       helped = subst (λ x. Helps x c.move_file.result (report_by c.args.report.now)) (sym is) tt;
-      no_output = e.no_output;
-      count = e.count;
+      leaves = e.leaves.store;
       calls = subst (λ x. CallsOf g.D.Store.leads c.move_file.result x c.args.store.now c.move_file.new.store) (sym is)
           (pair_calls g.D.Store.leads _ _ _ _ _ c.as_str.ensures.value c.as_str-in-Undo.ensures.value (move_effect move.Undo) _ _ e.calls);
     }
@@ -55,15 +53,13 @@ returns-in-Redo g c =
         edited = subst (EditsOn _ _ c.move_file-in-Redo.result _) (sym is) (on_ok c.move_file-in-Redo.result tt);
         expected = subst (ExpectsOn _ c.move_file-in-Redo.result _) (sym is) (λ file journal on. on_ok c.move_file-in-Redo.result (ap (λ (s : Report). s.is_match) c.requires.empty ∙ none_expected _));
         still = λ shown. absurd (false≢true (sym (ap prints is) ∙ shown));
-        kept = e.kept keeps;
-        others = subst (OthersOn _ _) (sym is) (pair_others _ _ _ _ c.as_str-in-Redo.ensures.value c.as_str-in-Redo-2.ensures.value _ _ (e.others keeps));
+        names = subst (LeavesOn _ _ c.move_file-in-Redo.result) (sym is) (pair_names _ _ _ _ c.as_str-in-Redo.ensures.value c.as_str-in-Redo-2.ensures.value _ _ c.move_file-in-Redo.result (e.leaves.names keeps));
       };
       unparsed = λ x cause. absurd (none-some x (sym (ap expression_cause is) ∙ cause));
       silent = λ hidden still. ap (λ (s : Report). s.printed) c.requires.empty;
       matched = λ reads free. ap (λ (s : Report). s.is_match) c.requires.empty;
       helped = subst (λ x. Helps x c.move_file-in-Redo.result (report_by c.args.report.now)) (sym is) tt;
-      no_output = e.no_output;
-      count = e.count;
+      leaves = e.leaves.store;
       calls = subst (λ x. CallsOf g.D.Store.leads c.move_file-in-Redo.result x c.args.store.now c.move_file-in-Redo.new.store) (sym is)
           (pair_calls g.D.Store.leads _ _ _ _ _ c.as_str-in-Redo.ensures.value c.as_str-in-Redo-2.ensures.value (move_effect move.Redo) _ _ e.calls);
     }
@@ -83,15 +79,14 @@ returns-in-Squash g c =
         edited = subst (EditsOn _ _ c.squash.result _) (sym is) (on_ok c.squash.result tt);
         expected = subst (ExpectsOn _ c.squash.result _) (sym is) (λ file journal on. on_ok c.squash.result (ap (λ (s : Report). s.is_match) c.requires.empty ∙ none_expected _));
         still = λ shown. absurd (false≢true (sym (ap prints is) ∙ shown));
-        kept = e.kept keeps;
-        others = subst (OthersOn _ _) (sym is) (pair_others _ _ _ _ c.as_str-in-Squash.ensures.value c.as_str-in-Squash-2.ensures.value _ _ (λ q apart beside. e.others keeps q beside));
+        names = subst (LeavesOn _ _ c.squash.result) (sym is)
+            (pair_names _ _ _ _ c.as_str-in-Squash.ensures.value c.as_str-in-Squash-2.ensures.value _ _ c.squash.result (record { kept = (e.leaves.names keeps).kept; others = λ q apart. (e.leaves.names keeps).others q apart.1 }));
       };
       unparsed = λ x cause. absurd (none-some x (sym (ap expression_cause is) ∙ cause));
       silent = λ hidden still. ap (λ (s : Report). s.printed) c.requires.empty;
       matched = λ reads free. ap (λ (s : Report). s.is_match) c.requires.empty;
       helped = subst (λ x. Helps x c.squash.result (report_by c.args.report.now)) (sym is) tt;
-      no_output = e.no_output;
-      count = e.count;
+      leaves = e.leaves.store;
       calls = subst (λ x. CallsOf g.D.Store.leads c.squash.result x c.args.store.now c.squash.new.store) (sym is)
           (pair_calls g.D.Store.leads _ _ _ _ _ c.as_str-in-Squash.ensures.value c.as_str-in-Squash-2.ensures.value (squash_effect c.in-Squash.n) _ _
           e.calls);
@@ -113,15 +108,13 @@ returns-in-History g c =
         edited = subst (EditsOn _ _ c.listing.result _) (sym is) (on_ok c.listing.result tt);
         expected = subst (ExpectsOn _ c.listing.result _) (sym is) (λ file journal on. on_ok c.listing.result (e.matched ∙ none_expected _));
         still = λ shown. e.same keeps;
-        kept = each_error _ c.listing.result (λ x inside. e.same keeps);
-        others = λ q apart. ap (λ m. get m q) (e.same keeps);
+        names = all_left _ _ _ c.listing.result (e.same keeps);
       };
       unparsed = λ x cause. absurd (none-some x (sym (ap expression_cause is) ∙ cause));
       silent = λ hidden still. absurd (true≢false (sym (ap prints is) ∙ hidden));
       matched = λ reads free. e.matched;
       helped = subst (λ x. Helps x c.listing.result (report_by report)) (sym is) tt;
-      no_output = e.no_output;
-      count = e.count;
+      leaves = e.leaves;
       calls = subst (λ x. CallsOf g.D.Store.leads c.listing.result x c.args.store.now c.listing.new.store) (sym is)
           (pair_calls g.D.Store.leads _ _ _ _ _ c.as_str-in-History.ensures.value c.as_str-in-History-2.ensures.value
           (listing_effect c.in-History.diffs) _ _ e.calls);
@@ -139,15 +132,13 @@ returns-in-Help g c =
         edited = subst (EditsOn _ _ c.help.result _) (sym is) (on_ok c.help.result tt);
         expected = subst (ExpectsOn _ c.help.result _) (sym is) (λ file journal on. absurd on);
         still = λ shown. refl;
-        kept = each_error _ c.help.result (λ x inside. refl);
-        others = λ q apart. refl;
+        names = all_left _ _ _ c.help.result refl;
       };
       unparsed = λ x cause. absurd (none-some x (sym (ap expression_cause is) ∙ cause));
       silent = λ hidden still. absurd (true≢false (sym (ap prints is) ∙ hidden));
       matched = λ reads free. absurd (false≢true (sym (ap reads_journal is) ∙ reads));
       helped = subst (λ x. Helps x c.help.result (report_by c.help.new.report)) (sym is) c.help.ensures.text;
-      no_output = memory_no_output c.help.result c.help.ensures.memory;
-      count = memory_counted c.help.result _ c.help.ensures.memory;
+      leaves = memory_left g.D.Store c.args.store.now c.help.result c.help.ensures.memory;
       calls = subst (λ x. CallsOf g.D.Store.leads c.help.result x c.args.store.now c.args.store.now) (sym is) refl;
     }
 
@@ -166,15 +157,13 @@ returns-in-Eval g c =
         edited = subst (EditsOn _ _ c.evaluate.result _) (sym is) (e.edited keeps);
         expected = subst (ExpectsOn _ c.evaluate.result _) (sym is) (λ file journal on. tt);
         still = λ shown. (e.done keeps).same;
-        kept = each_error _ c.evaluate.result (λ x inside. (e.done keeps).same);
-        others = λ q apart. ap (λ m. get m q) (e.done keeps).same;
+        names = all_left _ _ _ c.evaluate.result (e.done keeps).same;
       };
       unparsed = λ y cause. e.unparsed y (sym (ap expression_cause is) ∙ cause);
       silent = λ hidden still. absurd (true≢false (sym (ap prints is) ∙ hidden));
       matched = λ reads free. absurd (false≢true (sym (ap reads_journal is) ∙ reads));
       helped = subst (λ x. Helps x c.evaluate.result (report_by c.evaluate.new.report)) (sym is) tt;
-      no_output = e.no_output;
-      count = e.count;
+      leaves = e.leaves;
       calls = subst (λ x. CallsOf g.D.Store.leads c.evaluate.result x c.args.store.now c.evaluate.new.store) (sym is) e.calls;
     }
 
@@ -195,15 +184,13 @@ returns-in-Eval-default-true g c =
         edited = subst (EditsOn _ _ c.update.result _) (sym is) (update_edits _ _ x _ c.update.result _ _ a.words.options.diff (e.done keeps).edited);
         expected = subst (ExpectsOn _ c.update.result _) (sym is) (update_expects _ _ x _ c.update.result _ a.words.options.expect_change (e.done keeps).expected);
         still = λ shown. absurd (false≢true (sym (ap prints is) ∙ shown));
-        kept = (e.done keeps).kept;
-        others = subst (OthersOn _ _) (sym is) (pair_others _ _ _ _ refl refl _ _ (e.done keeps).others);
+        names = subst (LeavesOn _ _ c.update.result) (sym is) (e.done keeps).names;
       };
       unparsed = λ y cause. e.unparsed y (sym (ap expression_cause is) ∙ cause);
       silent = λ hidden still. e.silent (sym (ap prints_change is) ∙ still);
       matched = λ reads free. e.unasked (sym (ap expects_change is) ∙ free) (ap (λ (s : Report). s.is_match) c.requires.empty);
       helped = subst (λ x. Helps x c.update.result (report_by c.update.new.report)) (sym is) tt;
-      no_output = e.no_output;
-      count = e.count;
+      leaves = e.leaves;
       calls = subst (λ x. CallsOf g.D.Store.leads c.update.result x c.args.store.now c.update.new.store) (sym is) e.calls;
     }
 

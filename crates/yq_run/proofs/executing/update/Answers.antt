@@ -1,4 +1,4 @@
-use Rattle.std.{proofs.Common.{◌≡◌, ℕ, List, false, Ok, Err, IfErr, Some, sym, ap, ◌∙◌, subst}, proofs.lemmas.Result.err_from_is_err_and}
+use Rattle.std.{proofs.Common.{◌≡◌, ℕ, List, Ok, Err, Some, sym, ap, ◌∙◌, subst}, proofs.lemmas.Result.err_from_is_err_and}
 use Rattle.std.{specs.FinMap.get, specs.String.string_bytes}
 use Rattle.yq_journal.specs.State.{State}
 use Rattle.yq_semantics.specs.View.{program_of}
@@ -9,9 +9,9 @@ use Rattle.yq_commands.proofs.FileEditLaws.{file_comes, parsed_free, unparsed_fa
 use Rattle.yq_commands.{specs.CommandSteps.{update_cause, update_next}, proofs.ExpectingLaws.{effect_expected, matched_as, history_showing}}
 use Rattle.yq_commands.{proofs.OutcomeLaws.{arrives_as, opened}, proofs.CommandCalls.{none_yet, parsed_calls}}
 use Rattle.yq_commands.{proofs.DoneLaws.{by_words, unopened_edits, unparsed_edits}, specs.Calls.CallsToEdit, specs.CommandDone.EditsInPlace}
-use Rattle.yq_history.{specs.Causes.Cause, specs.Report.report_by, proofs.CallLaws.{fails, unopened_calls, opened_calls}}
-use Rattle.yq_history.{proofs.EffectLaws.from_opened, specs.Output.{IsOutput, Shows}, proofs.MoveLaws.on_ok_map}
-use Rattle.yq_fault.{specs.declared.fault.Fault.Fault, specs.Faults.is_outer_fault}
+use Rattle.yq_history.{specs.Causes.Cause, specs.Leaves.LeavesNames, specs.Pair.Differs, specs.Report.report_by}
+use Rattle.yq_history.{proofs.CallLaws.{fails, unopened_calls, opened_calls}, proofs.EffectLaws.from_opened, specs.Output.{IsOutput, Shows}}
+use Rattle.yq_history.proofs.MoveLaws.{on_ok_map}
 use Rattle.yq_store.specs.Count.{failures_after}
 use Rattle.yq_run.proofs.executing.update.Goals as goal
 
@@ -70,15 +70,15 @@ returns g c =
                 ∙ ap (λ q. works_as_expected c.args.words.now.options.expect_change
                 (update_effect c.as_str-expr.result.now q (get (g.D.Store.content c.args.store.now) c.as_str-file.result.now)
                 (get (g.D.Store.content c.args.store.now) c.as_str-journal.result.now))) (sym c.in_ok-program.ensures.ok));
-            kept = subst (λ m. IfErr c.edit_from.result (λ y. is_outer_fault y ≡ false → g.D.Store.content c.edit_from.new.store ≡ m)) (o.same keeps) (e.done keeps).kept;
-            others = λ q apart beside. (e.done keeps).others q apart beside ∙ ap (λ m. get m q) (o.same keeps);
+            names = subst
+                (λ m. LeavesNames (λ q. Differs q c.as_str-file.result.now c.as_str-journal.result.now) m (g.D.Store.content c.edit_from.new.store) c.edit_from.result)
+                (o.same keeps) (e.done keeps).names;
           });
       silent = e.silent;
       unasked = e.unasked;
       unparsed = subst (λ x. (y : Cause) → cause_in (program_in x) ≡ Some y → IsUnparsed y c.edit_from.result) c.as_str-expr.ensures.value
           (parsed_free c.edit_from.result c.as_str-expr.result.now (program_of c.in_ok-program.program) c.in_ok-program.ensures.ok);
-      no_output = e.no_output;
-      count = e.count ∙ ap (failures_after c.edit_from.result) o.count;
+      leaves = record { no_output = e.leaves.no_output; count = e.leaves.count ∙ ap (failures_after c.edit_from.result) o.leaves.count };
       calls = by_words w _ _ _ c.as_str-expr.ensures.value c.as_str-file.ensures.value c.as_str-journal.ensures.value
           (λ x f j. CallsToEdit g.D.Store.leads c.edit_from.result x f j c.args.store.now c.edit_from.new.store)
           (parsed_calls g.D.Store.leads c.edit_from.result _ c.args.store.now _ (program_of c.in_ok-program.program) _ c.in_ok-program.ensures.ok

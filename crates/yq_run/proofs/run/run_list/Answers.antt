@@ -39,7 +39,7 @@ commands-preserved g c =
     let pushed : c.push.new.self.items ≡ c.commands.answers.items ++ answer ∷ [] =
     c.push.ensures.items ∙ ap (λ b. if b then c.commands.answers.items ++ answer ∷ [] else c.commands.answers.items) ok in
     let put : failures c.answer_of-answer.new.out ≡ (if reports_output answer then count_plus_one (failures c.commands.out) else failures c.commands.out) =
-    put_passing done answer report (failures c.commands.out) _ answered ran.no_output c.answer_of-answer.ensures.count in
+    put_passing done answer report (failures c.commands.out) _ answered ran.leaves.no_output c.answer_of-answer.ensures.count in
     record {
       count = c.push.ensures.len ∙ ap (λ b. if b then vec_len c.commands.answers + 1 else vec_len c.commands.answers) ok ∙ ap (λ n. n + 1) before.count;
       room = omega (arith, c.push.ensures.capacity);
@@ -55,18 +55,18 @@ commands-preserved g c =
                   answered = answered;
                   done = ran.done keeps;
                   silent = ran.silent;
-                  no_output = ran.no_output;
+                  no_output = ran.leaves.no_output;
                   unparsed = ran.unparsed;
                   helped = ran.helped;
                 }))),
           );
       others = λ keeps q not_named.
-          (ran.done keeps).others q (subst (IsNotNamed q) (sym c.command-item.is) (not_named c.commands.command-index cmd within)) ∙ before.others keeps q not_named;
+          (ran.done keeps).names.others q (subst (IsNotNamed q) (sym c.command-item.is) (not_named c.commands.command-index cmd within)) ∙ before.others keeps q not_named;
       calls = subst (λ rs. CallsOfAll g.D.Store.leads (take (c.commands.command-index + 1) c.args.commands.now) rs c.args.store.now c.execute-done.new.store) (sym pushed)
           (subst (λ cs. CallsOfAll g.D.Store.leads cs (c.commands.answers.items ++ answer ∷ []) c.args.store.now c.execute-done.new.store) (sym more)
           (calls_more g.D.Store.leads (take c.commands.command-index c.args.commands.now) c.commands.answers.items cmd done answer report c.args.store.now c.commands.store c.execute-done.new.store before.calls answered ran.calls));
       sum = λ small. subst (λ rs. g.D.Store.failures c.execute-done.new.store ≡ min (g.D.Store.failures c.args.store.now + failures_in rs) (2 ^ 64 - 1)) (sym pushed)
-          (count_more done c.commands.answers.items answer report (g.D.Store.failures c.args.store.now) _ _ answered (before.sum small) c.execute-done.ensures.count);
+          (count_more done c.commands.answers.items answer report (g.D.Store.failures c.args.store.now) _ _ answered (before.sum small) c.execute-done.ensures.leaves.count);
       out_sum = λ small. subst (λ rs. failures c.answer_of-answer.new.out ≡ min (failures c.args.out.now + output_failures_in rs) (2 ^ 64 - 1)) (sym pushed)
           (put_more c.commands.answers.items answer (failures c.args.out.now) (failures c.commands.out) _ (before.out_sum small) put);
     }
