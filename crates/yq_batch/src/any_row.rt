@@ -2,8 +2,9 @@
 ghost use Rattle.std.specs.Prelude.{◌≡◌, ℕ, true, IfErr, IfOk, IfSome, Some};
 ghost use Rattle.yq_text.specs.Halves.{whole};
 ghost use Rattle.yq_documents.specs.Reading.{cut_of, read_at};
-ghost use Rattle.yq_semantics.specs.Operations.{operations_of};
-ghost use Rattle.yq_edit_laws.{specs.Answers.EditFails, specs.Carried.carry_all, specs.Valid.AreServed};
+ghost use Rattle.yq_semantics.specs.Operations.{operation_of, operations_of};
+ghost use Rattle.yq_edit_rules.specs.Operands.{HasOperand};
+ghost use Rattle.yq_edit_laws.{specs.Answers.EditFails, specs.Carried.carry_all, specs.Valid.{AreServed, HaveOperands}};
 ghost use Rattle.yq_batch.specs.HeadRuns.{MayGive};
 ghost use Rattle.yq_batch.specs.OpenRows as spec;
 
@@ -15,7 +16,6 @@ use crate::row_ends::{EntriesEnd, added_at_end, end_for, is_before_end};
 use crate::row_order::in_row_order;
 use crate::slots::{SlotPlace, are_apart, are_in_order, each_once, end_at, slots_at};
 use std::alloc::{AllocError, Global};
-use yq_edit_laws::operand_holds;
 use yq_edit_rules::is_filled;
 use yq_lookup::CutText;
 use yq_semantics::{ExprError, Op};
@@ -29,10 +29,10 @@ fn put_inside<'o>(
     end: &Option<EntriesEnd<'_>>,
     op: &'o Op,
 ) -> Result<Option<HeadChange<'o>>, AllocError>
+    requires { HasOperand (operation_of op.now) }
     ensures same { cut.new ≡ cut.old }
     ensures puts { IfOk result (spec.MayDo cut.old doc end.now op.now) }
 {
-    operand_holds(op);
     let Op::Replace(path, value) = op else {
         return Ok(None);
     };
@@ -72,6 +72,7 @@ fn change_inside<'o>(
     end: &Option<EntriesEnd<'_>>,
     op: &'o Op,
 ) -> Result<Option<HeadChange<'o>>, AllocError>
+    requires { HasOperand (operation_of op.now) }
     ensures same { cut.new ≡ cut.old }
     ensures puts { IfOk result (spec.MayDo cut.old doc end.now op.now) }
 {
@@ -101,6 +102,7 @@ fn puts_inside<'o>(
     end: &Option<EntriesEnd<'_>>,
     ops: &'o [Op],
 ) -> Result<Option<Vec<Option<HeadChange<'o>>>>, AllocError>
+    requires { HaveOperands (operations_of ops.now) }
     ensures { IfOk result (spec.FindsPuts cut.now doc end.now ops.now) }
 {
     let Some(numbers) = in_row_order(alloc, cut, ops)? else {
@@ -213,6 +215,7 @@ fn begun<'o>(
     cut: &CutText<'_, '_>,
     ops: &'o [Op],
 ) -> Result<Option<(Vec<Option<HeadChange<'o>>>, SlotRun)>, AllocError>
+    requires { HaveOperands (operations_of ops.now) }
     ensures { IfOk result (λ o. IfSome o (λ x.
         spec.BeginsInRows ops.now cut.now x.0.items x.1)) }
 {

@@ -10,6 +10,9 @@ use Rattle.yq_batch.{specs.OpenRuns.{MayWrite, open_text}, specs.Slots.{slots_of
 use Rattle.yq_batch.proofs.RowOpenAnswers.{change_edges, first_put, opens_change}
 use Rattle.yq_batch.proofs.any_row.carry_in_any_row.Goals as goal
 
+pub begun-requires : goal.begun-requires
+begun-requires c = c.requires.1.operands
+
 pub put_in_rows-requires-clause-start : goal.put_in_rows-requires-clause-start
 put_in_rows-requires-clause-start c =
     let t : List ℕ = c.args.cut.now in
