@@ -340,18 +340,3 @@ module _ (t : List ℕ) (n : ℕ) (stem path : List Step) (x : FlowHead) (r : Re
   pub out_of : (m : ℕ) (op : Operation) → op ≡ remove m path → m ≡ n → CanExchange op own_cut n stem before r.start r.end r.new.now r.known
   out_of m op is same =
       subst (λ (o : Operation). CanExchange o own_cut n stem before r.start r.end r.new.now r.known) (sym (is ∙ ap (λ (k : ℕ). remove k path) same)) (either gone.goes)
-
--- ---- operations together
-
-pub ended_on : (ops left : List Op) (t : List ℕ) (run old : RemovalRun) → run ≡ old → edit_after old.splices.items (carry_all (operations_of left) (buffer_text old.text)) ≡ carry_all (operations_of ops) t →
-    AreServed (operations_of left) (buffer_text old.text) → (r : Option Together) →
-    IfSome r (λ x. (string_bytes x.edited.text ≡ buffer_text run.text) × (x.edited.splices.items ≡ run.splices.items) × (x.left.now ≡ left) × (length left ≤ 1)) →
-    CarriesTogether ops t r
-ended_on ops left t run old same whole serves r h = IfSome_then r h (λ x e.
-    let text : string_bytes x.edited.text ≡ buffer_text old.text = e.0 ∙ ap (λ (z : RemovalRun). buffer_text z.text) same in
-    let splices : x.edited.splices.items ≡ old.splices.items = e.1 ∙ ap (λ (z : RemovalRun). z.splices.items) same in
-    record {
-      few = omega (arith, e.3, ap length e.2);
-      whole = (λ i. edit_after (splices i) (carry_all (operations_of (e.2 i)) (text i))) ∙ whole;
-      serves = subst (λ (l : List Op). AreServed (operations_of l) (string_bytes x.edited.text)) (sym e.2) (subst (AreServed (operations_of left)) (sym text) serves);
-    })

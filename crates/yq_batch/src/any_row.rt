@@ -1,25 +1,26 @@
 //! Values on one line that an update puts in rows of one document, in any order, and entries at the end of a mapping.
-ghost use Rattle.std.specs.Prelude.{◌≡◌, ℕ, true, IfErr, IfOk, IfSome, Some};
+ghost use Rattle.std.specs.Prelude.{◌≡◌, ℕ, true, IfOk, IfSome, Some};
 ghost use Rattle.yq_text.specs.Halves.{whole};
 ghost use Rattle.yq_documents.specs.Reading.{cut_of, read_at};
 ghost use Rattle.yq_semantics.specs.Operations.{operation_of, operations_of};
 ghost use Rattle.yq_edit_rules.specs.Operands.{HasOperand};
-ghost use Rattle.yq_edit_laws.{specs.Answers.EditFails, specs.Carried.carry_all, specs.Valid.{AreServed, HaveOperands}};
-ghost use Rattle.yq_batch.specs.HeadRuns.{MayGive};
+ghost use Rattle.yq_edit_laws.specs.Valid.{AreServed, HaveOperands};
 ghost use Rattle.yq_batch.specs.OpenRows as spec;
+ghost use Rattle.yq_batch.specs.Together.{CarriesTogether};
 
 use crate::any_order::{SlotRun, ended};
 use crate::change::HeadChange;
-use crate::in_rows::{put_each, value_written};
+use crate::in_rows::value_written;
 use crate::kept_breaks::keeps_first_break;
 use crate::row_ends::{EntriesEnd, added_at_end, end_for, is_before_end};
 use crate::row_order::in_row_order;
 use crate::slots::{SlotPlace, are_apart, are_in_order, each_once, end_at, slots_at};
+use crate::together::Together;
 use std::alloc::{AllocError, Global};
 use yq_edit_rules::is_filled;
 use yq_lookup::CutText;
-use yq_semantics::{ExprError, Op};
-use yq_text::{Edited, Halves};
+use yq_semantics::Op;
+use yq_text::Halves;
 
 /// What an operation puts in a row of document `doc`, if it puts a value on one line in the place of an inline node.
 fn put_inside<'o>(
@@ -236,13 +237,13 @@ fn begun<'o>(
 
 /// Operations carried out that each put a value on one line in a row of one mapping, in any order, or an entry at its
 /// end; nothing, where one of them does something else.
-pub(crate) fn carry_in_any_row(
+pub(crate) fn carry_in_any_row<'o>(
     alloc: Global,
     cut: &CutText<'_, '_>,
-    ops: &[Op],
-) -> Result<Option<Edited>, AllocError>
+    ops: &'o [Op],
+) -> Result<Option<Together<'o>>, AllocError>
     requires { AreServed (operations_of ops.now) cut.now }
-    ensures { IfOk result (MayGive ops.now cut.now) }
+    ensures { IfOk result (CarriesTogether ops.now cut.now) }
 {
     let Some((changes, begin)) = begun(alloc, cut, ops)? else {
         return Ok(None);
@@ -264,23 +265,6 @@ pub(crate) fn carry_in_any_row(
         rest = after;
         left = others;
     }
-    Ok(Some(ended(alloc, text, run)?))
-}
-
-/// Carries out operations together that change one row each, one after the other, or that put values on one line in rows
-/// of one mapping in any order, and new entries at its end; nothing, where one of them does more.
-pub fn carry_in_rows<'d>(
-    alloc: Global,
-    cut: &CutText<'d, '_>,
-    ops: &'d [Op],
-) -> Result<Option<Edited>, ExprError>
-    requires { AreServed (operations_of ops.now) cut.now }
-    ensures ok { IfOk result (MayGive ops.now cut.now) }
-    ensures err { IfErr result (λ e. EditFails e (carry_all (operations_of ops.now) cut.now)) }
-{
-    let found = put_each(alloc, cut, ops)?;
-    if let Some(edited) = found {
-        return Ok(Some(edited));
-    }
-    Ok(carry_in_any_row(alloc, cut, ops)?)
+    let edited = ended(alloc, text, run)?;
+    Ok(Some(Together { edited, left: rest }))
 }

@@ -9,11 +9,13 @@ ghost use Rattle.yq_semantics.specs.Operations.{head_comment, line_comment, oper
 ghost use Rattle.yq_edit_rules.specs.Operands.{HasOperand};
 ghost use Rattle.yq_edit_laws.{specs.Answers.EditFails, specs.Carried.{carry_all, carried}, specs.Theorems.IsFitting};
 ghost use Rattle.yq_edit_laws.specs.Valid.{AreServed};
-ghost use Rattle.yq_batch.{specs.HeadRuns.MayGive, specs.Runs.now_text};
+ghost use Rattle.yq_batch.{specs.Runs.now_text, specs.Together.CarriesTogether};
 ghost use Rattle.yq_batch.specs.RowRuns as spec;
 
+use crate::any_row::carry_in_any_row;
 use crate::kept_breaks::{is_same_break, near_break};
 use crate::run::PutRun;
+use crate::together::Together;
 use std::alloc::{AllocError, Global};
 use yq_block_edits::{comment_written, head_comment_written, is_kept_in_row};
 use yq_core::{Place, Value};
@@ -22,7 +24,7 @@ use yq_edit_rules::{is_filled, value_text};
 use yq_lookup::CutText;
 use yq_places::{HeldRow, is_text, line_end};
 use yq_semantics::{ExprError, Op};
-use yq_text::{Edited, Halves};
+use yq_text::Halves;
 
 /// A text that an operation puts in a row, in the place of what is between two places.
 #[derive(Drop)]
@@ -262,31 +264,17 @@ fn put_one<'d>(
     Ok(Some(Some((doc, row))))
 }
 
-/// Whether an operation may be one that changes one row.
-fn may_change_row(op: &Op) -> bool {
-    match op {
-        Op::Replace(_, _) | Op::LineComment(_, _) | Op::HeadComment(_, _) => true,
-        Op::Append(_, _, _) | Op::Remove(_) => false,
-    }
-}
-
 /// Carries out operations together that change one row each, one after the other; nothing, where one of
 /// them does more, or is in front of one before it.
-pub(crate) fn put_each<'d>(
+fn put_each<'d, 'o: 'd>(
     alloc: Global,
     cut: &CutText<'d, '_>,
-    ops: &'d [Op],
-) -> Result<Option<Edited>, ExprError>
+    ops: &'o [Op],
+) -> Result<Option<Together<'o>>, ExprError>
     requires { AreServed (operations_of ops.now) cut.now }
-    ensures ok { IfOk result (MayGive ops.now cut.now) }
+    ensures ok { IfOk result (CarriesTogether ops.now cut.now) }
     ensures err { IfErr result (λ e. EditFails e (carry_all (operations_of ops.now) cut.now)) }
 {
-    let [first, _, ..] = ops else {
-        return Ok(None);
-    };
-    if !may_change_row(first) {
-        return Ok(None);
-    }
     let text = cut.text();
     let mut way = cut.again();
     let mut run = PutRun::with_room(alloc, text.len(), ops.len())?;
@@ -299,5 +287,24 @@ pub(crate) fn put_each<'d>(
         last = next;
         rest = after;
     }
-    Ok(Some(run.end(text)?))
+    let edited = run.end(text)?;
+    Ok(Some(Together { edited, left: rest }))
+}
+
+/// Carries out operations together that change one row each, one after the other, or that put values on one line in rows
+/// of one mapping in any order; nothing, where one of them does more.
+pub(crate) fn carry_in_rows<'d, 'o: 'd>(
+    alloc: Global,
+    cut: &CutText<'d, '_>,
+    ops: &'o [Op],
+) -> Result<Option<Together<'o>>, ExprError>
+    requires { AreServed (operations_of ops.now) cut.now }
+    ensures ok { IfOk result (CarriesTogether ops.now cut.now) }
+    ensures err { IfErr result (λ e. EditFails e (carry_all (operations_of ops.now) cut.now)) }
+{
+    let found = put_each(alloc, cut, ops)?;
+    if let Some(together) = found {
+        return Ok(Some(together));
+    }
+    Ok(carry_in_any_row(alloc, cut, ops)?)
 }

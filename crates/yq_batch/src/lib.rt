@@ -22,7 +22,4 @@ mod together;
 mod unordered;
 mod written_keys;
 
-pub use any_row::carry_in_rows;
-pub use heads::carry_in_heads;
-pub use row_removals::carry_beside;
 pub use together::{Together, carry_together};

@@ -3,7 +3,7 @@
 ghost use Rattle.std.specs.Prelude.{IfOk, IfSome};
 ghost use Rattle.yq_semantics.specs.Operations.{operations_of};
 ghost use Rattle.yq_edit_laws.specs.Valid.{AreServed, HaveOperands};
-ghost use Rattle.yq_batch.{specs.RemovalRuns.CarriesTogether, specs.Runs.IsInText};
+ghost use Rattle.yq_batch.{specs.Runs.IsInText, specs.Together.CarriesTogether};
 ghost use Rattle.yq_batch.specs.OpenRuns as spec;
 
 use crate::any_order::{SlotRun, ended};

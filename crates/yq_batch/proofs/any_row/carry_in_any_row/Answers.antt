@@ -64,7 +64,6 @@ pub returns : goal.returns
 returns c =
     let t : List ℕ = c.args.cut.now in
     let all : whole c.text-text.result ≡ cut_text (cut_of t) = whole_text t (whole c.text-text.result) c.text-text.ensures.read c.text-text.ensures.text in
-    let text : string_bytes c.in_ok-ended.field-0.text ≡ open_text (cut_of t) c.operations.run = c.in_ok-ended.ensures.text ∙ ap (λ (l : List ℕ). text_from l 0 (slots_of c.operations.run.slots)) all in
-    sym c.operations.invariant.whole
-    ∙ (none_come c.operations.rest.now (open_text (cut_of t) c.operations.run) c.operations.run.splices.items (omega (arith, c.in_default-rest.len_below))
-    ∙ λ i. gives (sym text i) (sym c.in_ok-ended.ensures.splices i))
+    let text : string_bytes c.in_ok-edited.edited.text ≡ open_text (cut_of t) c.operations.run = c.in_ok-edited.ensures.text ∙ ap (λ (l : List ℕ). text_from l 0 (slots_of c.operations.run.slots)) all in
+    carries_some c.operations.rest.now (open_text (cut_of t) c.operations.run) c.operations.run.splices.items (carry_all (operations_of c.args.ops.now) t) _ refl text c.in_ok-edited.ensures.splices
+    c.operations.invariant.whole c.operations.invariant.serves

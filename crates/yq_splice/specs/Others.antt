@@ -1,8 +1,8 @@
--- Operations carried out together on a text that was read once (own).
+-- Operations that are left where others were carried out together on a text that was read once (own).
 use Rattle.std.specs.Prelude.{◌≡◌, ◌<◌, length, string_bytes}
 use Rattle.yq_semantics.specs.Operations.{operations_of}
 use Rattle.yq_edit_laws.specs.Valid.{AreServed}
-use Rattle.yq_batch.{specs.RowRemovals.all_of, specs.declared.together.Together.Together}
+use Rattle.yq_batch.{specs.Together.all_of, specs.declared.together.Together.Together}
 
 -- of operations of which the first ones were carried out, the others may follow on the text (own)
 abbrev pub LeftAreServed : Together → Type 0

@@ -1,6 +1,6 @@
 use Rattle.yq_documents.specs.Reading.{cut_of}
 use Rattle.yq_splice.proofs.SessionLaws.{has_cut, reading_cut}
-use Rattle.yq_splice.proofs.by_lines.beside_again.Goals as goal
+use Rattle.yq_splice.proofs.others.together_again.Goals as goal
 
 pub new-requires : goal.new-requires
 new-requires c =

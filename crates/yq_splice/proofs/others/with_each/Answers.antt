@@ -3,7 +3,7 @@ use Rattle.yq_documents.specs.Reading.{cut_of}
 use Rattle.yq_row_table.{specs.Kept.IsPlaced, specs.View.rows_view}
 use Rattle.yq_edit_laws.specs.Theorems.{HasReading}
 use Rattle.yq_splice.proofs.SessionLaws.{reading_cut}
-use Rattle.yq_splice.proofs.by_lines.with_each.Goals as goal
+use Rattle.yq_splice.proofs.others.with_each.Goals as goal
 
 pub cut_again-requires : goal.cut_again-requires
 cut_again-requires c = subst HasReading (sym c.as_str.ensures.value) (c.requires.0, c.requires.1.read)

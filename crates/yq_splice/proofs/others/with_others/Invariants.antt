@@ -1,7 +1,7 @@
 use Rattle.std.proofs.Common.{◌≡◌, length}
-use Rattle.yq_batch.specs.RowRemovals.{all_of}
-use Rattle.yq_splice.specs.ByLines.{LeftAreServed}
-use Rattle.yq_splice.proofs.by_lines.with_others.Given as goal
+use Rattle.yq_batch.specs.Together.{all_of}
+use Rattle.yq_splice.specs.Others.{LeftAreServed}
+use Rattle.yq_splice.proofs.others.with_others.Given as goal
 
 abbrev pub invariant-runs : goal.invariant-runs
 invariant-runs l = record {

@@ -1,5 +1,5 @@
 use Rattle.std.proofs.Common.{◌∙◌}
-use Rattle.yq_splice.proofs.by_lines.with_others.Goals as goal
+use Rattle.yq_splice.proofs.others.with_others.Goals as goal
 
 pub runs-preserved : goal.runs-preserved
 runs-preserved c = record {

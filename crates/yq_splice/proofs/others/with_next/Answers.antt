@@ -3,7 +3,7 @@ use Rattle.std.proofs.Common.{string_bytes}
 use Rattle.yq_semantics.specs.Operations.{operation_of, operations_of}
 use Rattle.yq_edit_laws.{specs.Carried.{carried, carry_all}, specs.Edit.edit_after, specs.Theorems.HasReading, specs.Valid.AreServed}
 use Rattle.yq_edit_laws.{proofs.OperationsLaws.{others_come, others_served, first_fits, first_operand}, proofs.ApplyLaws.applied_by}
-use Rattle.yq_splice.proofs.by_lines.with_next.Goals as goal
+use Rattle.yq_splice.proofs.others.with_next.Goals as goal
 
 -- those after the first one are fewer
 fewer_later : {A : Type 0} (os : List A) → 1 ≤ length os → length (take (length os - 1) (drop 1 os)) < length os

@@ -3,7 +3,7 @@ use Rattle.std.proofs.lemmas.Result.{err_from_is_err_and}
 use Rattle.yq_semantics.specs.Operations.{operation_of, operations_of}
 use Rattle.yq_edit_laws.{specs.Answers.EditFails, specs.Carried.{carried, carry_all}, specs.Edit.{edit_after, gives}}
 use Rattle.yq_edit_laws.{specs.Theorems.HasReading, proofs.OperationsLaws.{last_comes, none_come}, proofs.OrderLaws.fails_behind}
-use Rattle.yq_splice.proofs.carrying.with_last.Goals as goal
+use Rattle.yq_splice.proofs.others.with_last.Goals as goal
 
 -- one operation is the last one
 one : {A : Type 0} (os : List A) → length os ≤ 1 → length (take (length os - 1) (drop 1 os)) ≡ 0
