@@ -10,8 +10,8 @@ use Rattle.yq_edit_laws.{specs.Carried.carry_all, specs.Edit.{Edit, edit_after},
 use Rattle.yq_batch.{specs.RowRuns.IsRowsRun, specs.Runs.{IsPutRun, Runs, cut_with, now_text}, specs.Together.CarriesSome}
 use Rattle.yq_batch.{specs.declared.head.FoundHead.FoundHead, specs.declared.head.HeadInText.HeadInText, specs.declared.run.PutRun.PutRun}
 use Rattle.yq_batch.specs.declared.together.Together.{Together}
-use Rattle.yq_core.specs.declared.path.Step as declared
 use denote.Bor.{Bor}
+use Rattle.yq_core.specs.declared.path.Step as declared
 
 -- what operations give on the text of a run, after its splices (own)
 abbrev pub all_on : List Op → Cut → PutRun → Edit

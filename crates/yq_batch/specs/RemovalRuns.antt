@@ -9,14 +9,11 @@ use Rattle.yq_row_table.specs.Rows.{Cut, cut_text}
 use Rattle.yq_documents.specs.Reading.{read_at}
 use Rattle.yq_places.{specs.FlowNodes.flow_collection, specs.FlowViews.{LeadsToHead, behind_anchor, collection_view}}
 use Rattle.yq_places.{specs.Standings.last_step, specs.declared.places.flow_node.FlowHead.FlowHead}
-use Rattle.yq_semantics.specs.Operations.{Operation}
-use Rattle.yq_semantics.{specs.declared.refusal.Refusal.TheVariants.TooLarge, specs.Judgement.ExprError}
-use Rattle.yq_edit_laws.{specs.Carried.carried, specs.Edit.gives, specs.Theorems.IsApplied}
-use Rattle.yq_edit_laws.specs.NearParts.{LeadsToPart, head_with}
+use Rattle.yq_semantics.{specs.Operations.Operation, specs.declared.refusal.Refusal.TheVariants.TooLarge, specs.Judgement.ExprError}
+use Rattle.yq_edit_laws.{specs.Carried.carried, specs.Edit.gives, specs.Theorems.IsApplied, specs.NearParts.{LeadsToPart, head_with}}
 use Rattle.yq_batch.specs.LeftItems.{Ending, closing, count_parts, others, left_items, upto_text}
 use Rattle.yq_batch.{specs.declared.removals.RemovalRun.RemovalRun, specs.LeftPlaces.IsLeftPlace, specs.declared.left.LeftPlace.LeftPlace}
-use Rattle.yq_batch.{specs.declared.gone.LeftOf.LeftOf, specs.declared.gone.Removed.Removed}
-use Rattle.yq_batch.specs.declared.head.HeadInText.{HeadInText}
+use Rattle.yq_batch.{specs.declared.gone.LeftOf.LeftOf, specs.declared.gone.Removed.Removed, specs.declared.head.HeadInText.HeadInText}
 use denote.Bor.{Bor}
 use Rattle.yq_core.specs.declared.path.Step as declared
 use Rattle.yq_failure.specs.declared.failure.Failure.TheVariants as failure

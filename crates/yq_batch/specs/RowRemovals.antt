@@ -7,10 +7,8 @@ use Rattle.yq_row_table.{specs.Rows.{Row, Cut, cut_text}, specs.Splices.first_ga
 use Rattle.yq_documents.{specs.Located.steps_of, specs.Reading.read_at, specs.declared.path.Path.Path}
 use Rattle.yq_places.specs.PlacedRows.{PlacedPart, placed_document}
 use Rattle.yq_places.{specs.RemovalPlaces.{OwnRows, own_rows, rows_out, Seam, has_others_at}, specs.Standings.last_step}
-use Rattle.yq_semantics.{specs.declared.op.Op.Op, specs.Operations.{Operation, operation_of, remove}}
-use Rattle.yq_semantics.specs.Judgement.{ExprError}
-use Rattle.yq_edit_laws.{specs.Answers.EditFails, specs.Carried.carried, specs.Edit.gives}
-use Rattle.yq_edit_laws.specs.Theorems.{IsApplied}
+use Rattle.yq_semantics.{specs.declared.op.Op.Op, specs.Operations.{Operation, operation_of, remove}, specs.Judgement.ExprError}
+use Rattle.yq_edit_laws.{specs.Answers.EditFails, specs.Carried.carried, specs.Edit.gives, specs.Theorems.IsApplied}
 use Rattle.yq_batch.specs.declared.removals.RemovalRun.{RemovalRun}
 
 -- ---- gaps that stay after a block scalar

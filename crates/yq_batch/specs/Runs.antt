@@ -15,8 +15,7 @@ use Rattle.yq_edit_rules.{specs.FlowParts.takes_key, specs.Operands.HasOperand}
 use Rattle.yq_edit_laws.specs.PartPuts.{EndsAfter, EndsAsIn, IsEditPlace, IsPartOf, IsPlaceOf, IsWrittenPart, more_edit}
 use Rattle.yq_edit_laws.{specs.Carried.carried, specs.Edit.gives, specs.Theorems.IsApplied}
 use Rattle.yq_batch.{specs.HeadRows.HeadRowStays, specs.declared.change.HeadChange.HeadChange, specs.declared.head.HeadInText.HeadInText}
-use Rattle.yq_batch.specs.declared.head.FoundHead.{FoundHead}
-use Rattle.yq_batch.{specs.declared.run.PutRun.PutRun, specs.declared.slots.SlotPlace.SlotPlace}
+use Rattle.yq_batch.{specs.declared.head.FoundHead.FoundHead, specs.declared.run.PutRun.PutRun, specs.declared.slots.SlotPlace.SlotPlace}
 use Rattle.yq_failure.specs.declared.failure.Failure.TheVariants as failure
 
 -- a text whose first bytes were replaced by others (own)

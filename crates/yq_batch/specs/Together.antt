@@ -2,8 +2,7 @@
 use Rattle.std.specs.Prelude.{◌≡◌, ⊤, ℕ, List, Option, IfSome, string_bytes}
 use Rattle.yq_semantics.{specs.Operations.operations_of, specs.declared.op.Op.Op}
 use Rattle.yq_edit_laws.{specs.Carried.carry_all, specs.Edit.{Edit, edit_after}, specs.Valid.AreServed}
-use Rattle.yq_batch.{specs.Runs.IsFoundHead, specs.declared.together.Together.Together}
-use Rattle.yq_batch.specs.declared.together.HowCarried.{HowCarried}
+use Rattle.yq_batch.{specs.Runs.IsFoundHead, specs.declared.together.Together.Together, specs.declared.together.HowCarried.HowCarried}
 use Rattle.yq_batch.specs.declared.together.HowCarried.TheVariants.{InHeads, OutOfHead}
 
 -- what operations give of which the first ones were carried out together, with those that are left (own)

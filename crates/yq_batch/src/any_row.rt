@@ -1,26 +1,23 @@
 //! Values on one line that an update puts in rows of one document, in any order, and entries at the end of a mapping.
-ghost use Rattle.std.specs.Prelude.{◌≡◌, ℕ, true, IfOk, IfSome, Some};
-ghost use Rattle.yq_text.specs.Halves.{whole};
-ghost use Rattle.yq_documents.specs.Reading.{cut_of, read_at};
+ghost use Rattle.std.specs.Prelude.{◌≡◌, IfOk, IfSome, Some};
 ghost use Rattle.yq_semantics.specs.Operations.{operation_of, operations_of};
 ghost use Rattle.yq_edit_rules.specs.Operands.{HasOperand};
 ghost use Rattle.yq_edit_laws.specs.Valid.{AreServed, HaveOperands};
-ghost use Rattle.yq_batch.specs.OpenRows as spec;
 ghost use Rattle.yq_batch.specs.Together.{CarriesTogether};
+ghost use Rattle.yq_batch.specs.OpenRows as spec;
 
 use crate::any_order::{SlotRun, ended};
 use crate::change::HeadChange;
-use crate::in_rows::value_written;
-use crate::kept_breaks::keeps_first_break;
+use crate::open_rows::run_at;
 use crate::row_ends::{EntriesEnd, added_at_end, end_for, is_before_end};
 use crate::row_order::in_row_order;
-use crate::slots::{SlotPlace, are_apart, are_in_order, each_once, end_at, slots_at};
+use crate::row_put::value_written;
+use crate::slots::SlotPlace;
 use crate::together::Together;
 use std::alloc::{AllocError, Global};
 use yq_edit_rules::is_filled;
 use yq_lookup::CutText;
 use yq_semantics::Op;
-use yq_text::Halves;
 
 /// What an operation puts in a row of document `doc`, if it puts a value on one line in the place of an inline node.
 fn put_inside<'o>(
@@ -126,74 +123,6 @@ fn puts_inside<'o>(
         changes[*number] = found;
     }
     Ok(Some(changes))
-}
-
-/// The places of changes in order, each once, if each is known.
-fn places_of(
-    alloc: Global,
-    changes: &[Option<HeadChange<'_>>],
-) -> Result<Option<Vec<SlotPlace>>, AllocError> {
-    let mut places = Vec::with_capacity(alloc, changes.len())?;
-    'each: for change in changes {
-        let Some(change) = change else {
-            return Ok(None);
-        };
-        places.push((change.place.start, change.place.end, change.place.more))?;
-    }
-    places.sort_unstable();
-    Ok(Some(each_once(alloc, &places)?))
-}
-
-/// Whether the last one of places is an offset, and the text's first break is near, and stays what it is.
-fn ends_near(text: Halves<'_>, places: &[SlotPlace], at: usize) -> bool
-    ensures { result ≡ true → spec.EndsNear (whole text.entry) at places.now }
-{
-    if !end_at(places, at) {
-        return false;
-    }
-    keeps_first_break(text, places)
-}
-
-/// Whether something is between places, of which the last one is the end of a mapping, if that is known.
-fn are_before_end(text: Halves<'_>, places: &[SlotPlace], end: &Option<EntriesEnd<'_>>) -> bool
-    ensures { result ≡ true → spec.AreBeforeEnd (whole text.entry) places.now end.now }
-{
-    if !are_apart(places) {
-        return false;
-    }
-    match end {
-        Some(end) => ends_near(text, places, end.at),
-        None => true,
-    }
-}
-
-/// A run in which nothing was put at the places of changes, if they are in order in the text.
-fn run_at(
-    alloc: Global,
-    text: Halves<'_>,
-    changes: &[Option<HeadChange<'_>>],
-    end: &Option<EntriesEnd<'_>>,
-) -> Result<Option<SlotRun>, AllocError>
-    requires { read_at (whole text) ≡ Some (cut_of (whole text)) }
-    ensures { IfOk result (spec.MayBeginInRows (whole text.entry) end.now) }
-{
-    let Some(places) = places_of(alloc, changes)? else {
-        return Ok(None);
-    };
-    if !are_in_order(&places, text.len()) {
-        return Ok(None);
-    }
-    if !are_before_end(text, &places, end) {
-        return Ok(None);
-    }
-    let Some(slots) = slots_at(alloc, &places)? else {
-        return Ok(None);
-    };
-    Ok(Some(SlotRun {
-        slots,
-        size: text.len(),
-        splices: Vec::new(alloc),
-    }))
 }
 
 /// The document in which the first of operations puts something, or that of a mapping's end.

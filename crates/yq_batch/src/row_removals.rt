@@ -7,8 +7,8 @@ ghost use Rattle.yq_documents.{specs.Located.steps_of, specs.Reading.cut_of};
 ghost use Rattle.yq_places.specs.RemovalReading.{seam_view};
 ghost use Rattle.yq_semantics.specs.Operations.{operations_of};
 ghost use Rattle.yq_edit_laws.{specs.Answers.EditFails, specs.Carried.carry_all, specs.Theorems.IsFitting, specs.Valid.AreServed};
-ghost use Rattle.yq_batch.specs.RowRemovals as spec;
 ghost use Rattle.yq_batch.specs.Together.{CarriesFirst};
+ghost use Rattle.yq_batch.specs.RowRemovals as spec;
 
 use crate::change::are_same_steps;
 use crate::removals::{RemovalRun, ended, exchange, untouched};

@@ -2,7 +2,7 @@ use Rattle.std.{proofs.Common.{List, ℕ, length, map, refl, sym, ap, ◌∙◌,
 use Rattle.yq_core.{specs.Paths.Step, specs.Entries.tree_step}
 use Rattle.yq_documents.specs.Reading.{cut_of}
 use Rattle.yq_places.specs.FlowViews.{IsHeadFor, ReportsHead}
-use Rattle.yq_batch.proofs.{HeadRunLaws.some_is, RunAnswers.stem_is}
+use Rattle.yq_batch.{proofs.HeadRunLaws.some_is, proofs.RunAnswers.stem_is}
 use Rattle.yq_batch.proofs.head.head_for.Goals as goal
 
 pub overflow_sub-steps : goal.overflow_sub-steps

@@ -4,7 +4,8 @@ use Rattle.yq_text.specs.Halves.{whole}
 use Rattle.yq_row_table.specs.Rows.{cut_text}
 use Rattle.yq_documents.specs.Reading.{cut_of}
 use Rattle.yq_semantics.specs.Operations.{operations_of}
-use Rattle.yq_edit_laws.{specs.Answers.EditFails, specs.Carried.carry_all, specs.Edit.Edit, specs.Valid.AreServed, proofs.FlowAnswers.whole_text}
+use Rattle.yq_edit_laws.{specs.Answers.EditFails, specs.Carried.carry_all, specs.Edit.Edit, specs.Valid.AreServed}
+use Rattle.yq_edit_laws.proofs.FlowAnswers.{whole_text}
 use Rattle.yq_batch.{specs.HeadRuns.{CarriesInHead, all_on}, specs.Runs.{now_text, text_with_run}, specs.Together.CarriesSome}
 use Rattle.yq_batch.{proofs.CarriedFirst.{all_begin, carries_some}, proofs.HeadRunLaws.some_is, proofs.RunAnswers.{begins, begins_with}}
 use Rattle.yq_batch.proofs.heads.put_in_heads.Goals as goal

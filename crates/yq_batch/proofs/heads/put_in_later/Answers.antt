@@ -4,7 +4,8 @@ use Rattle.yq_core.specs.Entries.{tree_step}
 use Rattle.yq_row_table.specs.Rows.{cut_text}
 use Rattle.yq_documents.specs.Reading.{cut_of}
 use Rattle.yq_edit_laws.proofs.FlowAnswers.{whole_text}
-use Rattle.yq_batch.{specs.HeadRuns.{IsRowAt, all_on}, specs.Runs.{now_text, text_with_run}, proofs.CarriedFirst.carries_some, proofs.HeadRunLaws.{rows_run, some_is}}
+use Rattle.yq_batch.{specs.HeadRuns.{IsRowAt, all_on}, specs.Runs.{now_text, text_with_run}, proofs.CarriedFirst.carries_some}
+use Rattle.yq_batch.proofs.HeadRunLaws.{rows_run, some_is}
 use Rattle.yq_batch.proofs.heads.put_in_later.Goals as goal
 
 pub heads-init : goal.heads-init

@@ -2,8 +2,7 @@ use Rattle.std.{proofs.Common.{◌≡◌, ◌∙◌, ℕ, ◌<◌, ◌^◌, List
 use Rattle.std.{specs.String.string_bytes, specs.Str.IsCharBoundary, proofs.lemmas.Result.err_from_is_err_and}
 use Rattle.yq_documents.specs.Reading.{cut_of}
 use Rattle.yq_edit_laws.{proofs.CutLaws.text_small, specs.Carried.{carry_all, carried}, specs.Edit.{edit_after, gives}}
-use Rattle.yq_edit_laws.specs.Valid.{AreServed}
-use Rattle.yq_edit_laws.proofs.OperationsLaws.{others_come, others_served, first_fails, first_fits, first_operand}
+use Rattle.yq_edit_laws.{specs.Valid.AreServed, proofs.OperationsLaws.{others_come, others_served, first_fails, first_fits, first_operand}}
 use Rattle.yq_edit_laws.{proofs.OrderLaws.behind_none, proofs.FlowAnswers.whole_text, specs.Answers.EditFails, specs.Theorems.IsFitting}
 use Rattle.yq_semantics.specs.Operations.{operation_of, operations_of}
 use Rattle.yq_batch.{specs.RowRuns.{RowsGoOn, IsRowsRun}, specs.Runs.{now_text, text_with_run}, proofs.RowRunAnswers.rows_begin}

@@ -1,10 +1,10 @@
 use Rattle.std.{proofs.Common.{◌≡◌, ◌∙◌, ℕ, List, Option, refl, sym, ap, subst, string_bytes}, specs.Prelude.IfSome}
 use Rattle.yq_text.specs.Halves.{whole}
 use Rattle.yq_semantics.specs.Operations.{operation_of, operations_of}
-use Rattle.yq_edit_laws.specs.Carried.{carry_all}
-use Rattle.yq_edit_laws.proofs.OperationsLaws.{first_fits, first_operand, others_come, others_served}
+use Rattle.yq_edit_laws.{specs.Carried.carry_all, proofs.OperationsLaws.{first_fits, first_operand, others_come, others_served}}
 use Rattle.yq_batch.{specs.OpenRuns.{MayWrite, open_text}, specs.Runs.{ChangesAt, cut_with}, specs.Slots.{slots_of, text_from}}
-use Rattle.yq_batch.{specs.declared.change.HeadChange.HeadChange, proofs.CarriedFirst.carries_some, proofs.RunAnswers.lies_in, proofs.UnorderedAnswers.{open_starts, opens}}
+use Rattle.yq_batch.{specs.declared.change.HeadChange.HeadChange, proofs.CarriedFirst.carries_some, proofs.RunAnswers.lies_in}
+use Rattle.yq_batch.proofs.UnorderedAnswers.{open_starts, opens}
 use Rattle.yq_batch.proofs.unordered.put_in_any_order.Goals as goal
 
 pub begun-requires-clause-operands : goal.begun-requires-clause-operands

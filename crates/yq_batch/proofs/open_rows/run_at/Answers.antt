@@ -2,7 +2,7 @@ use Rattle.std.{proofs.Common.{◌≡◌, ◌∙◌, List, Option, map, sym, ap,
 use Rattle.yq_text.specs.Halves.{whole}
 use Rattle.yq_batch.{specs.OpenRows.AreBeforeEnd, specs.Slots.{AreInOrder, HasCounts, empty_slot, slots_of}}
 use Rattle.yq_batch.{proofs.RowOpenAnswers.open_rows_begin, specs.declared.slots.SlotPlace.SlotPlace, specs.declared.slots.Slots.Slots}
-use Rattle.yq_batch.proofs.any_row.run_at.Goals as goal
+use Rattle.yq_batch.proofs.open_rows.run_at.Goals as goal
 
 pub returns : goal.returns
 returns c m e is =

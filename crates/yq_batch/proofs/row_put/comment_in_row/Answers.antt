@@ -1,7 +1,7 @@
 use Rattle.std.proofs.Common.{Some, refl, ap, arith}
 use Rattle.yq_documents.specs.Located.{steps_of}
 use Rattle.yq_batch.proofs.RowCommentLaws.{comment_fits, comment_puts_there}
-use Rattle.yq_batch.proofs.in_rows.comment_in_row.Goals as goal
+use Rattle.yq_batch.proofs.row_put.comment_in_row.Goals as goal
 
 pub overflow_add-at : goal.overflow_add-at
 overflow_add-at c =

@@ -2,7 +2,7 @@ use Rattle.std.proofs.Common.{refl, sym, ◌∙◌, arith}
 use Rattle.yq_core.specs.Values.{value_node}
 use Rattle.yq_documents.specs.Located.{steps_of}
 use Rattle.yq_batch.proofs.RowPutLaws.{value_fits, value_puts}
-use Rattle.yq_batch.proofs.in_rows.value_in_row.Goals as goal
+use Rattle.yq_batch.proofs.row_put.value_in_row.Goals as goal
 
 pub overflow_add-result : goal.overflow_add-result
 overflow_add-result c =
