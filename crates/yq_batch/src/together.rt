@@ -82,9 +82,9 @@ fn how_in_rows<'o, 't>(ops: &[Op]) -> Option<HowCarried<'o, 't>>
 }
 
 /// How operations are carried out together, if they may be: by what the first one changes, and which others there are.
-fn how_carried<'d, 'o: 'd, 't>(
+fn how_carried<'o, 't>(
     alloc: Global,
-    cut: &CutText<'d, 't>,
+    cut: &CutText<'_, 't>,
     ops: &'o [Op],
 ) -> Result<Option<HowCarried<'o, 't>>, AllocError>
     ensures { IfOk result (λ o. IfSome o (spec.IsHow cut.now)) }
@@ -146,10 +146,7 @@ pub fn carry_together<'d, 'o: 'd>(
     match how {
         HowCarried::InHeads(head) => put_in_heads(alloc, cut, head, ops),
         HowCarried::OutOfHead(head) => remove_in_head(alloc, cut, head, ops),
-        HowCarried::OutOfRows(doc, above) => {
-            let together = remove_rows(alloc, cut, doc, above, ops)?;
-            Ok(Some(together))
-        }
+        HowCarried::OutOfRows(doc, above) => Ok(Some(remove_rows(alloc, cut, doc, above, ops)?)),
         HowCarried::InRows => carry_in_rows(alloc, cut, ops),
         HowCarried::InMapping => Ok(carry_in_any_row(alloc, cut, ops)?),
     }
