@@ -23,7 +23,7 @@ fn places_of(
         let Some(change) = change else {
             return Ok(None);
         };
-        places.push((change.place.start, change.place.end, change.place.more))?;
+        places.push(change.place)?;
     }
     places.sort_unstable();
     Ok(Some(each_once(alloc, &places)?))

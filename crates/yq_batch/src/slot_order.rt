@@ -7,17 +7,13 @@ use crate::slots::SlotPlace;
 use std::alloc::{AllocError, Global};
 
 /// Places, each once, if equal ones are next to each other.
-pub(crate) fn each_once(
-    alloc: Global,
-    places: &[(usize, usize, bool)],
-) -> Result<Vec<SlotPlace>, AllocError> {
+pub(crate) fn each_once(alloc: Global, places: &[SlotPlace]) -> Result<Vec<SlotPlace>, AllocError> {
     let mut once = Vec::with_capacity(alloc, places.len())?;
     let mut last = None;
     let mut rest = places;
     'places: while let [place, after @ ..] = rest {
         if last != Some(*place) {
-            let (start, end, more) = *place;
-            once.push(SlotPlace { start, end, more })?;
+            once.push(*place)?;
         }
         last = Some(*place);
         rest = after;

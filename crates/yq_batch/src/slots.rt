@@ -5,7 +5,7 @@ ghost use Rattle.yq_batch.specs.Slots as spec;
 use std::alloc::{AllocError, Global};
 
 /// Where a value is put, or an item or entry more.
-#[derive(Clone, Copy)]
+#[derive(Clone, Copy, PartialEq, Eq, PartialOrd, Ord)]
 pub(crate) struct SlotPlace {
     pub(crate) start: usize,
     pub(crate) end: usize,

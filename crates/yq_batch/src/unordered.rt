@@ -33,8 +33,7 @@ fn places_of<'s>(
         let Some(change) = found else {
             return Ok(None);
         };
-        let place = change.place;
-        places.push((place.start, place.end, place.more))?;
+        places.push(change.place)?;
         rest = after;
     }
     places.sort_unstable();
