@@ -1,11 +1,11 @@
 -- Operations of which the first ones were carried out together.
-use Rattle.std.proofs.Common.{◌≡◌, ◌∙◌, ℕ, List, [], Some, sym, ap, subst, string_bytes}
+use Rattle.std.proofs.Common.{◌≡◌, ◌∙◌, ℕ, List, [], Some, sym, subst, string_bytes}
 use Rattle.yq_text.specs.Splice.{Splice}
 use Rattle.yq_documents.specs.Reading.{cut_of, read_at}
 use Rattle.yq_semantics.{specs.Operations.operations_of, specs.declared.op.Op.Op}
 use Rattle.yq_edit_laws.{specs.Carried.carry_all, specs.Edit.{Edit, edit_after}, specs.Valid.AreServed, proofs.OrderLaws.behind_none}
-use Rattle.yq_batch.{specs.HeadRuns.all_on, specs.Runs.now_text, specs.Together.CarriesSome, proofs.RunAnswers.begins_with}
-use Rattle.yq_batch.{specs.declared.run.PutRun.PutRun, specs.declared.together.Together.Together}
+use Rattle.yq_batch.{specs.HeadRuns.all_on, specs.Together.CarriesSome, proofs.RunAnswers.begins_with, specs.declared.run.PutRun.PutRun}
+use Rattle.yq_batch.specs.declared.together.Together.{Together}
 
 -- those that are left give what all do, on the text that was made, after its splices
 pub carries_some : (left : List Op) (u : List ℕ) (cs : List Splice) (all : Edit) (x : Together) → x.left.now ≡ left → string_bytes x.edited.text ≡ u →

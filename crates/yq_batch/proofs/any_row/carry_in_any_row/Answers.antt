@@ -1,13 +1,13 @@
-use Rattle.std.{proofs.Common.{◌≡◌, ◌∙◌, ℕ, List, Some, sym, ap, subst, string_bytes, arith}, specs.Str.IsCharBoundary}
+use Rattle.std.{proofs.Common.{◌≡◌, ◌∙◌, ℕ, List, Some, refl, sym, ap, subst, string_bytes}, specs.Str.IsCharBoundary}
 use Rattle.std.proofs.lemmas.Str.{IsCharBoundary-start}
 use Rattle.yq_text.specs.Halves.{whole}
 use Rattle.yq_row_table.specs.Rows.{cut_text}
 use Rattle.yq_documents.specs.Reading.{cut_of, read_at}
-use Rattle.yq_semantics.specs.Operations.{operation_of}
-use Rattle.yq_edit_laws.{proofs.CutLaws.text_read, proofs.FlowAnswers.whole_text, specs.Edit.gives}
-use Rattle.yq_edit_laws.proofs.OperationsLaws.{first_fits, none_come, others_come, others_served}
+use Rattle.yq_semantics.specs.Operations.{operation_of, operations_of}
+use Rattle.yq_edit_laws.{proofs.CutLaws.text_read, proofs.FlowAnswers.whole_text, specs.Carried.carry_all}
+use Rattle.yq_edit_laws.proofs.OperationsLaws.{first_fits, others_come, others_served}
 use Rattle.yq_batch.{specs.OpenRuns.{MayWrite, open_text}, specs.Slots.{slots_of, text_from}}
-use Rattle.yq_batch.proofs.RowOpenAnswers.{change_edges, first_put, opens_change}
+use Rattle.yq_batch.{proofs.RowOpenAnswers.{change_edges, first_put, opens_change}, proofs.CarriedFirst.carries_some}
 use Rattle.yq_batch.proofs.any_row.carry_in_any_row.Goals as goal
 
 pub begun-requires : goal.begun-requires

@@ -1,13 +1,14 @@
-use Rattle.std.{proofs.Common.{◌≡◌, ◌∙◌, ℕ, List, Option, refl, sym, subst, ap, string_bytes}, proofs.lemmas.Result.err_from_is_err_and}
-use Rattle.std.{specs.Prelude.{IfErr, IfOk, IfSome, Result}, specs.Str.IsCharBoundary}
+use Rattle.std.{proofs.Common.{◌≡◌, ◌∙◌, ℕ, List, map, refl, sym, subst, ap, string_bytes}, proofs.lemmas.Result.err_from_is_err_and}
+use Rattle.std.{specs.Prelude.{IfErr, IfOk, IfSome}, specs.Str.IsCharBoundary}
 use Rattle.yq_text.specs.Halves.{whole}
+use Rattle.yq_core.specs.Entries.{tree_step}
 use Rattle.yq_row_table.specs.Rows.{cut_text}
 use Rattle.yq_documents.specs.Reading.{cut_of}
 use Rattle.yq_semantics.specs.Operations.{operations_of}
 use Rattle.yq_edit_laws.{specs.Answers.EditFails, specs.Carried.carry_all, specs.Edit.Edit, specs.Valid.AreServed}
 use Rattle.yq_edit_laws.proofs.FlowAnswers.{whole_text}
-use Rattle.yq_batch.{specs.HeadRuns.{CarriesInHead, all_on}, specs.Runs.{now_text, text_with_run}, specs.Together.CarriesSome}
-use Rattle.yq_batch.{proofs.CarriedFirst.{all_begin, carries_some}, proofs.HeadRunLaws.some_is, proofs.RunAnswers.{begins, begins_with}}
+use Rattle.yq_batch.{specs.Runs.{now_text, text_with_run}, specs.Together.CarriesSome, proofs.CarriedFirst.{all_begin, carries_some}}
+use Rattle.yq_batch.{proofs.HeadRunLaws.some_is, proofs.RunAnswers.{begins, begins_with}}
 use Rattle.yq_batch.proofs.heads.put_in_heads.Goals as goal
 
 pub put_in_head-requires-clause-there : goal.put_in_head-requires-clause-there
@@ -15,7 +16,7 @@ put_in_head-requires-clause-there c = record { read = c.text-text.ensures.read; 
 
 pub put_in_head-requires-clause-run : goal.put_in_head-requires-clause-run
 put_in_head-requires-clause-run c =
-    begins _ c.new-run.result.run (record { read = c.text-text.ensures.read; reports = c.requires.head }) c.new-run.ensures.text c.new-run.ensures.done
+    begins c.args.cut.now c.args.found.doc (map tree_step c.args.found.stem.now) c.new-run.result.run c.text-text.ensures.read c.requires.head.leads c.new-run.ensures.text c.new-run.ensures.done
 
 pub put_in_head-requires-clause-serves : goal.put_in_head-requires-clause-serves
 put_in_head-requires-clause-serves c =
@@ -32,7 +33,7 @@ put_in_later-requires-clause-serves c = (some_is _ c.in_ok-left.field-0 c.in-Som
 
 pub returns-in_err-left-clause-err : goal.returns-in_err-left-clause-err
 returns-in_err-left-clause-err c =
-    let p = err_from_is_err_and c.from_residual-in_err-left.result c.from_residual-in_err-left.ensures.1 in
+    let p = err_from_is_err_and c.from_residual.result c.from_residual.ensures.1 in
     let new = c.new-run.ensures in
     rw (p.1, p.2) (subst (EditFails c.in_err-left.field-0.0) (all_begin c.args.cut.now c.new-run.result.run c.args.ops.now c.text-text.ensures.read new.text new.done new.splices) c.in_err-left.ensures.err)
 

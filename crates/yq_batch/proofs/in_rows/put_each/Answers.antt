@@ -1,12 +1,12 @@
-use Rattle.std.{proofs.Common.{◌≡◌, ◌∙◌, ℕ, ◌<◌, ◌^◌, List, length, Option, sym, subst, ap, arith}, specs.Prelude.IfSome}
+use Rattle.std.{proofs.Common.{◌≡◌, ◌∙◌, ℕ, ◌<◌, ◌^◌, List, length, Option, refl, sym, subst, ap}, specs.Prelude.IfSome}
 use Rattle.std.{specs.String.string_bytes, specs.Str.IsCharBoundary, proofs.lemmas.Result.err_from_is_err_and}
 use Rattle.yq_documents.specs.Reading.{cut_of}
-use Rattle.yq_edit_laws.{proofs.CutLaws.text_small, specs.Carried.{carry_all, carried}, specs.Edit.{edit_after, gives}}
-use Rattle.yq_edit_laws.{specs.Valid.AreServed, proofs.OperationsLaws.{others_come, others_served, first_fails, first_fits, first_operand}}
-use Rattle.yq_edit_laws.{proofs.OrderLaws.behind_none, proofs.FlowAnswers.whole_text, specs.Answers.EditFails, specs.Theorems.IsFitting}
+use Rattle.yq_edit_laws.{proofs.CutLaws.text_small, specs.Carried.{carry_all, carried}, specs.Valid.AreServed}
+use Rattle.yq_edit_laws.proofs.OperationsLaws.{others_come, others_served, first_fails, first_fits, first_operand}
+use Rattle.yq_edit_laws.{proofs.FlowAnswers.whole_text, specs.Answers.EditFails, specs.Theorems.IsFitting}
 use Rattle.yq_semantics.specs.Operations.{operation_of, operations_of}
 use Rattle.yq_batch.{specs.RowRuns.{RowsGoOn, IsRowsRun}, specs.Runs.{now_text, text_with_run}, proofs.RowRunAnswers.rows_begin}
-use Rattle.yq_batch.proofs.RunAnswers.{begins_with}
+use Rattle.yq_batch.{proofs.RunAnswers.begins_with, proofs.CarriedFirst.{all_begin, carries_some}}
 use Rattle.yq_text.specs.Halves.{whole}
 use Rattle.yq_row_table.specs.Rows.{cut_text}
 use Rattle.yq_batch.proofs.in_rows.put_each.Goals as goal

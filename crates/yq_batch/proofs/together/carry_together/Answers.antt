@@ -1,5 +1,5 @@
 use Rattle.std.proofs.Common.{List, ℕ, subst}
-use Rattle.yq_batch.{specs.Together.IsHow, specs.declared.together.HowCarried.HowCarried, proofs.HeadRunLaws.some_is}
+use Rattle.yq_batch.{specs.Together.IsHow, proofs.HeadRunLaws.some_is}
 use Rattle.yq_batch.proofs.together.carry_together.Goals as goal
 
 pub put_in_heads-requires-clause-head : goal.put_in_heads-requires-clause-head
