@@ -12,6 +12,7 @@ pub mod CollectionLeft
 pub mod MoreRuns
 pub mod FilledLaws
 pub mod RunAnswers
+pub mod CarriedFirst
 pub mod MoreAnswers
 pub mod FilledAnswers
 pub mod LeftRemovals

@@ -3,8 +3,7 @@ use Rattle.std.proofs.Common.{◌≡◌, ◌⊎◌, inl, inr, ℕ, suc, ◌+◌,
 use Rattle.std.proofs.Common.{refl, sym, ap, ◌∙◌, subst, append_assoc, append-nil, arith, length-append}
 use Rattle.std.specs.Str.{IsCharBoundary, IsUtf8}
 use Rattle.std.proofs.lemmas.List.{append_cancel_right, drop_all, length-take-le, take_all, take-append-drop}
-use Rattle.std.{proofs.Math.Seq.drop-append-add, proofs.lemmas.Option.{same_Some, IfSome_then}}
-use Rattle.std.specs.Prelude.{IfSome, false, nat_lt, string_bytes}
+use Rattle.std.{proofs.Math.Seq.drop-append-add, proofs.lemmas.Option.same_Some, specs.Prelude.{false, nat_lt}}
 use Rattle.yq_text.{specs.Limit.text_limit, specs.TextGapBuffer.buffer_text}
 use Rattle.yq_core.{specs.Paths.Step, specs.Collections.CollPieces, specs.Entries.{end_of, parts_of, tree_step}, specs.Places.Placed}
 use Rattle.yq_core.{specs.Nodes.{Items, flow_items_text}, specs.Trees.items_tree, proofs.NodesWrittenLaws.items_append}
@@ -14,16 +13,14 @@ use Rattle.yq_row_table.specs.Rows.{Cut, cut_text}
 use Rattle.yq_documents.specs.Reading.{cut_of, read_at}
 use Rattle.yq_places.{specs.FlowNodes.flow_collection, specs.FlowViews.{FlowAgrees, LeadsToHead}, specs.Standings.last_step}
 use Rattle.yq_places.{specs.declared.places.flow_node.FlowHead.FlowHead, proofs.FlowNodeLaws.with_more}
-use Rattle.yq_semantics.{specs.Operations.{Operation, operations_of, remove}, specs.declared.op.Op.Op}
+use Rattle.yq_semantics.specs.Operations.{Operation, remove}
 use Rattle.yq_edit_laws.{proofs.CutLaws.text_read, proofs.TextFaults.text_utf8, proofs.FlowAnswers.{CollFound, coll_found}}
-use Rattle.yq_edit_laws.{specs.Carried.carry_all, specs.Edit.edit_after, specs.Theorems.IsFitting, specs.Valid.AreServed}
-use Rattle.yq_edit_laws.specs.NearParts.{LeadsToPart}
+use Rattle.yq_edit_laws.{specs.Theorems.IsFitting, specs.NearParts.LeadsToPart}
 use Rattle.yq_batch.specs.LeftItems.{closing, count_items, count_parts}
 use Rattle.yq_batch.specs.RemovalRuns.{AreFirstLeft, GoesInHead, IsKnownLeft, IsLeftIn, IsLeftOf, IsRemovalRun, PartGoes, SoleGoes}
-use Rattle.yq_batch.specs.RemovalRuns.{content_of, empty_text, RemovesSo, CarriesTogether, left_coll, text_exchanged}
-use Rattle.yq_batch.{specs.LeftPlaces.IsLeftPlace, specs.declared.left.LeftPlace.LeftPlace, specs.Runs.EndsAt}
-use Rattle.yq_batch.{specs.declared.together.Together.Together, specs.declared.gone.LeftOf.LeftOf, specs.declared.gone.Removed.Removed}
-use Rattle.yq_batch.{specs.declared.removals.RemovalRun.RemovalRun, proofs.CollectionLeft.left_there}
+use Rattle.yq_batch.{specs.RemovalRuns.{content_of, empty_text, RemovesSo, left_coll, text_exchanged}, specs.LeftPlaces.IsLeftPlace}
+use Rattle.yq_batch.{specs.declared.left.LeftPlace.LeftPlace, specs.Runs.EndsAt, specs.declared.gone.LeftOf.LeftOf}
+use Rattle.yq_batch.{specs.declared.gone.Removed.Removed, specs.declared.removals.RemovalRun.RemovalRun, proofs.CollectionLeft.left_there}
 use Rattle.yq_batch.{proofs.LeftItemLaws.{all_left, ends_within}, proofs.LeftPlaceLaws.counted}
 use Rattle.yq_batch.proofs.LeftRemovals.{Goes, begins_at, coll_is, empty_is, ends_at, goes_out, more, opened, opened_size, opening, own}
 use Rattle.yq_batch.{proofs.LeftRemovals.parts_are, proofs.Exchanges.{CanExchange, exchange_fails, exchange_on, few_left}}
@@ -340,18 +337,3 @@ module _ (t : List ℕ) (n : ℕ) (stem path : List Step) (x : FlowHead) (r : Re
   pub out_of : (m : ℕ) (op : Operation) → op ≡ remove m path → m ≡ n → CanExchange op own_cut n stem before r.start r.end r.new.now r.known
   out_of m op is same =
       subst (λ (o : Operation). CanExchange o own_cut n stem before r.start r.end r.new.now r.known) (sym (is ∙ ap (λ (k : ℕ). remove k path) same)) (either gone.goes)
-
--- ---- operations together
-
-pub ended_on : (ops left : List Op) (t : List ℕ) (run old : RemovalRun) → run ≡ old → edit_after old.splices.items (carry_all (operations_of left) (buffer_text old.text)) ≡ carry_all (operations_of ops) t →
-    AreServed (operations_of left) (buffer_text old.text) → (r : Option Together) →
-    IfSome r (λ x. (string_bytes x.edited.text ≡ buffer_text run.text) × (x.edited.splices.items ≡ run.splices.items) × (x.left.now ≡ left) × (length left ≤ 1)) →
-    CarriesTogether ops t r
-ended_on ops left t run old same whole serves r h = IfSome_then r h (λ x e.
-    let text : string_bytes x.edited.text ≡ buffer_text old.text = e.0 ∙ ap (λ (z : RemovalRun). buffer_text z.text) same in
-    let splices : x.edited.splices.items ≡ old.splices.items = e.1 ∙ ap (λ (z : RemovalRun). z.splices.items) same in
-    record {
-      few = omega (arith, e.3, ap length e.2);
-      whole = (λ i. edit_after (splices i) (carry_all (operations_of (e.2 i)) (text i))) ∙ whole;
-      serves = subst (λ (l : List Op). AreServed (operations_of l) (string_bytes x.edited.text)) (sym e.2) (subst (AreServed (operations_of left)) (sym text) serves);
-    })

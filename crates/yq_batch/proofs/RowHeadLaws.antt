@@ -17,7 +17,7 @@ use Rattle.yq_edit_rules.{specs.Operands.HasOperand, proofs.CommentRowLaws.{entr
 use Rattle.yq_semantics.{specs.Meaning.head_comment_lines, specs.Operations.head_comment}
 use Rattle.yq_edit_laws.{proofs.HeadCommentLaws.head_comments_change_rows, proofs.RowEditLaws.row_edits}
 use Rattle.yq_edit_laws.{proofs.CutLaws.{cut_read, text_read}, proofs.EditsHold.edit_is}
-use Rattle.yq_batch.{specs.RowRuns.{PutsInRow, PutsSo, PutsText, bytes_in, rows_still}, specs.declared.in_rows.RowPut.RowPut}
+use Rattle.yq_batch.{specs.RowRuns.{PutsInRow, PutsSo, PutsText, bytes_in, rows_still}, specs.declared.row_put.RowPut.RowPut}
 use Rattle.yq_documents.specs.LinesInRows as lines
 
 -- an empty head comment has no lines, and others end alike by the same break

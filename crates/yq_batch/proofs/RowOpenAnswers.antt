@@ -8,9 +8,9 @@ use Rattle.yq_row_table.specs.Rows.{Cut, cut_text}
 use Rattle.yq_documents.specs.Reading.{cut_of, read_at}
 use Rattle.yq_places.{specs.NodesAt.node_in, specs.Standings.{RowsOfEntry, held}, specs.StandingViews.IsHeldRow}
 use Rattle.yq_places.{specs.declared.places.held_row.HeldRow.HeldRow, proofs.HeldRowLaws.no_root_rows}
-use Rattle.yq_semantics.{specs.Operations.{Operation, append, operation_of, replace}, specs.declared.op.Op.Op}
+use Rattle.yq_semantics.{specs.Operations.{Operation, append, operation_of, operations_of, replace}, specs.declared.op.Op.Op}
 use Rattle.yq_edit_laws.{specs.Carried.carried, specs.Edit.gives, specs.Theorems.IsFitting, proofs.ApplyLaws.applied_by}
-use Rattle.yq_edit_laws.proofs.CutLaws.{text_read}
+use Rattle.yq_edit_laws.{specs.Valid.HaveOperands, proofs.CutLaws.text_read}
 use Rattle.yq_text.{specs.Limit.text_limit, specs.Script.splice_at, specs.Splice.Splice}
 use Rattle.yq_batch.specs.OpenRows.{AreBeforeEnd, ArePutInRows, AreRowsStill, BeginsInRows, BeginsInAnyRow, DoesBy, DoesInside, FindsPuts}
 use Rattle.yq_batch.specs.OpenRows.{IsBeforeEnds, IsEndsDocument, IsOpenRows, MayDo, MayPut, OpensRow, PutsInside, RunsRows, head_back}
@@ -265,6 +265,12 @@ puts_more c m e [] [] h = tt
 puts_more c m e (op ∷ ops) [] h = (tt, tt)
 puts_more c m e [] (o ∷ os) h = tt
 puts_more c m e (op ∷ ops) (o ∷ os) h = (h.0, puts_more c m e ops os h.1)
+
+-- the operand of one of them
+pub operand_at : (ops : List Op) (i : ℕ) (op : Op) → op ≡ slice_index_or ops i op → i < length ops → HaveOperands (operations_of ops) → HasOperand (operation_of op)
+operand_at [] i op at less h = absurd (omega (arith, less))
+operand_at (x ∷ ops) zero op at less h = subst (λ (y : Op). HasOperand (operation_of y)) (sym at) h.0
+operand_at (x ∷ ops) (suc i) op at less h = operand_at ops i op at (omega (arith, less)) h.1
 
 -- what one of them puts is known
 pub puts_set : (c : Cut) (m : ℕ) (e : Option EndOfEntries) (ops : List Op) (os : List (Option HeadChange)) (i : ℕ) (op : Op) (o : Option HeadChange) →

@@ -18,7 +18,7 @@ use Rattle.yq_edit_rules.proofs.HeldPieces.{held_spells}
 use Rattle.yq_semantics.specs.Operations.{replace}
 use Rattle.yq_edit_laws.{proofs.RowEditLaws.row_edits, proofs.CutLaws.{cut_read, text_read}, proofs.HeldRows.{head_there, headless_there}}
 use Rattle.yq_edit_laws.{proofs.InlineChangeLaws.inline_values_change_rows, proofs.MarkHeads.no_raw, proofs.EditsHold.edit_is}
-use Rattle.yq_batch.{specs.RowRuns.{IsWrittenSo, PutsInRow, PutsSo, PutsText, bytes_in, rows_still}, specs.declared.in_rows.RowPut.RowPut}
+use Rattle.yq_batch.{specs.RowRuns.{IsWrittenSo, PutsInRow, PutsSo, PutsText, bytes_in, rows_still}, specs.declared.row_put.RowPut.RowPut}
 
 is_there : (o : Option Node) → is_some o ≡ true → (x : Node) × (o ≡ Some x)
 is_there None e = absurd (false≢true e)

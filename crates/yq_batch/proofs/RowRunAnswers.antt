@@ -11,7 +11,7 @@ use Rattle.yq_edit_laws.{proofs.CutLaws.text_read, proofs.FlowAnswers.whole_text
 use Rattle.yq_edit_laws.{specs.Edit.{gives, refuses}, specs.Theorems.IsFitting, proofs.ApplyLaws.applied_by, proofs.TextFaults.text_utf8}
 use Rattle.yq_batch.specs.RowRuns.{IsLast, IsRowRun, IsRowsRun, Passed, PutsInRow, PutsSo, PutsText, RowsGoOn, WritesSameBreak, bytes_in}
 use Rattle.yq_batch.{specs.RowRuns.rows_still, specs.Runs.{HasPut, PutFails, now_text, run_front, text_with_run}}
-use Rattle.yq_batch.{specs.declared.in_rows.RowPut.RowPut, specs.declared.run.PutRun.PutRun}
+use Rattle.yq_batch.{specs.declared.row_put.RowPut.RowPut, specs.declared.run.PutRun.PutRun}
 use Rattle.yq_batch.proofs.RowRunLaws.{old_is, read_now, row_goes_on, row_put_comes, row_put_large, row_stays, text_now}
 use Rattle.yq_failure.specs.declared.failure.Failure.TheVariants as failure
 

@@ -41,10 +41,10 @@ run_begins t n stem read leads =
     }
 
 -- the same of a run that the code begins
-pub begins : (x : HeadInText) (r : PutRun) → IsInText x → string_bytes r.text ≡ [] → r.done ≡ 0 → Runs x r
-begins x r there text done =
-    subst (λ (d : ℕ). IsPutRun (cut_with x) x.doc (stem_of x) (string_bytes r.text) d) (sym done)
-    (subst (λ (l : List ℕ). IsPutRun (cut_with x) x.doc (stem_of x) l 0) (sym text) (run_begins x.cut.now x.doc (stem_of x) there.read there.reports.leads))
+pub begins : (t : List ℕ) (n : ℕ) (stem : List Step) (r : PutRun) → read_at t ≡ Some (cut_of t) → LeadsToHead (cut_of t) n stem → string_bytes r.text ≡ [] → r.done ≡ 0 →
+    IsPutRun (cut_of t) n stem (string_bytes r.text) r.done
+begins t n stem r read leads text done =
+    subst (λ (d : ℕ). IsPutRun (cut_of t) n stem (string_bytes r.text) d) (sym done) (subst (λ (l : List ℕ). IsPutRun (cut_of t) n stem l 0) (sym text) (run_begins t n stem read leads))
 
 -- the text of a run in which nothing was put
 pub begins_with : (t : List ℕ) (r : PutRun) → read_at t ≡ Some (cut_of t) → string_bytes r.text ≡ [] → r.done ≡ 0 → now_text (cut_of t) r ≡ t

@@ -2,6 +2,7 @@ pub mod HeadRows
 pub mod Runs
 pub mod FilledRuns
 pub mod RowRuns
+pub mod Together
 pub mod HeadRuns
 pub mod RemovalRuns
 pub mod LeftItems

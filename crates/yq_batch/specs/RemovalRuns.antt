@@ -1,6 +1,5 @@
 -- Items and entries taken out, one before the other, of the flow collections of one head, which was read once (YAML 1.2.2, 7.4; own).
 use Rattle.std.specs.Prelude.{◌≡◌, ⊤, ◌⊎◌, ℕ, ◌+◌, ◌<◌, ◌≤◌, Bool, true, List, [], ◌∷◌, ◌++◌, drop, take, length, map, Option, Some, None}
-use Rattle.std.specs.Prelude.{IfSome, string_bytes}
 use Rattle.yq_text.{specs.Limit.text_limit, specs.Script.splice_at, specs.Splice.Splice, specs.TextGapBuffer.buffer_text}
 use Rattle.yq_core.{specs.Paths.Step, specs.Collections.CollPieces, specs.Entries.{end_of, parts_of, tree_step}}
 use Rattle.yq_core.{specs.PlainText.begins_marker, specs.Nodes.{flow_items_text, key_text, node_text}}
@@ -10,14 +9,11 @@ use Rattle.yq_row_table.specs.Rows.{Cut, cut_text}
 use Rattle.yq_documents.specs.Reading.{read_at}
 use Rattle.yq_places.{specs.FlowNodes.flow_collection, specs.FlowViews.{LeadsToHead, behind_anchor, collection_view}}
 use Rattle.yq_places.{specs.Standings.last_step, specs.declared.places.flow_node.FlowHead.FlowHead}
-use Rattle.yq_semantics.{specs.declared.op.Op.Op, specs.Operations.{Operation, operations_of}}
-use Rattle.yq_semantics.{specs.declared.refusal.Refusal.TheVariants.TooLarge, specs.Judgement.ExprError}
-use Rattle.yq_edit_laws.{specs.Carried.{carried, carry_all}, specs.Edit.{edit_after, gives}, specs.Theorems.IsApplied}
-use Rattle.yq_edit_laws.{specs.NearParts.{LeadsToPart, head_with}, specs.Valid.AreServed}
+use Rattle.yq_semantics.{specs.Operations.Operation, specs.declared.refusal.Refusal.TheVariants.TooLarge, specs.Judgement.ExprError}
+use Rattle.yq_edit_laws.{specs.Carried.carried, specs.Edit.gives, specs.Theorems.IsApplied, specs.NearParts.{LeadsToPart, head_with}}
 use Rattle.yq_batch.specs.LeftItems.{Ending, closing, count_parts, others, left_items, upto_text}
 use Rattle.yq_batch.{specs.declared.removals.RemovalRun.RemovalRun, specs.LeftPlaces.IsLeftPlace, specs.declared.left.LeftPlace.LeftPlace}
-use Rattle.yq_batch.{specs.declared.gone.LeftOf.LeftOf, specs.declared.gone.Removed.Removed, specs.declared.together.Together.Together}
-use Rattle.yq_batch.specs.declared.head.HeadInText.{HeadInText}
+use Rattle.yq_batch.{specs.declared.gone.LeftOf.LeftOf, specs.declared.gone.Removed.Removed, specs.declared.head.HeadInText.HeadInText}
 use denote.Bor.{Bor}
 use Rattle.yq_core.specs.declared.path.Step as declared
 use Rattle.yq_failure.specs.declared.failure.Failure.TheVariants as failure
@@ -168,15 +164,3 @@ pub record RemovesOn (op : Operation) (c : Cut) (n : ℕ) (stem : List Step) (be
   pub applied : IsApplied op (buffer_text before.text) (buffer_text after.text) new_bytes
   pub splices : after.splices.items ≡ before.splices.items ++ new_bytes
   pub run : RemovesSo c n stem known after
-
--- ---- operations carried out together
-
--- Operations on a text were carried out together, all or all but the last one, which then gives what all give (own).
-pub record CarriesOn (ops : List Op) (t : List ℕ) (left : List Op) (u : List ℕ) (before : List Splice) : Type 0 where
-  pub few : length left ≤ 1
-  pub whole : edit_after before (carry_all (operations_of left) u) ≡ carry_all (operations_of ops) t
-  pub serves : AreServed (operations_of left) u
-
--- the same of what the code made of them, if it did (own)
-abbrev pub CarriesTogether : List Op → List ℕ → Option Together → Type 0
-CarriesTogether ops t o = IfSome o (λ x. CarriesOn ops t x.left.now (string_bytes x.edited.text) x.edited.splices.items)

@@ -1,17 +1,15 @@
 -- Items and entries taken out of one block collection with their lines, one before the other, on the rows as they were read (YAML 1.2.2, 8.2; own).
 use Rattle.std.specs.Prelude.{◌≡◌, ⊤, ◌⊎◌, not, if◌then◌else◌, ℕ, ◌+◌, ◌-◌, ◌<◌, ◌≤◌, Bool, true, false, List, [], ◌∷◌, ◌++◌, take, length}
-use Rattle.std.specs.Prelude.{Option, Some, None, IfSome, string_bytes}
+use Rattle.std.specs.Prelude.{Option, Some, None, IfSome}
 use Rattle.yq_text.{specs.Splice.Splice, specs.TextGapBuffer.buffer_text}
 use Rattle.yq_core.{specs.Paths.Step, specs.Lines.{spaces, behind_spaces, is_blank, is_tab}, specs.Text.{ends_line, text_lines}}
 use Rattle.yq_row_table.{specs.Rows.{Row, Cut, cut_text}, specs.Splices.first_gap}
 use Rattle.yq_documents.{specs.Located.steps_of, specs.Reading.read_at, specs.declared.path.Path.Path}
 use Rattle.yq_places.specs.PlacedRows.{PlacedPart, placed_document}
 use Rattle.yq_places.{specs.RemovalPlaces.{OwnRows, own_rows, rows_out, Seam, has_others_at}, specs.Standings.last_step}
-use Rattle.yq_semantics.{specs.declared.op.Op.Op, specs.Operations.{Operation, operation_of, operations_of, remove}}
-use Rattle.yq_semantics.specs.Judgement.{ExprError}
-use Rattle.yq_edit_laws.{specs.Answers.EditFails, specs.Carried.{carried, carry_all}, specs.Edit.{Edit, edit_after, gives}}
-use Rattle.yq_edit_laws.{specs.Theorems.IsApplied, specs.Valid.AreServed}
-use Rattle.yq_batch.{specs.declared.removals.RemovalRun.RemovalRun, specs.declared.together.Together.Together}
+use Rattle.yq_semantics.{specs.declared.op.Op.Op, specs.Operations.{Operation, operation_of, remove}, specs.Judgement.ExprError}
+use Rattle.yq_edit_laws.{specs.Answers.EditFails, specs.Carried.carried, specs.Edit.gives, specs.Theorems.IsApplied}
+use Rattle.yq_batch.specs.declared.removals.RemovalRun.{RemovalRun}
 
 -- ---- gaps that stay after a block scalar
 
@@ -119,14 +117,3 @@ GoesOnWithout p c before found after =
 -- an operation fails on the text of a run (own)
 abbrev pub FailsOn : ExprError → Operation → RemovalRun → Type 0
 FailsOn e op r = EditFails e (carried op (buffer_text r.text))
-
--- ---- operations carried out together
-
--- what operations give of which the first ones were carried out together, with those that are left (own)
-abbrev pub all_of : Together → Edit
-all_of x = edit_after x.edited.splices.items (carry_all (operations_of x.left.now) (string_bytes x.edited.text))
-
--- The first of some operations were carried out on a text together, and the others then give what all give (own).
-pub record CarriesFirst (ops : List Op) (t : List ℕ) (x : Together) : Type 0 where
-  pub whole : all_of x ≡ carry_all (operations_of ops) t
-  pub serves : AreServed (operations_of x.left.now) (string_bytes x.edited.text)

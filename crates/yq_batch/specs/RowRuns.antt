@@ -12,7 +12,7 @@ use Rattle.yq_edit_rules.{specs.Replacing.keeps_scalar, specs.RowChanges.{Change
 use Rattle.yq_semantics.{specs.After.op_document, specs.Fits.Fits, specs.Rooms.room_of}
 use Rattle.yq_semantics.specs.Operations.{Operation, append, head_comment, line_comment, remove, replace}
 use Rattle.yq_edit_laws.{specs.Carried.carried, specs.Edit.gives, specs.Theorems.IsApplied}
-use Rattle.yq_batch.{specs.Runs.{now_text, text_with_run}, specs.declared.in_rows.RowPut.RowPut, specs.declared.run.PutRun.PutRun}
+use Rattle.yq_batch.{specs.Runs.{now_text, text_with_run}, specs.declared.row_put.RowPut.RowPut, specs.declared.run.PutRun.PutRun}
 
 -- ---- runs
 

@@ -15,7 +15,7 @@ use Rattle.yq_edit_rules.{specs.FlowParts.takes_key, specs.Operands.HasOperand}
 use Rattle.yq_edit_laws.specs.PartPuts.{EndsAfter, EndsAsIn, IsEditPlace, IsPartOf, IsPlaceOf, IsWrittenPart, more_edit}
 use Rattle.yq_edit_laws.{specs.Carried.carried, specs.Edit.gives, specs.Theorems.IsApplied}
 use Rattle.yq_batch.{specs.HeadRows.HeadRowStays, specs.declared.change.HeadChange.HeadChange, specs.declared.head.HeadInText.HeadInText}
-use Rattle.yq_batch.{specs.declared.run.PutRun.PutRun, specs.declared.slots.SlotPlace.SlotPlace}
+use Rattle.yq_batch.{specs.declared.head.FoundHead.FoundHead, specs.declared.run.PutRun.PutRun, specs.declared.slots.SlotPlace.SlotPlace}
 use Rattle.yq_failure.specs.declared.failure.Failure.TheVariants as failure
 
 -- a text whose first bytes were replaced by others (own)
@@ -64,6 +64,10 @@ stem_of x = map tree_step x.stem.now
 pub record IsInText (x : HeadInText) : Type 0 where
   pub read : read_at x.cut.now ≡ Some (cut_with x)
   pub reports : ReportsHead x.cut.now (cut_with x) x.doc (stem_of x) x.head
+
+-- a head that the code found is in a text, and the steps lead to it (own)
+abbrev pub IsFoundHead : List ℕ → FoundHead → Type 0
+IsFoundHead t x = ReportsHead t (cut_of t) x.doc (map tree_step x.stem.now) x.head
 
 -- a run of the code is one (own)
 abbrev pub Runs : HeadInText → PutRun → Type 0

@@ -1,25 +1,23 @@
 //! Values on one line that an update puts in rows of one document, in any order, and entries at the end of a mapping.
-ghost use Rattle.std.specs.Prelude.{◌≡◌, ℕ, true, IfErr, IfOk, IfSome, Some};
-ghost use Rattle.yq_text.specs.Halves.{whole};
-ghost use Rattle.yq_documents.specs.Reading.{cut_of, read_at};
-ghost use Rattle.yq_semantics.specs.Operations.{operations_of};
-ghost use Rattle.yq_edit_laws.{specs.Answers.EditFails, specs.Carried.carry_all, specs.Valid.AreServed};
-ghost use Rattle.yq_batch.specs.HeadRuns.{MayGive};
+ghost use Rattle.std.specs.Prelude.{◌≡◌, IfOk, IfSome, Some};
+ghost use Rattle.yq_semantics.specs.Operations.{operation_of, operations_of};
+ghost use Rattle.yq_edit_rules.specs.Operands.{HasOperand};
+ghost use Rattle.yq_edit_laws.specs.Valid.{AreServed, HaveOperands};
+ghost use Rattle.yq_batch.specs.Together.{CarriesTogether};
 ghost use Rattle.yq_batch.specs.OpenRows as spec;
 
 use crate::any_order::{SlotRun, ended};
 use crate::change::HeadChange;
-use crate::in_rows::{put_each, value_written};
-use crate::kept_breaks::keeps_first_break;
+use crate::open_rows::run_at;
 use crate::row_ends::{EntriesEnd, added_at_end, end_for, is_before_end};
 use crate::row_order::in_row_order;
-use crate::slots::{SlotPlace, are_apart, are_in_order, each_once, end_at, slots_at};
+use crate::row_put::value_written;
+use crate::slots::SlotPlace;
+use crate::together::Together;
 use std::alloc::{AllocError, Global};
-use yq_edit_laws::operand_holds;
 use yq_edit_rules::is_filled;
 use yq_lookup::CutText;
-use yq_semantics::{ExprError, Op};
-use yq_text::{Edited, Halves};
+use yq_semantics::Op;
 
 /// What an operation puts in a row of document `doc`, if it puts a value on one line in the place of an inline node.
 fn put_inside<'o>(
@@ -29,10 +27,10 @@ fn put_inside<'o>(
     end: &Option<EntriesEnd<'_>>,
     op: &'o Op,
 ) -> Result<Option<HeadChange<'o>>, AllocError>
+    requires { HasOperand (operation_of op.now) }
     ensures same { cut.new ≡ cut.old }
     ensures puts { IfOk result (spec.MayDo cut.old doc end.now op.now) }
 {
-    operand_holds(op);
     let Op::Replace(path, value) = op else {
         return Ok(None);
     };
@@ -72,6 +70,7 @@ fn change_inside<'o>(
     end: &Option<EntriesEnd<'_>>,
     op: &'o Op,
 ) -> Result<Option<HeadChange<'o>>, AllocError>
+    requires { HasOperand (operation_of op.now) }
     ensures same { cut.new ≡ cut.old }
     ensures puts { IfOk result (spec.MayDo cut.old doc end.now op.now) }
 {
@@ -101,6 +100,7 @@ fn puts_inside<'o>(
     end: &Option<EntriesEnd<'_>>,
     ops: &'o [Op],
 ) -> Result<Option<Vec<Option<HeadChange<'o>>>>, AllocError>
+    requires { HaveOperands (operations_of ops.now) }
     ensures { IfOk result (spec.FindsPuts cut.now doc end.now ops.now) }
 {
     let Some(numbers) = in_row_order(alloc, cut, ops)? else {
@@ -125,74 +125,6 @@ fn puts_inside<'o>(
     Ok(Some(changes))
 }
 
-/// The places of changes in order, each once, if each is known.
-fn places_of(
-    alloc: Global,
-    changes: &[Option<HeadChange<'_>>],
-) -> Result<Option<Vec<SlotPlace>>, AllocError> {
-    let mut places = Vec::with_capacity(alloc, changes.len())?;
-    'each: for change in changes {
-        let Some(change) = change else {
-            return Ok(None);
-        };
-        places.push((change.place.start, change.place.end, change.place.more))?;
-    }
-    places.sort_unstable();
-    Ok(Some(each_once(alloc, &places)?))
-}
-
-/// Whether the last one of places is an offset, and the text's first break is near, and stays what it is.
-fn ends_near(text: Halves<'_>, places: &[SlotPlace], at: usize) -> bool
-    ensures { result ≡ true → spec.EndsNear (whole text.entry) at places.now }
-{
-    if !end_at(places, at) {
-        return false;
-    }
-    keeps_first_break(text, places)
-}
-
-/// Whether something is between places, of which the last one is the end of a mapping, if that is known.
-fn are_before_end(text: Halves<'_>, places: &[SlotPlace], end: &Option<EntriesEnd<'_>>) -> bool
-    ensures { result ≡ true → spec.AreBeforeEnd (whole text.entry) places.now end.now }
-{
-    if !are_apart(places) {
-        return false;
-    }
-    match end {
-        Some(end) => ends_near(text, places, end.at),
-        None => true,
-    }
-}
-
-/// A run in which nothing was put at the places of changes, if they are in order in the text.
-fn run_at(
-    alloc: Global,
-    text: Halves<'_>,
-    changes: &[Option<HeadChange<'_>>],
-    end: &Option<EntriesEnd<'_>>,
-) -> Result<Option<SlotRun>, AllocError>
-    requires { read_at (whole text) ≡ Some (cut_of (whole text)) }
-    ensures { IfOk result (spec.MayBeginInRows (whole text.entry) end.now) }
-{
-    let Some(places) = places_of(alloc, changes)? else {
-        return Ok(None);
-    };
-    if !are_in_order(&places, text.len()) {
-        return Ok(None);
-    }
-    if !are_before_end(text, &places, end) {
-        return Ok(None);
-    }
-    let Some(slots) = slots_at(alloc, &places)? else {
-        return Ok(None);
-    };
-    Ok(Some(SlotRun {
-        slots,
-        size: text.len(),
-        splices: Vec::new(alloc),
-    }))
-}
-
 /// The document in which the first of operations puts something, or that of a mapping's end.
 fn document_of(ops: &[Op], end: &Option<EntriesEnd<'_>>) -> Option<usize>
     ensures { IfSome result (spec.IsEndsDocument end.now) }
@@ -213,6 +145,7 @@ fn begun<'o>(
     cut: &CutText<'_, '_>,
     ops: &'o [Op],
 ) -> Result<Option<(Vec<Option<HeadChange<'o>>>, SlotRun)>, AllocError>
+    requires { HaveOperands (operations_of ops.now) }
     ensures { IfOk result (λ o. IfSome o (λ x.
         spec.BeginsInRows ops.now cut.now x.0.items x.1)) }
 {
@@ -233,13 +166,13 @@ fn begun<'o>(
 
 /// Operations carried out that each put a value on one line in a row of one mapping, in any order, or an entry at its
 /// end; nothing, where one of them does something else.
-pub(crate) fn carry_in_any_row(
+pub(crate) fn carry_in_any_row<'o>(
     alloc: Global,
     cut: &CutText<'_, '_>,
-    ops: &[Op],
-) -> Result<Option<Edited>, AllocError>
+    ops: &'o [Op],
+) -> Result<Option<Together<'o>>, AllocError>
     requires { AreServed (operations_of ops.now) cut.now }
-    ensures { IfOk result (MayGive ops.now cut.now) }
+    ensures { IfOk result (CarriesTogether ops.now cut.now) }
 {
     let Some((changes, begin)) = begun(alloc, cut, ops)? else {
         return Ok(None);
@@ -261,23 +194,6 @@ pub(crate) fn carry_in_any_row(
         rest = after;
         left = others;
     }
-    Ok(Some(ended(alloc, text, run)?))
-}
-
-/// Carries out operations together that change one row each, one after the other, or that put values on one line in rows
-/// of one mapping in any order, and new entries at its end; nothing, where one of them does more.
-pub fn carry_in_rows<'d>(
-    alloc: Global,
-    cut: &CutText<'d, '_>,
-    ops: &'d [Op],
-) -> Result<Option<Edited>, ExprError>
-    requires { AreServed (operations_of ops.now) cut.now }
-    ensures ok { IfOk result (MayGive ops.now cut.now) }
-    ensures err { IfErr result (λ e. EditFails e (carry_all (operations_of ops.now) cut.now)) }
-{
-    let found = put_each(alloc, cut, ops)?;
-    if let Some(edited) = found {
-        return Ok(Some(edited));
-    }
-    Ok(carry_in_any_row(alloc, cut, ops)?)
+    let edited = ended(alloc, text, run)?;
+    Ok(Some(Together { edited, left: rest }))
 }

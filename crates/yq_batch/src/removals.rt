@@ -6,7 +6,7 @@ ghost use Rattle.yq_text.{specs.Halves.whole, specs.TextGapBuffer.buffer_text};
 ghost use Rattle.yq_semantics.specs.Operations.{operation_of, operations_of};
 ghost use Rattle.yq_edit_laws.{specs.Answers.EditFails, specs.Carried.{carry_all, carried}, specs.Theorems.IsFitting};
 ghost use Rattle.yq_edit_laws.specs.Valid.{AreServed};
-ghost use Rattle.yq_batch.{specs.RemovalRuns.CarriesTogether, specs.Runs.{IsInText, cut_with, stem_of}};
+ghost use Rattle.yq_batch.{specs.Runs.{IsInText, cut_with, stem_of}, specs.Together.CarriesFirst};
 ghost use Rattle.yq_batch.specs.RemovalRuns as spec;
 
 use crate::change::steps_in_head;
@@ -109,35 +109,32 @@ fn remove_one<'s>(
     Ok(Some(known))
 }
 
-/// The text of a run with the operations that are left, if that is no more than one.
-fn ended<'s>(run: RemovalRun, left: &'s [Op]) -> Option<Together<'s>>
-    ensures { IfSome result (λ x. (string_bytes x.edited.text ≡ buffer_text run.text) ×
-        (x.edited.splices.items ≡ run.splices.items) × (x.left.now ≡ left.now) ×
-        (length left.now ≤ 1)) }
+/// The text of a run with the operations that are left.
+pub(crate) fn ended<'s>(run: RemovalRun, left: &'s [Op]) -> Together<'s>
+    ensures text { string_bytes result.edited.text ≡ buffer_text run.text }
+    ensures splices { result.edited.splices.items ≡ run.splices.items }
+    ensures left { result.left.now ≡ left.now }
 {
-    if left.len() > 1 {
-        return None;
-    }
     let RemovalRun { text, splices, .. } = run;
-    Some(Together {
+    Together {
         edited: Edited {
             text: text.into_string(),
             splices,
         },
         left,
-    })
+    }
 }
 
-/// Carries out operations that take items and entries out of the collections of a head, all or all but the
-/// last one; nothing, where another one does something else, or isn't before one that was carried out.
+/// Carries out operations that take items and entries out of the collections of a head, up to the first one that
+/// does something else, or isn't before one that was carried out.
 pub(crate) fn remove_each<'s>(
     alloc: Global,
     at: &HeadInText<'_, '_, '_, '_, '_, '_>,
     ops: &'s [Op],
-) -> Result<Option<Together<'s>>, ExprError>
+) -> Result<Together<'s>, ExprError>
     requires there { IsInText at.now }
     requires serves { AreServed (operations_of ops.now) at.now.cut.now }
-    ensures ok { IfOk result (CarriesTogether ops.now at.now.cut.now) }
+    ensures ok { IfOk result (CarriesFirst ops.now at.now.cut.now) }
     ensures err { IfErr result (λ e. EditFails e
         (carry_all (operations_of ops.now) at.now.cut.now)) }
 {

@@ -3,6 +3,7 @@ ghost use Rattle.std.specs.Prelude.{◌≡◌, true, IfOk, IfSome, Some};
 ghost use Rattle.yq_text.specs.Halves.{whole};
 ghost use Rattle.yq_places.{specs.StandingViews.{held_view, lines_view}, specs.Standings.{MarkPieces, compact, root, under}};
 ghost use Rattle.yq_semantics.specs.Operations.{operation_of};
+ghost use Rattle.yq_edit_rules.specs.Operands.{HasOperand};
 ghost use Rattle.yq_batch.specs.RowEnds as spec;
 
 use crate::change::{HeadChange, are_same_steps};
@@ -10,7 +11,6 @@ use crate::slots::SlotPlace;
 use std::alloc::{AllocError, Global};
 use yq_block_edits::more_written;
 use yq_documents::Path;
-use yq_edit_laws::operand_holds;
 use yq_edit_rules::{Child, is_filled};
 use yq_lookup::CutText;
 use yq_places::{Held, LinesIn, Standing};
@@ -144,9 +144,9 @@ pub(crate) fn added_at_end<'o>(
     end: &EntriesEnd<'_>,
     op: &'o Op,
 ) -> Result<Option<HeadChange<'o>>, AllocError>
+    requires { HasOperand (operation_of op.now) }
     ensures { IfOk result (λ o. IfSome o (spec.AddsThere (operation_of op.now) cut.now end.now)) }
 {
-    operand_holds(op);
     let Op::Append(path, added, value) = op else {
         return Ok(None);
     };

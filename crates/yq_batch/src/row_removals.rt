@@ -1,16 +1,17 @@
 //! Items and entries that an update takes out of one block collection with their lines, one before the other:
 //! they are carried out together, on the rows as they were read.
-ghost use Rattle.std.specs.Prelude.{◌≡◌, true, map, option_map, IfErr, IfOk, IfSome, None, string_bytes};
+ghost use Rattle.std.specs.Prelude.{◌≡◌, true, map, option_map, IfErr, IfOk, IfSome, None};
 ghost use Rattle.yq_core.specs.Entries.{tree_step};
 ghost use Rattle.yq_text.specs.TextGapBuffer.{buffer_text};
 ghost use Rattle.yq_documents.{specs.Located.steps_of, specs.Reading.cut_of};
 ghost use Rattle.yq_places.specs.RemovalReading.{seam_view};
 ghost use Rattle.yq_semantics.specs.Operations.{operations_of};
 ghost use Rattle.yq_edit_laws.{specs.Answers.EditFails, specs.Carried.carry_all, specs.Theorems.IsFitting, specs.Valid.AreServed};
+ghost use Rattle.yq_batch.specs.Together.{CarriesFirst};
 ghost use Rattle.yq_batch.specs.RowRemovals as spec;
 
 use crate::change::are_same_steps;
-use crate::removals::{RemovalRun, exchange, untouched};
+use crate::removals::{RemovalRun, ended, exchange, untouched};
 use crate::together::Together;
 use std::alloc::Global;
 use yq_core::lines::split_line;
@@ -20,7 +21,6 @@ use yq_edit_laws::last_step;
 use yq_lookup::CutText;
 use yq_places::{Seam, is_text};
 use yq_semantics::{ExprError, Op};
-use yq_text::Edited;
 
 /// The path of the item or entry that an operation takes out of the collection at some steps, if it does.
 fn taken_from<'o>(op: &'o Op, doc: usize, above: &[Step]) -> Option<&'o Path>
@@ -138,25 +138,9 @@ fn take_rows<'d>(
     Ok(Some(next))
 }
 
-/// The text of a run with the operations that are left.
-fn ended<'o>(run: RemovalRun, left: &'o [Op]) -> Together<'o>
-    ensures text { string_bytes result.edited.text ≡ buffer_text run.text }
-    ensures splices { result.edited.splices.items ≡ run.splices.items }
-    ensures left { result.left.now ≡ left.now }
-{
-    let RemovalRun { text, splices, .. } = run;
-    Together {
-        edited: Edited {
-            text: text.into_string(),
-            splices,
-        },
-        left,
-    }
-}
-
 /// Carries out operations that take items and entries out of a collection with their lines, one before the
 /// other, up to the first one that doesn't, or after which none of these follows.
-fn remove_rows<'d, 'o: 'd>(
+pub(crate) fn remove_rows<'d, 'o: 'd>(
     alloc: Global,
     cut: &CutText<'d, '_>,
     doc: usize,
@@ -164,7 +148,7 @@ fn remove_rows<'d, 'o: 'd>(
     ops: &'o [Op],
 ) -> Result<Together<'o>, ExprError>
     requires { AreServed (operations_of ops.now) cut.now }
-    ensures ok { IfOk result (λ x. spec.CarriesFirst ops.now cut.now x) }
+    ensures ok { IfOk result (λ x. CarriesFirst ops.now cut.now x) }
     ensures err { IfErr result (λ e. EditFails e (carry_all (operations_of ops.now) cut.now)) }
 {
     let mut way = cut.again();
@@ -184,45 +168,10 @@ fn remove_rows<'d, 'o: 'd>(
     Ok(ended(run, rest))
 }
 
-/// The collection out of which the first two of some operations take an item or entry, if that has lines of
-/// its own.
-fn common_collection<'d, 'o: 'd>(
-    alloc: Global,
-    cut: &CutText<'d, '_>,
-    ops: &'o [Op],
-) -> Option<(usize, &'o [Step])> {
-    let [op, next, ..] = ops else {
-        return None;
-    };
-    let Op::Remove(path) = op else {
-        return None;
-    };
+/// The steps to the collection out of which an operation takes what is at a path, if the next one takes something out of
+/// it too.
+pub(crate) fn common_collection<'o>(path: &'o Path, next: &Op) -> Option<&'o [Step]> {
     let (above, _) = last_step(&path.steps)?;
     taken_from(next, path.doc, above)?;
-    let mut way = cut.again();
-    way.go_to_line(alloc, path);
-    way.removal(path)?;
-    Some((path.doc, above))
-}
-
-/// Carries out operations together that take items and entries out of one block collection with their lines,
-/// one before the other: all up to the last one, or to one of which more changes. Nothing, where the first
-/// one doesn't.
-pub fn carry_beside<'d, 'o: 'd>(
-    alloc: Global,
-    cut: &CutText<'d, '_>,
-    ops: &'o [Op],
-) -> Result<Option<Together<'o>>, ExprError>
-    requires { AreServed (operations_of ops.now) cut.now }
-    ensures ok { IfOk result (λ o. IfSome o (λ x. spec.CarriesFirst ops.now cut.now x)) }
-    ensures err { IfErr result (λ e. EditFails e (carry_all (operations_of ops.now) cut.now)) }
-{
-    let Some((doc, above)) = common_collection(alloc, cut, ops) else {
-        return Ok(None);
-    };
-    let together = remove_rows(alloc, cut, doc, above, ops)?;
-    if together.left.len() == ops.len() {
-        return Ok(None);
-    }
-    Ok(Some(together))
+    Some(above)
 }

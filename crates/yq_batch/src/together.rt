@@ -1,18 +1,18 @@
-//! Values that an update puts in the flow collections of one head, and items and entries that it puts into
-//! these: they are carried out together, and the head is read once.
-ghost use Rattle.std.specs.Prelude.{◌≡◌, ◌++◌, true, map, IfErr, IfOk, IfSome};
+//! Operations carried out together: how is found once, of the first one and of which others there are.
+ghost use Rattle.std.specs.Prelude.{IfErr, IfOk, IfSome, List, ℕ};
 ghost use Rattle.yq_semantics.specs.Operations.{operations_of};
 ghost use Rattle.yq_edit_laws.{specs.Answers.EditFails, specs.Carried.carry_all, specs.Valid.AreServed};
-ghost use Rattle.yq_batch.{specs.RemovalRuns.CarriesTogether, specs.Runs.IsInText};
+ghost use Rattle.yq_batch.specs.Runs.{IsFoundHead};
+ghost use Rattle.yq_batch.specs.Together as spec;
 
-use crate::adding::{FilledRun, carry_next};
-use crate::head::{HeadInText, text_around};
-use crate::near::Near;
+use crate::any_row::carry_in_any_row;
+use crate::head::{FoundHead, HeadInText, head_for, is_in_head};
+use crate::heads::put_in_heads;
+use crate::in_rows::carry_in_rows;
 use crate::removals::remove_each;
-use crate::unordered::put_in_any_order;
-use std::alloc::Global;
+use crate::row_removals::{common_collection, remove_rows};
+use std::alloc::{AllocError, Global};
 use yq_core::Step;
-use yq_edit_laws::last_step;
 use yq_lookup::CutText;
 use yq_semantics::{ExprError, Op};
 use yq_text::Edited;
@@ -21,109 +21,103 @@ use yq_text::Edited;
 #[derive(Drop)]
 pub struct Together<'o> {
     pub edited: Edited,
-    /// The operation that isn't carried out, if the last one isn't.
+    /// The operations that aren't carried out.
     pub left: &'o [Op],
 }
 
-/// Carries out operations that change the collections of a head; nothing, where one of them does
-/// something else, or is in front of one before it.
-fn put_each<'s>(
-    alloc: Global,
-    at: &HeadInText<'_, '_, '_, '_, '_, '_>,
-    ops: &'s [Op],
-) -> Result<Option<Together<'s>>, ExprError>
-    requires there { IsInText at.now }
-    requires serves { AreServed (operations_of ops.now) at.now.cut.now }
-    ensures ok { IfOk result (CarriesTogether ops.now at.now.cut.now) }
-    ensures err { IfErr result (λ e. EditFails e
-        (carry_all (operations_of ops.now) at.now.cut.now)) }
-{
-    let mut run = FilledRun::new(alloc);
-    let mut near = Near::new(alloc, false)?;
-    let mut rest = ops;
-    'operations: while let [op, after @ ..] = rest {
-        if !carry_next(alloc, at, op, &mut run, &mut near)? {
-            return Ok(None);
+/// How operations are carried out together.
+#[derive(Drop)]
+pub(crate) enum HowCarried<'o, 't> {
+    /// They put values in flow collections, and items and entries into these: the first one in a head.
+    InHeads(FoundHead<'o, 't>),
+    /// They take items and entries out of the flow collections of a head.
+    OutOfHead(FoundHead<'o, 't>),
+    /// The first ones take lines out of the block collection at steps of a document.
+    OutOfRows(usize, &'o [Step]),
+    /// Each changes one row.
+    InRows,
+    /// They put values in rows of a mapping, and entries at its end.
+    InMapping,
+}
+
+/// Whether operations, all but perhaps the last one, may change collections of a head.
+fn are_in_head(ops: &[Op], head: &FoundHead<'_, '_>) -> bool {
+    'operations: for i in 0..ops.len() {
+        if !is_in_head(&ops[i], head.doc, head.stem) {
+            return i + 1 == ops.len();
         }
-        rest = after;
     }
-    let edited = run.run.end(text_around(at))?;
-    Ok(Some(Together { edited, left: rest }))
+    true
 }
 
-/// Carries out operations that change the collections of a head, each after the one before it in the text or in any
-/// order; nothing, where one of them does something else, or changes what another one put.
-fn put_all<'s>(
-    alloc: Global,
-    at: &HeadInText<'_, '_, '_, '_, '_, '_>,
-    ops: &'s [Op],
-) -> Result<Option<Together<'s>>, ExprError>
-    requires there { IsInText at.now }
-    requires serves { AreServed (operations_of ops.now) at.now.cut.now }
-    ensures ok { IfOk result (CarriesTogether ops.now at.now.cut.now) }
-    ensures err { IfErr result (λ e. EditFails e
-        (carry_all (operations_of ops.now) at.now.cut.now)) }
+/// How operations are carried out of which the first one changes a collection of a head.
+fn how_in_head<'o, 't>(head: FoundHead<'o, 't>, ops: &[Op]) -> Option<HowCarried<'o, 't>>
+    ensures { (t : List ℕ) → IsFoundHead t head.entry → IfSome result (spec.IsHow t) }
 {
-    let found = put_each(alloc, at, ops)?;
-    if let Some(together) = found {
-        return Ok(Some(together));
+    let [Op::Remove(_), ..] = ops else {
+        return Some(HowCarried::InHeads(head));
+    };
+    if !are_in_head(ops, &head) {
+        return None;
     }
-    Ok(put_in_any_order(alloc, at, ops)?)
+    Some(HowCarried::OutOfHead(head))
 }
 
-/// Carries out operations together in a head, as the first one asks for.
-fn carry_in_head<'o>(
+/// How operations are carried out that change rows, if none takes something out.
+fn how_in_rows<'o, 't>(ops: &[Op]) -> Option<HowCarried<'o, 't>>
+    ensures { (t : List ℕ) → IfSome result (spec.IsHow t) }
+{
+    let mut adds = false;
+    'operations: for op in ops {
+        match op {
+            Op::Remove(_) => return None,
+            Op::Append(_, _, _) => adds = true,
+            Op::Replace(_, _) | Op::LineComment(_, _) | Op::HeadComment(_, _) => {}
+        }
+    }
+    if adds {
+        return Some(HowCarried::InMapping);
+    }
+    Some(HowCarried::InRows)
+}
+
+/// How operations are carried out together, if they may be: by what the first one changes, and which others there are.
+fn how_carried<'o, 't>(
     alloc: Global,
-    at: &HeadInText<'_, '_, '_, '_, '_, '_>,
+    cut: &CutText<'_, 't>,
     ops: &'o [Op],
-) -> Result<Option<Together<'o>>, ExprError>
-    requires there { IsInText at.now }
-    requires serves { AreServed (operations_of ops.now) at.now.cut.now }
-    ensures ok { IfOk result (CarriesTogether ops.now at.now.cut.now) }
-    ensures err { IfErr result (λ e. EditFails e
-        (carry_all (operations_of ops.now) at.now.cut.now)) }
+) -> Result<Option<HowCarried<'o, 't>>, AllocError>
+    ensures { IfOk result (λ o. IfSome o (spec.IsHow cut.now)) }
 {
-    match ops {
-        [Op::Remove(_), ..] => remove_each(alloc, at, ops),
-        _ => put_all(alloc, at, ops),
+    let [first, next, ..] = ops else {
+        return Ok(None);
+    };
+    let found = head_for(alloc, cut, first)?;
+    if let Some(head) = found {
+        return Ok(how_in_head(head, ops));
     }
+    let Op::Remove(path) = first else {
+        return Ok(how_in_rows(ops));
+    };
+    let Some(above) = common_collection(path, next) else {
+        return Ok(None);
+    };
+    Ok(Some(HowCarried::OutOfRows(path.doc, above)))
 }
 
-/// The document and the steps of the collection that an operation may change in a head, if it is one that
-/// is carried out with others.
-pub(crate) fn changed_collection(op: &Op) -> Option<(usize, &[Step])> {
-    match op {
-        Op::Replace(path, _) | Op::Remove(path) => match last_step(&path.steps) {
-            Some((above, _)) => Some((path.doc, above)),
-            None => None,
-        },
-        Op::Append(path, _, _) => Some((path.doc, path.steps.as_slice())),
-        Op::LineComment(_, _) | Op::HeadComment(_, _) => None,
-    }
-}
-
-/// Carries out operations together that put values in the flow collections of one head, or items and
-/// entries into these, one after the other, or take some out of them, one before the other: all or all but
-/// the last one, as one that leaves a collection empty. Nothing, where they don't.
-pub fn carry_together<'o>(
+/// Carries out operations that take items and entries out of the collections of a head.
+fn remove_in_head<'o>(
     alloc: Global,
     cut: &CutText<'_, '_>,
+    found: FoundHead<'o, '_>,
     ops: &'o [Op],
 ) -> Result<Option<Together<'o>>, ExprError>
-    requires { AreServed (operations_of ops.now) cut.now }
-    ensures ok { IfOk result (CarriesTogether ops.now cut.now) }
+    requires head { IsFoundHead cut.now found }
+    requires serves { AreServed (operations_of ops.now) cut.now }
+    ensures ok { IfOk result (spec.CarriesTogether ops.now cut.now) }
     ensures err { IfErr result (λ e. EditFails e (carry_all (operations_of ops.now) cut.now)) }
 {
-    let [op, _, ..] = ops else {
-        return Ok(None);
-    };
-    let Some((doc, steps)) = changed_collection(op) else {
-        return Ok(None);
-    };
-    let Some(head) = cut.flow_head(alloc, doc, steps)? else {
-        return Ok(None);
-    };
-    let (stem, _) = steps.split_at(steps.len() - head.left.len());
+    let FoundHead { doc, stem, head } = found;
     let _text = cut.text();
     let at = HeadInText {
         cut,
@@ -131,5 +125,29 @@ pub fn carry_together<'o>(
         stem,
         head,
     };
-    carry_in_head(alloc, &at, ops)
+    Ok(Some(remove_each(alloc, &at, ops)?))
+}
+
+/// Carries out operations together, in one pass over the text: all, or the first ones. Nothing, where that isn't known of
+/// them, or one of them does something else than it seemed.
+pub fn carry_together<'d, 'o: 'd>(
+    alloc: Global,
+    cut: &CutText<'d, '_>,
+    ops: &'o [Op],
+) -> Result<Option<Together<'o>>, ExprError>
+    requires { AreServed (operations_of ops.now) cut.now }
+    ensures ok { IfOk result (spec.CarriesTogether ops.now cut.now) }
+    ensures err { IfErr result (λ e. EditFails e (carry_all (operations_of ops.now) cut.now)) }
+{
+    let found = how_carried(alloc, cut, ops)?;
+    let Some(how) = found else {
+        return Ok(None);
+    };
+    match how {
+        HowCarried::InHeads(head) => put_in_heads(alloc, cut, head, ops),
+        HowCarried::OutOfHead(head) => remove_in_head(alloc, cut, head, ops),
+        HowCarried::OutOfRows(doc, above) => Ok(Some(remove_rows(alloc, cut, doc, above, ops)?)),
+        HowCarried::InRows => carry_in_rows(alloc, cut, ops),
+        HowCarried::InMapping => Ok(carry_in_any_row(alloc, cut, ops)?),
+    }
 }

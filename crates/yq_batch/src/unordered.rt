@@ -3,14 +3,15 @@
 ghost use Rattle.std.specs.Prelude.{IfOk, IfSome};
 ghost use Rattle.yq_semantics.specs.Operations.{operations_of};
 ghost use Rattle.yq_edit_laws.specs.Valid.{AreServed, HaveOperands};
-ghost use Rattle.yq_batch.{specs.RemovalRuns.CarriesTogether, specs.Runs.IsInText};
+ghost use Rattle.yq_batch.{specs.Runs.IsInText, specs.Together.CarriesTogether};
 ghost use Rattle.yq_batch.specs.OpenRuns as spec;
 
 use crate::any_order::{SlotRun, ended};
 use crate::change::change_of;
 use crate::head::{HeadInText, text_around};
 use crate::near::Near;
-use crate::slots::{SlotPlace, are_in_order, each_once, slots_at};
+use crate::slot_order::{are_in_order, each_once};
+use crate::slots::{SlotPlace, slots_at};
 use crate::together::Together;
 use std::alloc::{AllocError, Global};
 use yq_semantics::Op;
@@ -32,8 +33,7 @@ fn places_of<'s>(
         let Some(change) = found else {
             return Ok(None);
         };
-        let place = change.place;
-        places.push((place.start, place.end, place.more))?;
+        places.push(change.place)?;
         rest = after;
     }
     places.sort_unstable();

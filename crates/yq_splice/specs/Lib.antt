@@ -2,5 +2,5 @@ pub mod Answers
 pub mod Session
 pub mod TouchedLines
 pub mod Parts
-pub mod ByLines
+pub mod Others
 pub mod Updates

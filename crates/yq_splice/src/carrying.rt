@@ -1,5 +1,5 @@
 //! Carrying out: operations done on a text, one after the other.
-ghost use Rattle.std.specs.Prelude.{◌≡◌, ◌≤◌, ◌++◌, length, Some, IfErr, IfOk, IfSome, string_bytes};
+ghost use Rattle.std.specs.Prelude.{◌≡◌, ◌++◌, Some, IfErr, IfOk, IfSome, string_bytes};
 ghost use Rattle.yq_semantics.specs.Operations.{operation_of, operations_of};
 ghost use Rattle.yq_documents.specs.Reading.{cut_of, read_at};
 ghost use Rattle.yq_row_table.specs.View.{rows_view};
@@ -8,10 +8,10 @@ ghost use Rattle.yq_edit_laws.{specs.Theorems.{HasReading, IsApplied, IsFitting,
 ghost use Rattle.yq_splice.specs.Session.{HasPlaces};
 ghost use Rattle.yq_edit_laws.specs.Carried as spec;
 
-use crate::by_lines::carry_by_lines;
+use crate::others::{is_worth, with_others};
 use crate::session::Session;
 use std::alloc::{AllocError, Global};
-use yq_batch::{Together, carry_together};
+use yq_batch::carry_together;
 use yq_core::ReadError;
 use yq_documents::Documents;
 use yq_edit_laws::operand_holds;
@@ -98,25 +98,8 @@ pub(crate) fn edited_behind(splices: Vec<Splice>, edited: Edited) -> Result<Edit
     Ok(Edited { text, splices })
 }
 
-/// What operations that were carried out together give, with the one that is left.
-pub(crate) fn with_last(alloc: Global, together: Together<'_>) -> Result<Edited, ExprError>
-    requires few { length together.left.now ≤ 1 }
-    requires serves { AreServed (operations_of together.left.now) (string_bytes together.edited.text) }
-    ensures { Edits result (edit_after together.entry.edited.splices.items (spec.carry_all
-        (operations_of together.entry.left.now) (string_bytes together.entry.edited.text))) }
-{
-    let Together { edited, left } = together;
-    let [op, ..] = left else {
-        return Ok(edited);
-    };
-    let Edited { text, splices } = edited;
-    let last = carry(alloc, text.as_str(), op)?;
-    Ok(edited_behind(splices, last)?)
-}
-
-/// Operations carried out on a text with its cut, where no rows follow each of them: a sole one, operations in
-/// one flow collection, operations that take lines out of one block collection, or that each change one row;
-/// nothing, where they are others.
+/// Operations carried out on a text with its cut, where no rows follow each of them: a sole one, or those that are
+/// carried out together; nothing, where these are few.
 fn carry_at_once<'d>(
     alloc: Global,
     cut: &CutText<'d, '_>,
@@ -134,11 +117,14 @@ fn carry_at_once<'d>(
         return Ok(Some(edited));
     }
     let found = carry_together(alloc, cut, ops)?;
-    if let Some(together) = found {
-        let carried = with_last(alloc, together)?;
-        return Ok(Some(carried));
+    let Some(together) = found else {
+        return Ok(None);
+    };
+    if together.left.len() > 1 && !is_worth(ops.len(), together.left.len()) {
+        return Ok(None);
     }
-    carry_by_lines(alloc, cut, ops)
+    let carried = with_others(alloc, ops.len(), together)?;
+    Ok(Some(carried))
 }
 
 /// Operations carried out one by one on a copy of a text that was read; their splices come after others.

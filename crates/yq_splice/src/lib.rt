@@ -2,11 +2,11 @@
 #![tactic(auto)]
 
 mod borrowed;
-mod by_lines;
 mod carrying;
 pub mod edit_laws;
 mod editing;
 mod in_parts;
+mod others;
 mod session;
 mod updating;
 

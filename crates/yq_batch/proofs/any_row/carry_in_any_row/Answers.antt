@@ -1,14 +1,17 @@
-use Rattle.std.{proofs.Common.{◌≡◌, ◌∙◌, ℕ, List, Some, sym, ap, subst, string_bytes, arith}, specs.Str.IsCharBoundary}
+use Rattle.std.{proofs.Common.{◌≡◌, ◌∙◌, ℕ, List, Some, refl, sym, ap, subst, string_bytes}, specs.Str.IsCharBoundary}
 use Rattle.std.proofs.lemmas.Str.{IsCharBoundary-start}
 use Rattle.yq_text.specs.Halves.{whole}
 use Rattle.yq_row_table.specs.Rows.{cut_text}
 use Rattle.yq_documents.specs.Reading.{cut_of, read_at}
-use Rattle.yq_semantics.specs.Operations.{operation_of}
-use Rattle.yq_edit_laws.{proofs.CutLaws.text_read, proofs.FlowAnswers.whole_text, specs.Edit.gives}
-use Rattle.yq_edit_laws.proofs.OperationsLaws.{first_fits, none_come, others_come, others_served}
+use Rattle.yq_semantics.specs.Operations.{operation_of, operations_of}
+use Rattle.yq_edit_laws.{proofs.CutLaws.text_read, proofs.FlowAnswers.whole_text, specs.Carried.carry_all}
+use Rattle.yq_edit_laws.proofs.OperationsLaws.{first_fits, others_come, others_served}
 use Rattle.yq_batch.{specs.OpenRuns.{MayWrite, open_text}, specs.Slots.{slots_of, text_from}}
-use Rattle.yq_batch.proofs.RowOpenAnswers.{change_edges, first_put, opens_change}
+use Rattle.yq_batch.{proofs.RowOpenAnswers.{change_edges, first_put, opens_change}, proofs.CarriedFirst.carries_some}
 use Rattle.yq_batch.proofs.any_row.carry_in_any_row.Goals as goal
+
+pub begun-requires : goal.begun-requires
+begun-requires c = c.requires.1.operands
 
 pub put_in_rows-requires-clause-start : goal.put_in_rows-requires-clause-start
 put_in_rows-requires-clause-start c =
@@ -61,7 +64,6 @@ pub returns : goal.returns
 returns c =
     let t : List ℕ = c.args.cut.now in
     let all : whole c.text-text.result ≡ cut_text (cut_of t) = whole_text t (whole c.text-text.result) c.text-text.ensures.read c.text-text.ensures.text in
-    let text : string_bytes c.in_ok-ended.field-0.text ≡ open_text (cut_of t) c.operations.run = c.in_ok-ended.ensures.text ∙ ap (λ (l : List ℕ). text_from l 0 (slots_of c.operations.run.slots)) all in
-    sym c.operations.invariant.whole
-    ∙ (none_come c.operations.rest.now (open_text (cut_of t) c.operations.run) c.operations.run.splices.items (omega (arith, c.in_default-rest.len_below))
-    ∙ λ i. gives (sym text i) (sym c.in_ok-ended.ensures.splices i))
+    let text : string_bytes c.in_ok-edited.edited.text ≡ open_text (cut_of t) c.operations.run = c.in_ok-edited.ensures.text ∙ ap (λ (l : List ℕ). text_from l 0 (slots_of c.operations.run.slots)) all in
+    carries_some c.operations.rest.now (open_text (cut_of t) c.operations.run) c.operations.run.splices.items (carry_all (operations_of c.args.ops.now) t) _ refl text c.in_ok-edited.ensures.splices
+    c.operations.invariant.whole c.operations.invariant.serves

@@ -23,4 +23,4 @@ returns-clause-puts c e is_end =
     subst (λ (u : List ℕ). IsWrittenSo (node_in path.doc (steps_of path) (cut_of u)) (value_node c.in-Replace.value) c.in-Some.at.head.now (bytes_in string_bytes c.in_ok-written.written)) c.in-Some.ensures.same c.in_ok-written.ensures in
     puts_here t (operation_of c.args.op.now) path.doc c.args.doc c.args.end.now e (steps_of path) (value_node c.in-Replace.value) c.in-Some.at _ doc
     is_end (c.is_before_end.ensures c.if-not-is_before_end.false) (ap operation_of c.in-Replace.is) read c.in-Some.ensures.row c.if-not-at.false
-    (sym c.is_filled.ensures ∙ c.if-is_filled.false) c.operand_holds.ensures refl refl refl refl written
+    (sym c.is_filled.ensures ∙ c.if-is_filled.false) c.requires refl refl refl refl written

@@ -1,7 +1,10 @@
 use Rattle.std.proofs.Common.{◌≡◌, ◌∙◌, List, ℕ, subst, arith}
 use Rattle.yq_documents.specs.Reading.{cut_of}
-use Rattle.yq_batch.{specs.OpenRows.MayDo, proofs.RowOpenAnswers.puts_set}
+use Rattle.yq_batch.{specs.OpenRows.MayDo, proofs.RowOpenAnswers.{operand_at, puts_set}}
 use Rattle.yq_batch.proofs.any_row.puts_inside.Goals as goal
+
+pub change_inside-requires : goal.change_inside-requires
+change_inside-requires c = operand_at c.args.ops.now _ c.index-ops-number.result c.index-ops-number.is (omega (arith, c.if-number-ops.false)) c.requires
 
 pub rows-preserved : goal.rows-preserved
 rows-preserved c =

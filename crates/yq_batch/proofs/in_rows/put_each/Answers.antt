@@ -1,13 +1,12 @@
-use Rattle.std.{proofs.Common.{◌≡◌, ◌∙◌, ℕ, ◌<◌, ◌^◌, List, length, Option, sym, subst, ap, arith}, specs.Prelude.IfSome}
+use Rattle.std.{proofs.Common.{◌≡◌, ◌∙◌, ℕ, ◌<◌, ◌^◌, List, length, Option, refl, sym, subst, ap}, specs.Prelude.IfSome}
 use Rattle.std.{specs.String.string_bytes, specs.Str.IsCharBoundary, proofs.lemmas.Result.err_from_is_err_and}
 use Rattle.yq_documents.specs.Reading.{cut_of}
-use Rattle.yq_edit_laws.{proofs.CutLaws.text_small, specs.Carried.{carry_all, carried}, specs.Edit.{edit_after, gives}}
-use Rattle.yq_edit_laws.specs.Valid.{AreServed}
-use Rattle.yq_edit_laws.proofs.OperationsLaws.{others_come, others_served, first_fails, first_fits, first_operand, none_come}
-use Rattle.yq_edit_laws.{proofs.OrderLaws.behind_none, proofs.FlowAnswers.whole_text, specs.Answers.EditFails, specs.Theorems.IsFitting}
+use Rattle.yq_edit_laws.{proofs.CutLaws.text_small, specs.Carried.{carry_all, carried}, specs.Valid.AreServed}
+use Rattle.yq_edit_laws.proofs.OperationsLaws.{others_come, others_served, first_fails, first_fits, first_operand}
+use Rattle.yq_edit_laws.{proofs.FlowAnswers.whole_text, specs.Answers.EditFails, specs.Theorems.IsFitting}
 use Rattle.yq_semantics.specs.Operations.{operation_of, operations_of}
 use Rattle.yq_batch.{specs.RowRuns.{RowsGoOn, IsRowsRun}, specs.Runs.{now_text, text_with_run}, proofs.RowRunAnswers.rows_begin}
-use Rattle.yq_batch.proofs.RunAnswers.{begins_with}
+use Rattle.yq_batch.{proofs.RunAnswers.begins_with, proofs.CarriedFirst.{all_begin, carries_some}}
 use Rattle.yq_text.specs.Halves.{whole}
 use Rattle.yq_row_table.specs.Rows.{cut_text}
 use Rattle.yq_batch.proofs.in_rows.put_each.Goals as goal
@@ -22,7 +21,7 @@ operations-init c =
     let text : now_text (cut_of t) c.in_ok-run.run' ≡ t = begins_with t c.in_ok-run.run' c.text-text.ensures.read new.text new.done in
     record {
       same = c.again-way.ensures;
-      whole = (λ i. edit_after (new.splices i) (carry_all (operations_of c.args.ops.now) (text i))) ∙ behind_none (carry_all (operations_of c.args.ops.now) t);
+      whole = all_begin t c.in_ok-run.run' c.args.ops.now c.text-text.ensures.read new.text new.done new.splices;
       serves = subst (AreServed (operations_of c.args.ops.now)) (sym text) c.requires;
       runs = rows_begin t c.in_ok-run.run' c.text-text.ensures.read new.text new.done;
     }
@@ -72,6 +71,6 @@ pub returns-clause-ok : goal.returns-clause-ok
 returns-clause-ok c =
     let t : List ℕ = c.args.cut.now in
     let same : whole c.text-text.result ≡ cut_text (cut_of t) = whole_text t (whole c.text-text.result) c.text-text.ensures.read c.text-text.ensures.text in
-    sym c.operations.invariant.whole
-    ∙ (none_come c.operations.rest.now (now_text (cut_of t) c.operations.run) c.operations.run.splices.items (omega (arith, c.in_default-rest.len_below))
-    ∙ λ i. gives (sym (c.in_ok-end.ensures.text ∙ ap (λ (l : List ℕ). text_with_run l (string_bytes c.operations.run.text) c.operations.run.done) same) i) (sym c.in_ok-end.ensures.splices i))
+    let text = c.in_ok-edited.ensures.text ∙ ap (λ (l : List ℕ). text_with_run l (string_bytes c.operations.run.text) c.operations.run.done) same in
+    carries_some c.operations.rest.now (now_text (cut_of t) c.operations.run) c.operations.run.splices.items (carry_all (operations_of c.args.ops.now) t) _ refl text c.in_ok-edited.ensures.splices
+    c.operations.invariant.whole c.operations.invariant.serves

@@ -2,7 +2,7 @@ use Rattle.std.{proofs.Common.{Option, subst, arith}, proofs.lemmas.Result.err_f
 use Rattle.yq_text.specs.Halves.{whole}
 use Rattle.yq_documents.specs.Reading.{cut_of}
 use Rattle.yq_semantics.specs.Operations.{operation_of}
-use Rattle.yq_batch.{specs.RowRuns.PutsInRow, specs.declared.in_rows.RowPut.RowPut}
+use Rattle.yq_batch.{specs.RowRuns.PutsInRow, specs.declared.row_put.RowPut.RowPut}
 use Rattle.yq_batch.proofs.RowRunAnswers.{row_edge, row_ends, row_kept_on, row_order, row_put_fails, row_put_on, row_starts}
 use Rattle.yq_batch.proofs.in_rows.put_one.Goals as goal
 

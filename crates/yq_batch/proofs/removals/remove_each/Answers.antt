@@ -1,10 +1,10 @@
-use Rattle.std.{proofs.Common.{◌≡◌, ◌∙◌, ℕ, List, Option, length, refl, sym, ap, subst}, specs.Prelude.IfSome}
+use Rattle.std.{proofs.Common.{◌≡◌, ◌∙◌, ℕ, List, Option, length, sym, ap, subst}, specs.Prelude.IfSome}
 use Rattle.yq_text.specs.TextGapBuffer.{buffer_text}
 use Rattle.yq_semantics.specs.Operations.{operation_of, operations_of}
 use Rattle.yq_edit_laws.{specs.Carried.carry_all, specs.Edit.edit_after, specs.Valid.AreServed}
 use Rattle.yq_edit_laws.{proofs.OperationsLaws.{first_fits, others_come, others_served}, proofs.OrderLaws.behind_none}
 use Rattle.yq_batch.{specs.Runs.{cut_with, stem_of}, specs.RemovalRuns.RemovesOn, specs.declared.gone.LeftOf.LeftOf}
-use Rattle.yq_batch.proofs.RemovalAnswers.{ended_on, removals_begin}
+use Rattle.yq_batch.proofs.RemovalAnswers.{removals_begin}
 use Rattle.yq_batch.proofs.removals.remove_each.Goals as goal
 
 pub operations-init : goal.operations-init
@@ -19,9 +19,6 @@ operations-init c =
 
 pub remove_one-requires-clause-fits : goal.remove_one-requires-clause-fits
 remove_one-requires-clause-fits c = first_fits c.operations.rest.now c.op-item.result (buffer_text c.operations.run.text) c.in-len1-up.len_at_least c.op-item.is c.operations.invariant.serves
-
-pub returns-clause-ok : goal.returns-clause-ok
-returns-clause-ok c = ended_on c.args.ops.now c.operations.rest.now c.args.at.now.cut.now c.operations.run c.operations.run refl c.operations.invariant.whole c.operations.invariant.serves c.ended-2.result c.ended-2.ensures
 
 pub operations-preserved : goal.operations-preserved
 operations-preserved c =

@@ -1,10 +1,10 @@
-use Rattle.std.{proofs.Common.{◌≡◌, ◌∙◌, ℕ, List, Option, sym, ap, subst, string_bytes, arith}, specs.Prelude.IfSome}
+use Rattle.std.{proofs.Common.{◌≡◌, ◌∙◌, ℕ, List, Option, refl, sym, ap, subst, string_bytes}, specs.Prelude.IfSome}
 use Rattle.yq_text.specs.Halves.{whole}
 use Rattle.yq_semantics.specs.Operations.{operation_of, operations_of}
-use Rattle.yq_edit_laws.{specs.Carried.carry_all, specs.Edit.edit_after, specs.Valid.AreServed}
-use Rattle.yq_edit_laws.proofs.OperationsLaws.{first_fits, first_operand, others_come, others_served}
+use Rattle.yq_edit_laws.{specs.Carried.carry_all, proofs.OperationsLaws.{first_fits, first_operand, others_come, others_served}}
 use Rattle.yq_batch.{specs.OpenRuns.{MayWrite, open_text}, specs.Runs.{ChangesAt, cut_with}, specs.Slots.{slots_of, text_from}}
-use Rattle.yq_batch.{specs.declared.change.HeadChange.HeadChange, proofs.RunAnswers.lies_in, proofs.UnorderedAnswers.{open_starts, opens}}
+use Rattle.yq_batch.{specs.declared.change.HeadChange.HeadChange, proofs.CarriedFirst.carries_some, proofs.RunAnswers.lies_in}
+use Rattle.yq_batch.proofs.UnorderedAnswers.{open_starts, opens}
 use Rattle.yq_batch.proofs.unordered.put_in_any_order.Goals as goal
 
 pub begun-requires-clause-operands : goal.begun-requires-clause-operands
@@ -64,8 +64,5 @@ pub returns : goal.returns
 returns c =
     let text : string_bytes c.in_ok-edited.edited.text ≡ open_text (cut_with c.args.at.now) c.operations.run =
     c.in_ok-edited.ensures.text ∙ ap (λ (l : List ℕ). text_from l 0 (slots_of c.operations.run.slots)) c.text_around-text.ensures in
-    record {
-      few = omega arith;
-      whole = (λ i. edit_after (c.in_ok-edited.ensures.splices i) (carry_all (operations_of c.operations.rest.now) (text i))) ∙ c.operations.invariant.whole;
-      serves = subst (AreServed (operations_of c.operations.rest.now)) (sym text) c.operations.invariant.serves;
-    }
+    carries_some c.operations.rest.now (open_text (cut_with c.args.at.now) c.operations.run) c.operations.run.splices.items (carry_all (operations_of c.args.ops.now) c.args.at.now.cut.now) _ refl text
+    c.in_ok-edited.ensures.splices c.operations.invariant.whole c.operations.invariant.serves

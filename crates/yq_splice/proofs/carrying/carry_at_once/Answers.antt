@@ -1,8 +1,8 @@
 use Rattle.std.proofs.Common.{◌≡◌, List, ◌<◌, ◌-◌, length, take, drop, length-take, sym, ap, ◌∙◌, subst, arith}
-use Rattle.std.{proofs.lemmas.Result.err_from_is_err_and, specs.Prelude.{IfSome, Option, string_bytes}}
+use Rattle.std.proofs.lemmas.Result.{err_from_is_err_and}
 use Rattle.yq_semantics.specs.Operations.{operation_of}
 use Rattle.yq_edit_laws.{specs.Answers.EditFails, specs.Carried.carry_one, specs.Edit.by_reading, proofs.OperationsLaws.last_comes}
-use Rattle.yq_batch.{specs.RemovalRuns.CarriesOn, specs.declared.together.Together.Together}
+use Rattle.yq_batch.specs.Together.{CarriesTogether}
 use Rattle.yq_splice.proofs.carrying.carry_at_once.Goals as goal
 
 -- a sole operation is the last one
@@ -22,23 +22,18 @@ returns-in-len1-clause-ok c =
     sym (last_comes c.args.ops.now c.op-item.result c.args.cut.now c.in-len1.len_at_least c.op-item.is (sole c.args.ops.now c.in-len1.len_below))
     ∙ (ap (by_reading (carry_one (operation_of c.op-item.result))) c.requires.read ∙ c.in_ok-edited.ensures)
 
-pub with_last-requires-clause-few : goal.with_last-requires-clause-few
-with_last-requires-clause-few c =
-    let h = subst (λ (o : Option Together). IfSome o (λ x. CarriesOn c.args.ops.now c.args.cut.now x.left.now (string_bytes x.edited.text) x.edited.splices.items)) c.in-Some.is c.in_ok-found.ensures.ok in
-    h.few
-
-pub with_last-requires-clause-serves : goal.with_last-requires-clause-serves
-with_last-requires-clause-serves c =
-    let h = subst (λ (o : Option Together). IfSome o (λ x. CarriesOn c.args.ops.now c.args.cut.now x.left.now (string_bytes x.edited.text) x.edited.splices.items)) c.in-Some.is c.in_ok-found.ensures.ok in
+pub with_others-requires : goal.with_others-requires
+with_others-requires c =
+    let h = subst (CarriesTogether c.args.ops.now c.args.cut.now) c.in-Some.is c.in_ok-found.ensures.ok in
     h.serves
 
-pub returns-in-Some-clause-ok : goal.returns-in-Some-clause-ok
-returns-in-Some-clause-ok c =
-    let h = subst (λ (o : Option Together). IfSome o (λ x. CarriesOn c.args.ops.now c.args.cut.now x.left.now (string_bytes x.edited.text) x.edited.splices.items)) c.in-Some.is c.in_ok-found.ensures.ok in
+pub returns-clause-ok : goal.returns-clause-ok
+returns-clause-ok c =
+    let h = subst (CarriesTogether c.args.ops.now c.args.cut.now) c.in-Some.is c.in_ok-found.ensures.ok in
     sym h.whole ∙ c.in_ok-carried.ensures
 
 pub returns-in_err-carried-clause-err : goal.returns-in_err-carried-clause-err
 returns-in_err-carried-clause-err c =
-    let h = subst (λ (o : Option Together). IfSome o (λ x. CarriesOn c.args.ops.now c.args.cut.now x.left.now (string_bytes x.edited.text) x.edited.splices.items)) c.in-Some.is c.in_ok-found.ensures.ok in
+    let h = subst (CarriesTogether c.args.ops.now c.args.cut.now) c.in-Some.is c.in_ok-found.ensures.ok in
     let p = err_from_is_err_and c.from_residual-in_err-carried.result c.from_residual-in_err-carried.ensures.1 in
     rw (p.1, p.2) (subst (EditFails c.in_err-carried.field-0.0) h.whole c.in_err-carried.ensures)

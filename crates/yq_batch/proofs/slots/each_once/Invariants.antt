@@ -1,5 +1,0 @@
-use Rattle.std.proofs.Common.{length}
-use Rattle.yq_batch.proofs.slots.each_once.Given as goal
-
-abbrev pub decreases-places : goal.decreases-places
-decreases-places l = length l.rest
