@@ -3,33 +3,36 @@ use Rattle.std.proofs.Common.{rules, not, ◌==◌, ◌≡◌, ℕ, zero, suc, c
 use Rattle.std.proofs.Common.{slice_get, Option, Some, None, if◌then◌else◌, is_some, option_map, refl, sym, ap, subst, ◌∙◌, arith}
 use Rattle.std.{proofs.Common.{append-nil, append_assoc}, proofs.lemmas.Bool.false≢true, proofs.lemmas.Bool.Decides.nat_tests}
 use Rattle.std.{proofs.lemmas.Option.{none-some, same_Some}, proofs.lemmas.Simd.map-map, specs.List.list_any, specs.Borrow.Bor}
-use Rattle.std.specs.Prelude.{IfSome}
+use Rattle.std.{specs.Prelude.{IfSome, Result, Ok, Err}, specs.declared.alloc.AllocError.AllocError}
 use Rattle.yq_core.{specs.Scalar.ScalarText, specs.Entries.tree_step, specs.Anchors.names_of, specs.Shapes.{AreEntries, AreItems, IsTree}}
 use Rattle.yq_core.specs.Paths.{Step, To, Nth, child_at, is_item, key_is, node_at}
 use Rattle.yq_core.specs.Tree.{Node, scalar, list, Children, none, child, children_of}
-use Rattle.yq_semantics.{specs.View.{stage_of, term_of, program_step}, specs.declared.program.CommentPlace.CommentPlace}
+use Rattle.yq_semantics.{specs.View.{stage_of, term_of, program_step, update_of}, specs.declared.program.CommentPlace.CommentPlace}
 use Rattle.yq_semantics.specs.Judgement.{Judgement, and_then, gives, refuses}
 use Rattle.yq_semantics.specs.Changes.{replaces, Changed, Room, allowed, at_each, changes_at, changes_in, can_be_comment, has_comment}
 use Rattle.yq_semantics.specs.Changes.{is_too_deep, is_too_long, is_used_in, is_used_inside, put_with_path, takes_used, update_changes}
 use Rattle.yq_semantics.{specs.Fits.IsBelow, specs.Meaning.{AreReady, all_changed, changed_at_once, meaning, placed_edit}}
-use Rattle.yq_semantics.{specs.NodeEdits.done_by, specs.Operations.Operation, specs.Pipes.places}
+use Rattle.yq_semantics.{specs.NodeEdits.done_by, specs.Operations.{Operation, operation_of}, specs.Pipes.places}
 use Rattle.yq_semantics.{specs.Plans.{all_ops, comment_op, is_removal, plan}, specs.Places.{FoundPlace, step_there, traverse}}
 use Rattle.yq_semantics.specs.Program.{PathStep, key, index, Stage, path, literal, Update, UpdatesHold, assign, delete, comment}
 use Rattle.yq_semantics.{specs.Rooms.room_of, specs.declared.refusal.Refusal.TheVariants.BadCommentText}
 use Rattle.yq_semantics.{proofs.ChildPlaces.{child_tree, children_tree}, proofs.JudgementLaws.{gives_same, then_gives}}
 use Rattle.yq_semantics.{proofs.RoomLaws.rooms_are_ready, proofs.updates.Aliases.{AllWriteNone, WritesNone, all_bring, at_once_no_more}}
 use Rattle.yq_semantics.{proofs.updates.Each.each_weaker, proofs.updates.FitChanges.update_fit, proofs.updates.FitsInOrder.MayChange}
-use Rattle.yq_semantics.proofs.updates.Mentions.{in_less}
+use Rattle.yq_semantics.{proofs.updates.Mentions.in_less, specs.declared.op.Op.Op}
 use Rattle.yq_documents.{specs.Documents.Document, specs.Reading.{documents_of, cut_of, read_at}, proofs.ReadLaws.read_takes}
 use Rattle.yq_documents.proofs.ReadyLaws.{read_ready}
 use Rattle.yq_outline.{proofs.ShapeLaws.{shaped_by_lines, shaped_is_tree}, specs.Names.is_reference}
 use Rattle.yq_places.specs.NodesAt.{NodeAt, node_in, node_summary}
-use Rattle.yq_planner.proofs.UsedLaws.{none_refer, none_used}
-use Rattle.yq_expr.specs.FixedPaths.{AreFixed, CommentsOne, IsFixed, IsFixedOp, FindsNode, IsSole, LeadsToOne, PlansOnly, fixed_step}
+use Rattle.yq_planner.{specs.ValidChanges.HasValidValue, proofs.UsedLaws.{none_refer, none_used}}
+use Rattle.yq_flow_edits.specs.Valued.{IsValueTree}
+use Rattle.yq_expr.specs.FixedPaths.{AreFixed, CommentsOne, IfAny, IsFixed, IsFixedOp, IsOpOf, FindsNode, IsSole, LeadsToOne, PlansOnly}
+use Rattle.yq_expr.specs.FixedPaths.{fixed_step}
 use Rattle.yq_core.specs.declared.path.Step as core_step
 use Rattle.yq_semantics.specs.declared.program.PathStep as declared_step
 use Rattle.yq_semantics.specs.declared.program.Stage as declared_stage
 use Rattle.yq_semantics.specs.declared.program.Term as declared_term
+use Rattle.yq_semantics.specs.declared.program.Update as declared_update
 use Rattle.yq_semantics.specs.Operations as operations
 use Rattle.yq_semantics.specs.declared.program.CommentPlace.TheVariants as comments
 use Rattle.yq_semantics.specs.declared.program.Operator.TheVariants as operator
@@ -127,6 +130,20 @@ module _ (rooms : ℕ → Room) (d : Document) (tree : IsTree d.root) (free : (n
       let at = in_document xs (subst (λ (k : ℕ). LeadsToOne (d ∷ []) k xs) h.first r.0) in
       let room = subst (λ (k : ℕ). (rooms k).has comments.Head xs ≡ true) h.first r.1 in
       ap (λ (w : Update). plan w rooms (d ∷ [])) h.is ∙ (comment_planned h.left xs at.0 comments.Head text h.can h.fixed at.1 room ∙ (λ i. gives (operations.head_comment (sym h.first i) xs text ∷ [])))
+
+-- the value of such an operation is valid
+pub fixed_valid : (u : Update) (op : Operation) → IsFixedOp u op → HasValidValue op
+fixed_valid u (operations.replace doc xs v) h = subst IsValueTree (sym h.scalar) (refl, h.valid)
+fixed_valid u (operations.append doc xs k v) h = absurd h
+fixed_valid u (operations.remove doc xs) h = tt
+fixed_valid u (operations.line_comment doc xs text) h = tt
+fixed_valid u (operations.head_comment doc xs text) h = tt
+
+-- the same of an answer, if it has one
+pub any_valid : (u : declared_update.Update) (r : Result (Option Op) AllocError) → IfAny r (IsOpOf u) → IfAny r (λ op. HasValidValue (operation_of op))
+any_valid u (Ok (Some x)) h = fixed_valid (update_of u) (operation_of x) h
+any_valid u (Ok None) h = tt
+any_valid u (Err e) h = tt
 
 -- ---- on a text
 

@@ -9,7 +9,9 @@ use Rattle.yq_semantics.{specs.Rooms.room_of, specs.View.{program_step, update_o
 use Rattle.yq_semantics.{specs.declared.program.CommentPlace.CommentPlace, specs.Changes.{Room, can_be_comment, is_used_in}}
 use Rattle.yq_semantics.{specs.Fits.IsBelow, specs.Judgement.gives}
 use Rattle.yq_semantics.specs.Program.{PathStep, key, index, each, Stage, path, literal, Update, assign, delete, comment}
-use Rattle.yq_expr.specs.PlannedUpdates.{IsUpdateAt, plan_in}
+use Rattle.yq_flow_edits.specs.Valued.{IsValid}
+use Rattle.yq_planner.specs.ValidChanges.{HasValidValue}
+use Rattle.yq_expr.specs.PlannedUpdates.{ForUpdate, plan_in}
 use Rattle.yq_core.specs.declared.path.Step as core_step
 use Rattle.yq_documents.specs.declared.path.Path as declared_path
 use Rattle.yq_semantics.specs.declared.op.Op as declared_op
@@ -46,6 +48,7 @@ pub record PutsScalar (u : Update) (doc : ℕ) (steps : List Step) (v : Node) : 
   pub kind : Kind
   pub text : List ℕ
   pub scalar : v ≡ scalar None kind text
+  pub valid : IsValid (record { kind = kind; text = text })
   pub near : length steps ≤ 64
 
 -- An update removes what is at a fixed path, which is no root (own).
@@ -121,6 +124,7 @@ HasRoomIn t p place = HasRoomAt (room_of t) (documents_of t) p.doc (steps_of p) 
 abbrev pub FindsNodeIn : List ℕ → declared_op.Op → Type 0
 FindsNodeIn t op = FindsNode (room_of t) (documents_of t) (operation_of op)
 
--- the plan of the update of that number of a program, for the documents of a text, is that operation alone (own)
-abbrev pub PlansAlone : ℕ → Syntax → List ℕ → declared_op.Op → Type 0
-PlansAlone nth program t op = (u : Update) → IsUpdateAt nth program u → PlansOnly u t (operation_of op)
+-- The plan of the update of that number of a program, for the documents of a text, is that operation alone, whose value is valid (own).
+pub record PlansAlone (nth : ℕ) (program : Syntax) (t : List ℕ) (op : declared_op.Op) : Type 0 where
+  pub plans : ForUpdate nth program (λ u. PlansOnly u t (operation_of op))
+  pub valid : HasValidValue (operation_of op)

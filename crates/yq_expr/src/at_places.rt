@@ -3,6 +3,7 @@ ghost use Rattle.std.specs.Prelude.{◌≡◌};
 ghost use Rattle.yq_nodes.specs.Nodes.{node_of};
 ghost use Rattle.yq_expr.specs.JudgedChanges.{JudgesAllowed, JudgesEach, action_in, effect_of};
 ghost use Rattle.yq_semantics.specs.Rooms.{room_of};
+ghost use Rattle.yq_planner.specs.ValidChanges.{GivesValid, StayValid};
 ghost use Rattle.yq_eval.{specs.FoundView.{child_places, found_places}, specs.PlaceView.{path_of, place_of, places_of}};
 ghost use Rattle.yq_eval.specs.TreeScalars.{HasScalars, HaveScalars};
 
@@ -31,6 +32,7 @@ pub(crate) fn push_effect<'a, 't>(
     ensures change { JudgesAllowed effect.now.aliases.now (place_of place.now)
         (effect_of effect.now cut.old (place_of place.now))
         changes.old.items changes.new.items result }
+    ensures valid { StayValid result changes.old.items changes.new.items }
 {
     let path = Path {
         doc: effect.doc,
@@ -57,8 +59,9 @@ fn at_each<'a, 't>(
     places: &[FoundPlace<'a, 't>],
 ) -> Result<Vec<PlacedChange>, ExprError>
     requires { HaveScalars (places_of places.now) }
-    ensures { JudgesEach effect.now.aliases.now (places_of places.now)
+    ensures changes { JudgesEach effect.now.aliases.now (places_of places.now)
         (effect_of effect.now documents.now) result }
+    ensures valid { GivesValid result }
 {
     let mut changes = Vec::new(alloc);
     let mut cut = CutText::of(documents);
@@ -76,9 +79,10 @@ fn at_children<'a, 't>(
     parent: &'a FoundPlace<'a, 't>,
 ) -> Result<Vec<PlacedChange>, ExprError>
     requires { HaveScalars (child_places (path_of parent.now.path) (node_of parent.now.node)) }
-    ensures { JudgesEach effect.now.aliases.now
+    ensures changes { JudgesEach effect.now.aliases.now
         (child_places (path_of parent.now.path) (node_of parent.now.node))
         (effect_of effect.now documents.now) result }
+    ensures valid { GivesValid result }
 {
     let count = parent.node.count();
     let mut changes = Vec::with_capacity(alloc, count)?;
@@ -104,8 +108,9 @@ pub(crate) fn at_found<'a, 't>(
     action: Action<'a, '_>,
 ) -> Result<Vec<PlacedChange>, ExprError>
     requires { HaveScalars (found_places found.now.places) }
-    ensures { JudgesEach aliases.now (found_places found.now.places)
+    ensures changes { JudgesEach aliases.now (found_places found.now.places)
         (action_in found.now.document action.entry) result }
+    ensures valid { GivesValid result }
 {
     let effect = DocumentEffect {
         doc: found.document.doc,

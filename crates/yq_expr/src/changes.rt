@@ -1,8 +1,8 @@
 //! What an update changes in documents.
-ghost use Rattle.std.specs.Prelude.{◌≡◌, ◌<◌, ◌∷◌, [], IfSome, length, map};
+ghost use Rattle.std.specs.Prelude.{◌≡◌, ◌<◌, ◌∷◌, [], IfOk, IfSome, length, map};
 ghost use Rattle.yq_core.{specs.Anchors.names_of, specs.Values.value_node};
 ghost use Rattle.yq_nodes.specs.Nodes.{node_of};
-ghost use Rattle.yq_planner.{specs.ChangeView.all_changed_of, specs.Indexes.HasAliases};
+ghost use Rattle.yq_planner.{specs.ChangeView.all_changed_of, specs.Indexes.HasAliases, specs.ValidChanges.{AreAllValid, GivesValid}};
 ghost use Rattle.yq_semantics.{specs.Judgement.Judges, specs.View.{stage_of, update_of}};
 ghost use Rattle.yq_eval.{specs.FoundView.found_places, specs.PlaceView.place_of, specs.TreeScalars.HasScalars};
 ghost use Rattle.yq_expr.specs.DocumentPlaces.{AreInDocument, IsDocumentRoot};
@@ -33,7 +33,8 @@ pub(crate) fn changes_at<'a, 't>(
     update: &'a Update,
 ) -> Result<Vec<PlacedChange>, ExprError>
     requires { AreInDocument found.now }
-    ensures { JudgesChanges result (changes_there found.now update.now) }
+    ensures changes { JudgesChanges result (changes_there found.now update.now) }
+    ensures valid { GivesValid result }
 {
     if found.places.is_empty() {
         return Ok(Vec::new(alloc));
@@ -70,8 +71,9 @@ fn put_at<'a, 't>(
     value: Value,
 ) -> Result<Vec<PlacedChange>, ExprError>
     requires { HasScalars (place_of place.now).node }
-    ensures { JudgesEach aliases.now (place_of place.now ∷ [])
+    ensures changes { JudgesEach aliases.now (place_of place.now ∷ [])
         (λ p. spec.put_with_path p (value_node value)) result }
+    ensures valid { GivesValid result }
 {
     check_depth(alloc, doc, Action::Put(&value), place)?;
     let path = path_steps(alloc, place.path)?;
@@ -99,7 +101,8 @@ fn value_each<'a, 't>(
     requires places { AreInDocument found.now }
     requires aliases { HasAliases (names_of (node_of found.now.document.root)) aliases.now }
     requires some { 0 < length (found_places found.now.places) }
-    ensures { JudgesChanges result (with_right found.now adds right.now) }
+    ensures changes { JudgesChanges result (with_right found.now adds right.now) }
+    ensures valid { GivesValid result }
 {
     let from = FoundPlace::of_root(&found.document.root);
     let value = right_value(alloc, found.document.doc, right, &from)?;
@@ -122,7 +125,8 @@ fn assign<'a, 't>(
     requires places { AreInDocument found.now }
     requires aliases { HasAliases (names_of (node_of found.now.document.root)) aliases.now }
     requires some { 0 < length (found_places found.now.places) }
-    ensures { JudgesChanges result (changes_there found.now (Update.Assign assignment.now)) }
+    ensures changes { JudgesChanges result (changes_there found.now (Update.Assign assignment.now)) }
+    ensures valid { GivesValid result }
 {
     let right: &[Term] = &assignment.right;
     match assignment.operator {
@@ -150,7 +154,8 @@ fn changes_in<'a>(
     update: &'a Update,
 ) -> Result<Vec<PlacedChange>, ExprError>
     requires { IsDocumentRoot document }
-    ensures { JudgesChanges result (changes_inside document.entry update.now) }
+    ensures changes { JudgesChanges result (changes_inside document.entry update.now) }
+    ensures valid { GivesValid result }
 {
     let bump = Bump::new(alloc);
     let places = find_places(alloc, &bump, document.doc, left(update), document.root)?;
@@ -163,8 +168,9 @@ pub(crate) fn changes(
     update: &Update,
     documents: &Documents<'_>,
 ) -> Result<Vec<Vec<PlacedChange>>, ExprError>
-    ensures { Judges (λ v. all_changed_of v.items) result
+    ensures changes { Judges (λ v. all_changed_of v.items) result
         (changes_of_all update.now documents.now) }
+    ensures valid { IfOk result (λ v. AreAllValid v.items) }
 {
     if !has_comment(update) {
         return Err(ExprError::Fault(Refusal::BadCommentText));

@@ -2,10 +2,11 @@
 ghost use Rattle.std.specs.Prelude.{◌≡◌, ◌<◌, [], ◌∷◌, IfOk, IfSome, None, Some, map, true};
 ghost use Rattle.yq_core.{specs.Tree.scalar, specs.Entries.tree_step};
 ghost use Rattle.yq_documents.{specs.Located.steps_of, specs.Reading.documents_of};
-ghost use Rattle.yq_semantics.{specs.Operations.operation_of, specs.Program.{Update as Change, delete, literal, path, update_count}};
+ghost use Rattle.yq_semantics.{specs.Operations.operation_of, specs.Program.{delete, literal, path, update_count}};
 ghost use Rattle.yq_semantics.specs.View.{program_of, program_step, stage_of, term_of};
 ghost use Rattle.yq_expr.specs.FixedPaths.{AreFixed, FindsNodeIn, HasRoomIn, IfAny, IsFixed, IsFixedOp, IsOpOf, IsSole, LeadsIn};
-ghost use Rattle.yq_expr.{specs.FixedPaths.PlansAlone, specs.PlannedUpdates.IsUpdateAt};
+ghost use Rattle.yq_expr.{specs.FixedPaths.PlansAlone, specs.PlannedUpdates.ForUpdate};
+ghost use Rattle.yq_planner.specs.ValidChanges.{HasValidValue};
 ghost use Rattle.yq_expr.specs.FixedPaths as spec;
 
 use crate::effect::has_room;
@@ -107,7 +108,7 @@ fn put_scalar(alloc: Global, assignment: &Assignment) -> Result<Option<Op>, Allo
     if path.steps.len() > DEPTH_LIMIT {
         return Ok(None);
     }
-    let copied = scalar.copy(alloc)?;
+    let copied = Scalar::new(alloc, scalar.kind(), scalar.text())?;
     Ok(Some(Op::Replace(path, Value::Scalar(copied))))
 }
 
@@ -156,8 +157,8 @@ fn fixed_op(alloc: Global, update: &Update) -> Result<Option<Op>, AllocError>
 /// The same of update `nth` of a program.
 fn fixed_op_at(alloc: Global, program: &Program, nth: usize) -> Result<Option<Op>, AllocError>
     requires { nth < update_count (program_of program.now) }
-    ensures { (u : Change) → IsUpdateAt nth program.now u →
-        IfAny result (λ op. IsFixedOp u (operation_of op)) }
+    ensures fixed { ForUpdate nth program.now (λ u. IfAny result (λ op. IsFixedOp u (operation_of op))) }
+    ensures valid { IfAny result (λ op. HasValidValue (operation_of op)) }
 {
     match program.syntax() {
         Syntax::Read(_) => Ok(None),

@@ -12,7 +12,6 @@ use crate::weights::assignment;
 use std::alloc::{AllocError, Global};
 use yq_core::Value;
 use yq_eval::FoundPlace;
-use yq_flow_edits::value_holds;
 use yq_nodes::Node;
 use yq_planner::{ListSize, added_size, is_null, list_of_size};
 use yq_semantics::{ExprError, Operator, Term, Update};
@@ -46,7 +45,6 @@ fn size_of_term<'a, 't>(
     if is_null(&value) || (is_first && !is_list) {
         return Ok(None);
     }
-    value_holds(&value);
     added_size(alloc, &value)
 }
 

@@ -7,6 +7,7 @@ ghost use Rattle.yq_semantics.{specs.Judgement.{ExprError, MatchFails}, specs.Op
 ghost use Rattle.yq_expr.{specs.DocumentPlaces.IsDocumentRoot, specs.Parts.{IsPlanPart, values_limit}};
 ghost use Rattle.yq_expr.specs.PlannedUpdates.{ForUpdate, IsPartOfPlan, IsUpdateAt, ops_inside, rest_in};
 ghost use Rattle.yq_expr.specs.Oversized.{EndsPart, PartGoesOn, ReportsOversized};
+ghost use Rattle.yq_planner.specs.ValidChanges.{HoldValidValues, KeepValidValues};
 ghost use Rattle.yq_semantics.specs.Program as spec;
 ghost use Rattle.yq_failure.specs.declared.failure.Failure.TheVariants as failure;
 
@@ -95,6 +96,7 @@ fn document_part<'a>(
     ensures part { IfOk result (IsPlanPart (ops_inside document.entry update.now) place
         (operations_of part.old.ops.items) (operations_of part.new.ops.items)) }
     ensures ends { EndsPart document.entry update.now place part.old part.new result }
+    ensures valid { KeepValidValues result part.old.ops.items part.new.ops.items }
     ensures fresh { IfOk result (λ o. o ≡ None → part.new.is_oversized ≡ false) }
     ensures err { IfErr result (λ e. MatchFails e (ops_inside document.entry update.now place)) }
 {
@@ -130,6 +132,7 @@ fn part_of(
 ) -> Result<PlanPart, ExprError>
     requires { doc < length (documents_of documents.now) }
     ensures part { IfOk result (IsPartOfPlan (update_of update.now) documents.now doc place) }
+    ensures valid { IfOk result (λ p. HoldValidValues p.ops.items) }
     ensures later { IfOk result (PartGoesOn doc place) }
     ensures large { IfOk result (ReportsOversized (update_of update.now) documents.now) }
     ensures err { IfErr result (λ e.
@@ -188,6 +191,8 @@ pub fn plan_part(
     // The operations are what is left of the plan there, but for what is left after them.
     ensures part { (u : spec.Update) → IsUpdateAt nth program.now u →
         IfOk result (IsPartOfPlan u documents.now doc place) }
+    // Their values are valid.
+    ensures valid { IfOk result (λ p. HoldValidValues p.ops.items) }
     ensures later { IfOk result (PartGoesOn doc place) }
     // What is left after it begins with what no text can hold, where that is said.
     ensures large { ForUpdate nth program.now (λ u. IfOk result (ReportsOversized u documents.now)) }

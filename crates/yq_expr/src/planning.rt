@@ -1,7 +1,8 @@
 //! Planning: the operations that carry out an update on documents.
 ghost use Rattle.std.specs.Prelude.{◌≡◌, ◌<◌, ◌⊎◌, IfOk};
 ghost use Rattle.yq_semantics.{specs.Judgement.{gives, refuses}, specs.View.{program_of, update_of}};
-ghost use Rattle.yq_expr.specs.PlannedUpdates.{AllFitIn, IsUpdateAt, JudgesPlan, documents_after, meaning_in};
+ghost use Rattle.yq_planner.specs.ValidChanges.{HoldValidValues};
+ghost use Rattle.yq_expr.specs.PlannedUpdates.{AllFitIn, ForUpdate, IsUpdateAt, JudgesPlan, documents_after, meaning_in};
 ghost use Rattle.yq_semantics.specs.Plans as plans;
 ghost use Rattle.yq_semantics.specs.Program as spec;
 ghost use Rattle.yq_failure.specs.declared.failure.Failure.TheVariants as failure;
@@ -24,7 +25,8 @@ fn plan_update(
     update: &Update,
     documents: &Documents<'_>,
 ) -> Result<Vec<Op>, ExprError>
-    ensures { JudgesPlan result (update_of update.now) documents.now }
+    ensures exact { JudgesPlan result (update_of update.now) documents.now }
+    ensures valid { IfOk result (λ ops. HoldValidValues ops.items) }
 {
     let changes = changes(alloc, update, documents)?;
     Ok(operations(alloc, is_removal(update), changes)?)
@@ -38,8 +40,8 @@ fn planned(
     documents: &Documents<'_>,
 ) -> Result<Vec<Op>, ExprError>
     requires { nth < spec.update_count (program_of program.now) }
-    ensures { (u : spec.Update) → IsUpdateAt nth program.now u →
-        JudgesPlan result u documents.now }
+    ensures exact { ForUpdate nth program.now (λ u. JudgesPlan result u documents.now) }
+    ensures valid { IfOk result (λ ops. HoldValidValues ops.items) }
 {
     match program.syntax() {
         Syntax::Read(_) => Ok(Vec::new(alloc)),
@@ -59,6 +61,8 @@ pub fn plan(
     // The operations, or why there are none.
     ensures exact { (u : spec.Update) → IsUpdateAt nth program.now u →
         JudgesPlan result u documents.now }
+    // Their values are valid, so that what is written of them reads.
+    ensures valid { IfOk result (λ ops. HoldValidValues ops.items) }
     // The operations, one after the other, make what the update means.
     ensures meaning { (u : spec.Update) → IsUpdateAt nth program.now u →
         IfOk result (λ ops.

@@ -6,3 +6,4 @@ pub mod UsedLaws
 pub mod StandInLaws
 pub mod ChildDepths
 pub mod ListSizeLaws
+pub mod ValidLaws

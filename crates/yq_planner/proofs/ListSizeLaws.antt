@@ -5,7 +5,6 @@ use Rattle.yq_core.{specs.Keys.{depth, deepest}, specs.Paths.append_children}
 use Rattle.yq_core.{specs.Tree.{Node, list, Children, none, child, key_label, plain_label}, specs.Values.items}
 use Rattle.yq_planner.{specs.ListSizes.HasSize, specs.StandIns.{IsStandIn, lists}, specs.declared.updating.list_size.ListSize.ListSize}
 use Rattle.yq_semantics.{specs.Changes.{is_overlong_key, has_long_key, have_long_key}, specs.Sizes.items_among}
-use Rattle.yq_core.specs.Tree as tree
 
 or_parts : (a b c : Bool) → (a || (b || c)) ≡ false → (a ≡ false) × (b ≡ false) × (c ≡ false)
 or_parts a b c h = search rules

@@ -1,5 +1,5 @@
 -- Small values are refused where large ones are.
-use Rattle.std.proofs.Common.{◌≡◌, ℕ, ◌-◌, ◌<◌, ◌≤◌, min, nat_lt, true, false, ◌||◌, List, [], ◌∷◌, length, map, Option, None, IfSome, IfOk}
+use Rattle.std.proofs.Common.{◌≡◌, ℕ, ◌-◌, ◌<◌, min, nat_lt, true, false, ◌||◌, List, [], ◌∷◌, length, map, Option, None, IfSome, IfOk}
 use Rattle.std.{proofs.Common.{Result, eqb, rules, refl, sym, ap, ◌∙◌, subst, arith}, proofs.lemmas.Bool.Decides.nat_tests}
 use Rattle.std.{specs.Prelude.Vec, specs.declared.alloc.AllocError.AllocError, specs.declared.alloc.Global.Global}
 use Rattle.yq_core.{specs.Keys.depth, specs.Values.{entries, entry, items, value_node}, specs.Scalar.ScalarText}

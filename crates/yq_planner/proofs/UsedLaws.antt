@@ -10,7 +10,6 @@ use Rattle.yq_semantics.specs.Changes.{is_too_long, refers_to, is_used, is_used_
 use Rattle.yq_semantics.{specs.Judgement.{gives, refuses}, specs.declared.refusal.Refusal.TheVariants.AnchorInUse}
 use Rattle.yq_semantics.proofs.ChildPlaces.{node_further}
 use Rattle.yq_planner.specs.TakenNames.{is_used_anchor, overwrites_at, takes_at}
-use Rattle.yq_core.specs.Tree as tree
 use Rattle.yq_nodes.specs.declared.nodes.node.NodeKind.TheVariants as kinds
 
 -- ---- anchors of a node

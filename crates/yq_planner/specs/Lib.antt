@@ -8,4 +8,5 @@ pub mod StandIns
 pub mod ListSizes
 pub mod Repeated
 pub mod ChangedNodes
+pub mod ValidChanges
 pub mod ChangeAnswers

@@ -6,3 +6,4 @@ pub mod AnswerLaws
 pub mod PartLaws
 pub mod UpdateSteps
 pub mod OversizedParts
+pub mod ValidOperands

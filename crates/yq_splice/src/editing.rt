@@ -8,11 +8,11 @@ ghost use Rattle.yq_edit_laws.specs.Valid.{FailsAt, FailsEach, IsStep, ProgramFa
 ghost use Rattle.yq_splice.{specs.Answers.{EditRefused, EditsText}, specs.Updates.{FailAfter, LeadOn}};
 ghost use Rattle.yq_edit_laws.specs.Carried as spec;
 
+use crate::carry_plan;
 use crate::carrying::read_again;
 use crate::in_parts::carry_parts;
 use crate::session::Session;
 use crate::updating::update_session;
-use crate::{carry_plan, operands_hold};
 use std::alloc::{AllocError, Global};
 use yq_documents::Documents;
 use yq_expr::{Program, Refusal, is_heavy, is_sole, judge, plan, plan_by_rows};
@@ -83,7 +83,6 @@ fn step(
         return step_in_parts(alloc, text, &documents, splices, program, nth);
     }
     let ops = plan(alloc, program, nth, &documents)?;
-    operands_hold(&ops);
     carry_plan(alloc, text, documents, splices, &ops)
 }
 

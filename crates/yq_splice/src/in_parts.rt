@@ -10,7 +10,6 @@ ghost use Rattle.yq_splice.specs.Parts.{IsJudged};
 use crate::carrying::carry_on;
 use std::alloc::Global;
 use yq_documents::Documents;
-use yq_edit_laws::operands_hold;
 use yq_expr::{Program, plan_part};
 use yq_semantics::{ExprError, Op, Refusal};
 use yq_text::{Edited, Splice};
@@ -61,7 +60,6 @@ pub(crate) fn carry_parts(
     let mut place = 0;
     'parts: while doc < count {
         let part = plan_part(alloc, program, nth, documents, doc, place)?;
-        operands_hold(&part.ops);
         done = carry_part(alloc, done, &part.ops)?;
         if part.is_oversized {
             return Err(ExprError::Fault(Refusal::TooLarge));

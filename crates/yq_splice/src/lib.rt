@@ -13,6 +13,5 @@ mod updating;
 pub use carrying::{apply_op, carry_plan};
 pub use editing::edit;
 pub use session::Session;
-pub use yq_edit_laws::operands_hold;
 pub use yq_edit_rules::print;
 pub use yq_text::{Edited, Splice};

@@ -7,7 +7,6 @@ ghost use Rattle.yq_edit_laws.specs.Theorems.{HasReading};
 ghost use Rattle.yq_splice.specs.Updates.{FailAfter, LeadOn};
 
 use crate::session::Session;
-use yq_edit_laws::operand_holds;
 use yq_expr::Program;
 use yq_semantics::{ExprError, Op};
 use yq_text::{Edited, Splice};
@@ -37,7 +36,6 @@ pub(crate) fn update_session(
     let mut done = nth;
     let _count = program.updates();
     'updates: loop {
-        operand_holds(&op);
         let mut added = session.apply_valid(&op)?;
         splices.append(&mut added)?;
         done += 1;

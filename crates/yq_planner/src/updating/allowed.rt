@@ -1,5 +1,7 @@
 //! What refuses a change.
+ghost use Rattle.std.specs.Prelude.{IfOk};
 ghost use Rattle.yq_planner.specs.ChangeAnswers.{JudgesChangeOf, IsWhetherOverwritten, GivesWhetherOverwritten, GivesWhetherTaken};
+ghost use Rattle.yq_planner.{specs.ChangeView.change_of, specs.ValidChanges.IsValidChange};
 
 use crate::updating::anchors::{Aliases, is_used_in, is_used_inside};
 use crate::updating::change::{Addition, Change};
@@ -71,7 +73,8 @@ pub fn allow(
     outer: usize,
     change: &Change,
 ) -> Result<(), ExprError>
-    ensures { JudgesChangeOf aliases.now node.now outer change.now result }
+    ensures allowed { JudgesChangeOf aliases.now node.now outer change.now result }
+    ensures valid { IfOk result (λ _. IsValidChange (change_of change.now)) }
 {
     if is_too_long(alloc, change)? {
         return Err(ExprError::Fault(Refusal::KeyTooLong));

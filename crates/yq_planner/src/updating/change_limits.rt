@@ -1,6 +1,8 @@
 //! Changes that can't be written: with too long a key, or nested too deep.
-ghost use Rattle.std.specs.Prelude.{◌≡◌, IfOk, suc};
-ghost use Rattle.yq_planner.specs.ChangeView.{addition_of, change_of};
+ghost use Rattle.std.specs.Prelude.{◌≡◌, IfOk, false, suc};
+ghost use Rattle.yq_core.specs.Values.{value_node};
+ghost use Rattle.yq_flow_edits.specs.Valued.{IsValueTree};
+ghost use Rattle.yq_planner.{specs.ChangeView.{addition_of, change_of}, specs.ValidChanges.{AddsValid, AreAddedValid, IsValidChange}};
 ghost use Rattle.yq_planner.specs.ChangeAnswers.{is_overlong_entry, any_writes_long_key, any_is_too_deep};
 ghost use Rattle.yq_semantics.specs.Changes as spec;
 
@@ -11,7 +13,8 @@ use yq_core::Value;
 
 /// Whether a key or one in a value is too long.
 fn is_long_entry(alloc: Global, key: &str, value: &Value) -> Result<bool, AllocError>
-    ensures { IfOk result (λ b. b ≡ is_overlong_entry key.now value.now) }
+    ensures long { IfOk result (λ b. b ≡ is_overlong_entry key.now value.now) }
+    ensures valid { IfOk result (λ b. b ≡ false → IsValueTree (value_node value.now)) }
 {
     if is_long_key(alloc, key)? {
         return Ok(true);
@@ -21,7 +24,8 @@ fn is_long_entry(alloc: Global, key: &str, value: &Value) -> Result<bool, AllocE
 
 /// Whether too long a key would be written.
 fn writes_long_key(alloc: Global, addition: &Addition) -> Result<bool, AllocError>
-    ensures { IfOk result (λ b. b ≡ spec.writes_long_key (addition_of addition.now)) }
+    ensures long { IfOk result (λ b. b ≡ spec.writes_long_key (addition_of addition.now)) }
+    ensures valid { IfOk result (λ b. b ≡ false → AddsValid (addition_of addition.now)) }
 {
     match addition {
         Addition::Appends(Some(key), value) => is_long_entry(alloc, key.as_str(), value),
@@ -32,7 +36,8 @@ fn writes_long_key(alloc: Global, addition: &Addition) -> Result<bool, AllocErro
 
 /// The same of some addition.
 fn some_writes_long_key(alloc: Global, additions: &[Addition]) -> Result<bool, AllocError>
-    ensures { IfOk result (λ b. b ≡ any_writes_long_key additions.now) }
+    ensures long { IfOk result (λ b. b ≡ any_writes_long_key additions.now) }
+    ensures valid { IfOk result (λ b. b ≡ false → AreAddedValid additions.now) }
 {
     'each: for addition in additions {
         if writes_long_key(alloc, addition)? {
@@ -45,7 +50,8 @@ fn some_writes_long_key(alloc: Global, additions: &[Addition]) -> Result<bool, A
 /// The same of a change.
 #[tactic(auto, using(yq_semantics::proofs::Lists::list_any_map))]
 pub(crate) fn is_too_long(alloc: Global, change: &Change) -> Result<bool, AllocError>
-    ensures { IfOk result (λ b. b ≡ spec.is_too_long (change_of change.now)) }
+    ensures long { IfOk result (λ b. b ≡ spec.is_too_long (change_of change.now)) }
+    ensures valid { IfOk result (λ b. b ≡ false → IsValidChange (change_of change.now)) }
 {
     match change {
         Change::Replaces(value) => holds_long_key(alloc, value),

@@ -1,6 +1,7 @@
 //! What can't be written: values with too long a key, or nested too deep.
-ghost use Rattle.std.specs.Prelude.{◌≡◌, IfOk, nat_lt, suc};
+ghost use Rattle.std.specs.Prelude.{◌≡◌, IfOk, false, nat_lt, suc, true};
 ghost use Rattle.yq_core.{specs.Values.{entries_of, items_of, value_node}, specs.Keys.{deepest, depth}};
+ghost use Rattle.yq_flow_edits.specs.Valued.{AreValueTrees, IsValueTree};
 ghost use Rattle.yq_semantics.specs.Changes as spec;
 
 use std::alloc::{AllocError, Global};
@@ -24,10 +25,16 @@ pub fn is_long_key(alloc: Global, key: &str) -> Result<bool, AllocError>
 /// Whether a value has too long a key.
 #[cycle(long)]
 pub fn holds_long_key(alloc: Global, value: &Value) -> Result<bool, AllocError>
-    ensures { IfOk result (λ b. b ≡ spec.has_long_key (value_node value.now)) }
+    ensures long { IfOk result (λ b. b ≡ spec.has_long_key (value_node value.now)) }
+    // One without is known to be valid, since each of its scalars and keys was looked at.
+    ensures valid { IfOk result (λ b. b ≡ false → IsValueTree (value_node value.now)) }
 {
     match value {
-        Value::Scalar(_) => Ok(false),
+        Value::Scalar(scalar) => {
+            let _kind = scalar.kind();
+            let _text = scalar.text();
+            Ok(false)
+        }
         Value::List(items) => some_holds_long_key(alloc, items),
         Value::Map(entries) => some_has_long_key(alloc, entries),
     }
@@ -36,7 +43,8 @@ pub fn holds_long_key(alloc: Global, value: &Value) -> Result<bool, AllocError>
 /// Whether an item has too long a key.
 #[cycle(long)]
 fn some_holds_long_key(alloc: Global, items: &Vec<Value>) -> Result<bool, AllocError>
-    ensures { IfOk result (λ b. b ≡ spec.have_long_key (items_of items.now.items)) }
+    ensures long { IfOk result (λ b. b ≡ spec.have_long_key (items_of items.now.items)) }
+    ensures valid { IfOk result (λ b. b ≡ false → AreValueTrees false (items_of items.now.items)) }
 {
     'each: for item in items {
         if holds_long_key(alloc, item)? {
@@ -49,7 +57,8 @@ fn some_holds_long_key(alloc: Global, items: &Vec<Value>) -> Result<bool, AllocE
 /// Whether a key is too long, or a key of a value.
 #[cycle(long)]
 fn some_has_long_key(alloc: Global, entries: &Vec<(String, Value)>) -> Result<bool, AllocError>
-    ensures { IfOk result (λ b. b ≡ spec.have_long_key (entries_of entries.now.items)) }
+    ensures long { IfOk result (λ b. b ≡ spec.have_long_key (entries_of entries.now.items)) }
+    ensures valid { IfOk result (λ b. b ≡ false → AreValueTrees true (entries_of entries.now.items)) }
 {
     'each: for entry in entries {
         if is_long_key(alloc, entry.0.as_str())? {

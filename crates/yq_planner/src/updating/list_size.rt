@@ -1,6 +1,7 @@
 //! How large lists are that sums give, known without a copy of their items.
 ghost use Rattle.std.specs.Prelude.{◌≡◌, ◌≤◌, None, IfOk, IfSome, false, suc};
 ghost use Rattle.yq_core.{specs.Inline.depth_limit, specs.Tree.{Node, list}, specs.Values.value_node};
+ghost use Rattle.yq_flow_edits.specs.Valued.{IsValueTree};
 ghost use Rattle.yq_semantics.{specs.Changes.has_long_key, specs.RightValues.as_items};
 ghost use Rattle.yq_planner.{specs.ListSizes.{HasSize, IsSizeAround, IsSizeOfBoth}, specs.StandIns.IsStandIn};
 
@@ -69,7 +70,8 @@ fn size_of_added(value: &Value) -> Option<ListSize>
 /// # Errors
 /// [`AllocError`] where memory is refused.
 pub fn added_size(alloc: Global, value: &Value) -> Result<Option<ListSize>, AllocError>
-    ensures { IfOk result (λ o. IfSome o (HasSize (list None (as_items (value_node value.now))))) }
+    ensures size { IfOk result (λ o. IfSome o (HasSize (list None (as_items (value_node value.now))))) }
+    ensures valid { IfOk result (λ o. IfSome o (λ _. IsValueTree (value_node value.now))) }
 {
     if holds_long_key(alloc, value)? {
         return Ok(None);

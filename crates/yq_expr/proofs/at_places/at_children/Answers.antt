@@ -15,8 +15,8 @@ push_effect-requires c =
     let first = first_child p c.children.before (left_of c.children.children) (left_of c.next.new.self) (label_of c.in-Some.child) (node_of c.in-Some.child) c.in-Some.ensures.steps in
     subst (λ (q : FoundPlace). HasScalars q.node) (sym (c.nth_below-place.ensures p refl)) (subst HaveScalars first c.children.invariant.scalars).0
 
-pub returns-in_err-push_effect : goal.returns-in_err-push_effect
-returns-in_err-push_effect c = λ root named within.
+pub returns-in_err-push_effect-clause-changes : goal.returns-in_err-push_effect-clause-changes
+returns-in_err-push_effect-clause-changes c = λ root named within.
     let e = err_from_is_err_and c.from_residual-in_err-push_effect.result c.from_residual-in_err-push_effect.ensures.1 in
     let p : FoundPlace = place_at_path (path_of c.args.parent.now.path) (node_of c.args.parent.now.node) in
     let f : FoundPlace → Judgement (List Changed) = λ q. and_then (all_allowed root) (effect_of c.args.effect.now c.args.documents.now q) in
@@ -39,6 +39,7 @@ children-preserved c =
       counted = omega (arith, counted);
       scalars = (subst HaveScalars first c.children.invariant.scalars).1;
       within = λ root within. (subst (AreIn root) first (c.children.invariant.within root within)).1;
+      valid = c.in_ok-push_effect.ensures.valid c.children.invariant.valid;
       so_far = λ root named within.
           let f : FoundPlace → Judgement (List Changed) = λ q. and_then (all_allowed root) (effect_of c.args.effect.now c.args.documents.now q) in
           child_more f p c.children.before (left_of c.children.children) (left_of c.next.new.self) (label_of c.in-Some.child)
@@ -49,8 +50,8 @@ children-preserved c =
           (c.children.invariant.so_far root named within);
     }
 
-pub returns : goal.returns
-returns c = λ root named within.
+pub returns-clause-changes : goal.returns-clause-changes
+returns-clause-changes c = λ root named within.
     children_done (λ q. and_then (all_allowed root) (effect_of c.args.effect.now c.args.documents.now q)) (place_at_path (path_of c.args.parent.now.path) (node_of c.args.parent.now.node))
     c.children.before (left_of c.children.children) (map changed_of c.children.changes.items) _ (none_counted (left_of c.children.children) (omega (arith, c.children.invariant.counted, c.children-test.false)))
     (c.children.invariant.so_far root named within)
@@ -61,5 +62,5 @@ overflow_add-before c = omega (arith, c.children-test.true)
 pub children-init : goal.children-init
 children-init c = search (rules, nothing_before)
 
-pub returns-in_default : goal.returns-in_default
-returns-in_default c = search (rules, children_done, c.children.invariant.so_far)
+pub returns-in_default-clause-changes : goal.returns-in_default-clause-changes
+returns-in_default-clause-changes c = search (rules, children_done, c.children.invariant.so_far)

@@ -3,7 +3,7 @@ use Rattle.yq_core.{specs.Tree.Node, specs.Anchors.names_of}
 use Rattle.yq_nodes.{specs.Children.left_of, specs.Nodes.node_of}
 use Rattle.yq_outline.specs.Counts.{count}
 use Rattle.yq_semantics.{specs.Changes.at_each, specs.Places.{child_place, stepped}, specs.PlacesApart.AreIn}
-use Rattle.yq_planner.{specs.ChangeView.changed_of, specs.Indexes.HasAliases}
+use Rattle.yq_planner.{specs.ChangeView.changed_of, specs.Indexes.HasAliases, specs.ValidChanges.AreValidChanges}
 use Rattle.yq_expr.specs.JudgedChanges.{effect_of}
 use Rattle.yq_eval.{specs.FoundView.{child_places, place_at_path}, specs.PlaceView.{path_of, put_behind}, specs.TreeScalars.HaveScalars}
 use Rattle.yq_expr.proofs.at_places.at_children.Given as goal
@@ -15,6 +15,7 @@ invariant-children l =
       same : l.cut ≡ l.documents;
       counted : l.before + count (left_of l.children) ≡ l.count;
       scalars : HaveScalars left;
+      valid : AreValidChanges l.changes.items;
       within : (root : Node) → AreIn root (child_places (path_of l.parent.path) (node_of l.parent.node)) → AreIn root left;
       so_far : (root : Node) → HasAliases (names_of root) l.effect.aliases.now → AreIn root (child_places (path_of l.parent.path) (node_of l.parent.node)) →
           put_behind (map changed_of l.changes.items) (at_each root (effect_of l.effect l.documents) left)

@@ -6,8 +6,8 @@ use Rattle.yq_expr.{specs.JudgedChanges.effect_of, proofs.AllChanges.each_done}
 use Rattle.yq_eval.{specs.PlaceView.place_of, specs.TreeScalars.HaveScalars, proofs.EachLaws.{each_more, each_fails, failed, reached}}
 use Rattle.yq_expr.proofs.at_places.at_each.Goals as goal
 
-pub returns-in_err-push_effect : goal.returns-in_err-push_effect
-returns-in_err-push_effect c = λ root named within.
+pub returns-in_err-push_effect-clause-changes : goal.returns-in_err-push_effect-clause-changes
+returns-in_err-push_effect-clause-changes c = λ root named within.
     let p = err_from_is_err_and c.from_residual.result c.from_residual.ensures.1 in
     let here = reached place_of c.args.places.now c.places.place-index c.place-item.result c.places-test.true c.place-item.is in
     let f : FoundPlace → Judgement (List Changed) = λ q. and_then (all_allowed root) (effect_of c.args.effect.now c.args.documents.now q) in
@@ -23,6 +23,7 @@ places-preserved c =
       same = c.push_effect.ensures.same ∙ c.places.invariant.same;
       scalars = (subst HaveScalars here c.places.invariant.scalars).1;
       within = λ root within. (subst (AreIn root) here (c.places.invariant.within root within)).1;
+      valid = c.in_ok-push_effect.ensures.valid c.places.invariant.valid;
       so_far = λ root named within.
           let f : FoundPlace → Judgement (List Changed) = λ q. and_then (all_allowed root) (effect_of c.args.effect.now c.args.documents.now q) in
           each_more place_of f (map changed_of c.places.changes.items) (map changed_of c.push_effect.new.changes.items) c.args.places.now c.places.place-index c.place-item.result _ c.places-test.true c.place-item.is
@@ -30,8 +31,8 @@ places-preserved c =
           (c.places.invariant.so_far root named within);
     }
 
-pub returns : goal.returns
-returns c = λ root named within.
+pub returns-clause-changes : goal.returns-clause-changes
+returns-clause-changes c = λ root named within.
     let f : FoundPlace → Judgement (List Changed) = λ q. and_then (all_allowed root) (effect_of c.args.effect.now c.args.documents.now q) in
     let past : length c.args.places.now ≤ c.places.place-index = omega (arith, c.places-test.false) in
     each_done place_of f (map changed_of c.places.changes.items) c.args.places.now c.places.place-index _ past (c.places.invariant.so_far root named within)

@@ -5,15 +5,15 @@ use Rattle.yq_semantics.{specs.Changes.at_each, specs.Judgement.Judges, specs.Pl
 use Rattle.yq_planner.{specs.ChangeView.changed_of, specs.declared.updating.change.PlacedChange.PlacedChange}
 use Rattle.yq_expr.proofs.at_places.at_found.Goals as goal
 
-pub returns-in-Children : goal.returns-in-Children
-returns-in-Children c = λ root named within.
+pub returns-in-Children-clause-changes : goal.returns-in-Children-clause-changes
+returns-in-Children-clause-changes c = λ root named within.
     subst (λ (ps : List FoundPlace). Judges (λ (v : Vec PlacedChange Global). map changed_of v.items) c.at_children.result (at_each root (action_in c.args.found.now.document c.args.action) ps))
     (sym (ap found_places c.in-Children.is))
-    (c.at_children.ensures root named (subst (AreIn root) (ap found_places c.in-Children.is) within))
+    (c.at_children.ensures.changes root named (subst (AreIn root) (ap found_places c.in-Children.is) within))
 
-pub returns-in-Listed : goal.returns-in-Listed
-returns-in-Listed c = λ root named within.
+pub returns-in-Listed-clause-changes : goal.returns-in-Listed-clause-changes
+returns-in-Listed-clause-changes c = λ root named within.
     let same = ap places_of c.deref.ensures.value ∙ sym (ap found_places c.in-Listed.is) in
     subst (λ (ps : List FoundPlace). Judges (λ (v : Vec PlacedChange Global). map changed_of v.items) c.at_each.result (at_each root (action_in c.args.found.now.document c.args.action) ps))
     same
-    (c.at_each.ensures root named (subst (AreIn root) (sym same) within))
+    (c.at_each.ensures.changes root named (subst (AreIn root) (sym same) within))

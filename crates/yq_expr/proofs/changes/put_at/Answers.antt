@@ -6,16 +6,16 @@ use Rattle.yq_eval.{specs.PlaceView.{place_of, put_behind}, proofs.EachLaws.{fai
 use Rattle.yq_expr.proofs.AllChanges.{only_fails}
 use Rattle.yq_expr.proofs.changes.put_at.Goals as goal
 
-pub returns-in_err-check_depth : goal.returns-in_err-check_depth
-returns-in_err-check_depth c = λ root named within.
+pub returns-in_err-check_depth-clause-changes : goal.returns-in_err-check_depth-clause-changes
+returns-in_err-check_depth-clause-changes c = λ root named within.
     let p = err_from_is_err_and c.from_residual.result c.from_residual.ensures.1 in
     failed _ _ _ _ (p.1 ∙ ap Err p.2) (fails_then _ _ _ (c.in_err-check_depth.ensures root (room_of [] 0)))
 
-pub returns-in_err-push_change : goal.returns-in_err-push_change
-returns-in_err-push_change c = λ root named within.
+pub returns-in_err-push_change-clause-changes : goal.returns-in_err-push_change-clause-changes
+returns-in_err-push_change-clause-changes c = λ root named within.
     let p = err_from_is_err_and c.from_residual-in_err-push_change.result c.from_residual-in_err-push_change.ensures.1 in
     let put = c.in_ok-change.ensures ∙ ap (λ o. gives (placed (place_of c.args.place.now) o)) c.in-Some.is in
     failed _ _ _ _ (p.1 ∙ ap Err p.2)
     (only_fails (map changed_of c.in_ok-changes.changes.items) (and_then (all_allowed root) (put_with_path (place_of c.args.place.now) (value_node c.args.value))) c.in_err-push_change.field-0.0
     (subst (λ j. MatchFails c.in_err-push_change.field-0.0 (put_behind (map changed_of c.in_ok-changes.changes.items) (and_then (all_allowed root) j))) (sym put)
-    (c.in_err-push_change.ensures root named within.0)))
+    (c.in_err-push_change.ensures.change root named within.0)))

@@ -9,34 +9,34 @@ use Rattle.yq_eval.{specs.FoundView.found_places, specs.TreeScalars.HaveScalars,
 use Rattle.yq_expr.proofs.AllChanges.{value_there}
 use Rattle.yq_expr.proofs.changes.value_each.Goals as goal
 
-pub returns-in_err-value : goal.returns-in_err-value
-returns-in_err-value c = search (rules, err_from_is_err_and, failed)
+pub returns-in_err-value-clause-changes : goal.returns-in_err-value-clause-changes
+returns-in_err-value-clause-changes c = search (rules, err_from_is_err_and, failed)
 
 pub put_at-requires : goal.put_at-requires
 put_at-requires c = (subst HaveScalars c.in-Some.ensures c.requires.places.scalars).0
 
-pub returns-then-adds : goal.returns-then-adds
-returns-then-adds c =
+pub returns-then-adds-clause-changes : goal.returns-then-adds-clause-changes
+returns-then-adds-clause-changes c =
     let root = node_of c.args.found.now.document.root in
     let ts = map term_of c.args.right.now in
     let value : right_value c.args.found.now.document.doc ts (root_place root) ≡ gives (value_node c.in_ok-value.value) = sym (ap (right_value c.args.found.now.document.doc ts) c.of_root-from.ensures) ∙ c.in_ok-value.ensures in
     let all = value_there root (right_value c.args.found.now.document.doc ts (root_place root)) add_at (found_places c.args.found.now.places) (value_node c.in_ok-value.value) c.requires.some value in
-    rw c.if-adds.true (subst (Judges (λ (v : Vec PlacedChange Global). map changed_of v.items) c.at_found.result) (sym all) (c.at_found.ensures root c.requires.aliases c.requires.places.within))
+    rw c.if-adds.true (subst (Judges (λ (v : Vec PlacedChange Global). map changed_of v.items) c.at_found.result) (sym all) (c.at_found.ensures.changes root c.requires.aliases c.requires.places.within))
 
-pub returns-in-None : goal.returns-in-None
-returns-in-None c =
+pub returns-in-None-clause-changes : goal.returns-in-None-clause-changes
+returns-in-None-clause-changes c =
     let root = node_of c.args.found.now.document.root in
     let ts = map term_of c.args.right.now in
     let value : right_value c.args.found.now.document.doc ts (root_place root) ≡ gives (value_node c.in_ok-value.value) = sym (ap (right_value c.args.found.now.document.doc ts) c.of_root-from.ensures) ∙ c.in_ok-value.ensures in
     let all = value_there root (right_value c.args.found.now.document.doc ts (root_place root)) put_with_path (found_places c.args.found.now.places) (value_node c.in_ok-value.value) c.requires.some value in
-    rw c.if-adds.false (subst (Judges (λ (v : Vec PlacedChange Global). map changed_of v.items) c.at_found-in-None.result) (sym all) (c.at_found-in-None.ensures root c.requires.aliases c.requires.places.within))
+    rw c.if-adds.false (subst (Judges (λ (v : Vec PlacedChange Global). map changed_of v.items) c.at_found-in-None.result) (sym all) (c.at_found-in-None.ensures.changes root c.requires.aliases c.requires.places.within))
 
-pub returns-in-Some : goal.returns-in-Some
-returns-in-Some c =
+pub returns-in-Some-clause-changes : goal.returns-in-Some-clause-changes
+returns-in-Some-clause-changes c =
     let root = node_of c.args.found.now.document.root in
     let ts = map term_of c.args.right.now in
     let value : right_value c.args.found.now.document.doc ts (root_place root) ≡ gives (value_node c.in_ok-value.value) = sym (ap (right_value c.args.found.now.document.doc ts) c.of_root-from.ensures) ∙ c.in_ok-value.ensures in
     let all = value_there root (right_value c.args.found.now.document.doc ts (root_place root)) put_with_path (found_places c.args.found.now.places) (value_node c.in_ok-value.value) c.requires.some value in
-    let put = c.put_at.ensures root c.requires.aliases (subst (AreIn root) c.in-Some.ensures c.requires.places.within) in
+    let put = c.put_at.ensures.changes root c.requires.aliases (subst (AreIn root) c.in-Some.ensures c.requires.places.within) in
     rw c.if-adds.false (subst (Judges (λ (v : Vec PlacedChange Global). map changed_of v.items) c.put_at.result)
     (ap (at_each root (λ q. put_with_path q (value_node c.in_ok-value.value))) (sym c.in-Some.ensures) ∙ sym all) put)

@@ -5,7 +5,8 @@ use Rattle.yq_nodes.specs.Nodes.{node_of}
 use Rattle.yq_semantics.{specs.Changes.{Room, changes_at, left_pipe}, specs.Judgement.{MatchFails, gives}, specs.Operations.operations_of}
 use Rattle.yq_semantics.{specs.Pipes.places, specs.Places.FoundPlace, specs.PlacesApart.AreIn, specs.Program.{Stage, Update}}
 use Rattle.yq_semantics.{specs.Rooms.room_of, specs.View.update_of, proofs.updates.PipePlaces.places_stand}
-use Rattle.yq_planner.specs.ChangeView.{changed_of}
+use Rattle.yq_planner.{specs.ChangeView.changed_of, specs.ValidChanges.{HasValidValue, HaveValidValues}}
+use Rattle.yq_planner.proofs.ValidLaws.{each_joined, ops_valid}
 use Rattle.yq_eval.{specs.PlaceView.{place_of, places_of}, specs.TreeScalars.HaveScalars, proofs.MatchLaws.places_have}
 use Rattle.yq_expr.{specs.Parts.{IsPlanPart, document_ops, values_limit}, proofs.OversizedOps.document_begins}
 use Rattle.yq_expr.proofs.PartLaws.{last_part, more_part, none_part, part_fails, some_are, some_have, some_in, some_left}
@@ -58,7 +59,7 @@ returns-in_err-changes-clause-err c =
     let p = err_from_is_err_and c.from_residual-in_err-changes.result c.from_residual-in_err-changes.ensures.1 in
     rw (p.1, p.2)
     (part_fails u c.args.document.doc room root ps found c.args.place (c.args.place + c.in_ok-few.few) _ order
-    (subst (λ (qs : List FoundPlace). MatchFails c.in_err-changes.field-0.0 (changes_at c.args.document.doc room root u qs)) some c.in_err-changes.ensures))
+    (subst (λ (qs : List FoundPlace). MatchFails c.in_err-changes.field-0.0 (changes_at c.args.document.doc room root u qs)) some c.in_err-changes.ensures.changes))
 
 pub returns-clause-part : goal.returns-clause-part
 returns-clause-part c =
@@ -69,7 +70,7 @@ returns-clause-part c =
     let found : places c.args.document.doc (left_pipe u) root ≡ gives ps = ap (λ (pipe : List Stage). places c.args.document.doc pipe root) (sym c.left-pipe.ensures) ∙ c.in_ok-places.ensures in
     let some = c.in_ok-places-2.ensures ∙ some_are ((c.args.place + c.in_ok-few.few) - c.args.place) c.args.place c.in_ok-places.places.items c.deref-2.result.now c.deref-2.ensures.value in
     let order : c.args.place ≤ (c.args.place + c.in_ok-few.few) = omega arith in
-    let changed = ap (changes_at c.args.document.doc room root u) (sym some) ∙ c.in_ok-changes.ensures in
+    let changed = ap (changes_at c.args.document.doc room root u) (sym some) ∙ c.in_ok-changes.ensures.changes in
     let before = operations_of c.args.part.now.ops.items in
     let after = operations_of c.push_changes.new.ops.items in
     let cs = map changed_of c.in_ok-changes.changes.items in
@@ -123,3 +124,8 @@ returns-then-branch-clause-ends c =
       moves = λ _ fresh. absurd (false≢true (sym fresh));
       large = λ _. document_begins u c.args.document.doc room root ps found c.args.place big.0 big.1 there big.3.0 big.3.1;
     }
+
+pub returns-clause-valid : goal.returns-clause-valid
+returns-clause-valid c = λ h.
+    subst HaveValidValues (sym c.in_ok-push_changes.ensures)
+    (each_joined HasValidValue (operations_of c.args.part.now.ops.items) _ h (ops_valid c.args.document.doc c.in_ok-changes.changes.items c.in_ok-changes.ensures.valid))

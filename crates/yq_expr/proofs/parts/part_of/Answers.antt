@@ -61,6 +61,7 @@ documents-preserved c =
       later = inr later;
       within = omega (arith, within);
       fresh = c.in_ok-next.ensures.fresh c.in-None.is;
+      valid = c.in_ok-next.ensures.valid c.documents.invariant.valid;
       room = λ same. absurd (omega (arith, later, same));
       so_far = sym (next_document (update_of c.args.update.now) (room_of c.args.documents.now) docs c.documents.at d.0 d.2 c.documents.place before after there) ∙ c.documents.invariant.so_far;
     }

@@ -5,7 +5,7 @@ use Rattle.yq_semantics.{specs.Operations.{Operation, operations_of}, specs.decl
 use Rattle.yq_edit_laws.{specs.Answers.Edits, specs.Carried.carry_all, specs.Edit.edit_after, specs.Valid.{AreServed, HaveOperands}}
 use Rattle.yq_edit_laws.proofs.MeaningLaws.{plan_serves}
 use Rattle.yq_edit_laws.proofs.UpdateLaws.{update_unplanned, update_planned, update_holds, update_there, update_ok, update_err}
-use Rattle.yq_splice.proofs.PartLaws.{weighing_fails}
+use Rattle.yq_splice.{proofs.PartLaws.weighing_fails, proofs.ValidOperands.operands_valid}
 use Rattle.yq_splice.proofs.editing.step.Goals as goal
 
 pub returns-in_err-ops-clause-err : goal.returns-in_err-ops-clause-err
@@ -23,11 +23,11 @@ carry_plan-requires-clause-serves c =
     let ops : List Operation = operations_of c.in_ok-ops.ops.items in
     let text : d ≡ t = c.requires.same in
     let is : read_at t ≡ Some (cut_of d) = c.requires.read in
-    let valid : HaveOperands ops = subst (λ (x : List Op). HaveOperands (operations_of x)) c.deref.ensures.value c.operands_hold.ensures in
+    let valid : HaveOperands ops = operands_valid c.in_ok-ops.ops.items c.in_ok-ops.ensures.valid in
     let u = update_there (program_of c.args.program.now) c.args.nth c.requires.within in
     let served : AreServed ops t =
     (documents (cut_of d), plan_serves u.0 t (cut_of d) is ops (update_planned u.0 t d ops text (c.in_ok-ops.ensures.exact u.0 u.1)) valid (update_holds (program_of c.args.program.now) c.args.nth u.0 c.requires.literals u.1)) in
-    subst (λ (x : List Op). AreServed (operations_of x) t) (sym c.deref-2.ensures.value) served
+    subst (λ (x : List Op). AreServed (operations_of x) t) (sym c.deref.ensures.value) served
 
 pub returns-clause-ok : goal.returns-clause-ok
 returns-clause-ok c =
@@ -36,9 +36,9 @@ returns-clause-ok c =
     let ops : List Operation = operations_of c.in_ok-ops.ops.items in
     let text : d ≡ t = c.requires.same in
     let is : read_at t ≡ Some (cut_of d) = c.requires.read in
-    let valid : HaveOperands ops = subst (λ (x : List Op). HaveOperands (operations_of x)) c.deref.ensures.value c.operands_hold.ensures in
+    let valid : HaveOperands ops = operands_valid c.in_ok-ops.ops.items c.in_ok-ops.ensures.valid in
     let new_bytes : Edits c.carry_plan.result (edit_after c.args.splices.items (carry_all ops t)) =
-    subst (λ (x : List Op). Edits c.carry_plan.result (edit_after c.args.splices.items (carry_all (operations_of x) t))) c.deref-2.ensures.value
+    subst (λ (x : List Op). Edits c.carry_plan.result (edit_after c.args.splices.items (carry_all (operations_of x) t))) c.deref.ensures.value
     c.carry_plan.ensures in
     λ u at. update_ok u t (cut_of d) ops is (update_planned u t d ops text (c.in_ok-ops.ensures.exact u at))
     (update_holds (program_of c.args.program.now) c.args.nth u c.requires.literals at) valid c.carry_plan.result c.args.splices.items new_bytes
@@ -50,9 +50,9 @@ returns-clause-err c =
     let ops : List Operation = operations_of c.in_ok-ops.ops.items in
     let text : d ≡ t = c.requires.same in
     let is : read_at t ≡ Some (cut_of d) = c.requires.read in
-    let valid : HaveOperands ops = subst (λ (x : List Op). HaveOperands (operations_of x)) c.deref.ensures.value c.operands_hold.ensures in
+    let valid : HaveOperands ops = operands_valid c.in_ok-ops.ops.items c.in_ok-ops.ensures.valid in
     let new_bytes : Edits c.carry_plan.result (edit_after c.args.splices.items (carry_all ops t)) =
-    subst (λ (x : List Op). Edits c.carry_plan.result (edit_after c.args.splices.items (carry_all (operations_of x) t))) c.deref-2.ensures.value
+    subst (λ (x : List Op). Edits c.carry_plan.result (edit_after c.args.splices.items (carry_all (operations_of x) t))) c.deref.ensures.value
     c.carry_plan.ensures in
     λ u at. update_err u t (cut_of d) ops is (update_planned u t d ops text (c.in_ok-ops.ensures.exact u at))
     (update_holds (program_of c.args.program.now) c.args.nth u c.requires.literals at) valid c.carry_plan.result c.args.splices.items new_bytes

@@ -1,4 +1,4 @@
-use Rattle.std.{proofs.Common.{◌≡◌, ◌<◌, min, false, map, None, refl, sym, ap, ◌∙◌, subst, arith, rules}, proofs.lemmas.List.length-map}
+use Rattle.std.{proofs.Common.{◌≡◌, min, map, None, refl, sym, ap, ◌∙◌, subst, arith, rules}, proofs.lemmas.List.length-map}
 use Rattle.yq_core.{specs.Keys.depth, specs.Tree.list, specs.Values.{items, value_node}}
 use Rattle.yq_planner.{specs.ListSizes.HasSize, proofs.ListSizeLaws.list_size}
 use Rattle.yq_planner.proofs.StandInLaws.{node_of-list, node_of-scalar, some_there}

@@ -12,7 +12,7 @@ returns-in_ok-in_list-in-List c =
     let count = length-map c.in-List.items.items value_node in
     let there = some_there _ (sym c.is_empty.ensures ∙ c.if-is_empty.false) in
     let some : 0 < length (map value_node c.in-List.items.items) = omega (arith, there, count) in
-    let fit : has_long_key (list None (items (map value_node c.in-List.items.items))) ≡ false = ap has_long_key (sym node) ∙ (sym c.in_ok-holds_long_key.ensures ∙ c.if-branch.false) in
+    let fit : has_long_key (list None (items (map value_node c.in-List.items.items))) ≡ false = ap has_long_key (sym node) ∙ (sym c.in_ok-holds_long_key.ensures.long ∙ c.if-branch.false) in
     let deep : c.depth_of.result ≡ min 65 (depth (list None (items (map value_node c.in-List.items.items)))) = c.depth_of.ensures ∙ ap (λ n. min 65 (depth n)) node in
     let inner : depth inside ≡ c.depth_of.result - 1 = c.in_ok-inside.ensures.depth ∙ c.saturating_sub.ensures in
     subst (λ v. IsStandIn v (value_node c.in_ok-in_list-in-List.field-0)) (sym node)
@@ -25,5 +25,5 @@ returns-else-is_empty-2 c =
     let count = length-map c.in-Map.entries.items field_of in
     let there = some_there _ (sym c.is_empty-in-Map.ensures ∙ c.if-is_empty-2.false) in
     let some : 0 < length (map field_of c.in-Map.entries.items) = omega (arith, there, count) in
-    mapped (map field_of c.in-Map.entries.items) (value_node c.in_ok-inside.inside) (value_node c.args.value.now) c.depth_of.result node some (sym c.in_ok-holds_long_key.ensures ∙ c.if-branch.false) c.in_ok-inside.ensures.short
+    mapped (map field_of c.in-Map.entries.items) (value_node c.in_ok-inside.inside) (value_node c.args.value.now) c.depth_of.result node some (sym c.in_ok-holds_long_key.ensures.long ∙ c.if-branch.false) c.in_ok-inside.ensures.short
     c.depth_of.ensures (c.in_ok-inside.ensures.depth ∙ c.saturating_sub.ensures) c.in_map.result c.in_map.ensures.map c.in_map.ensures.short
