@@ -1,9 +1,9 @@
 -- The operations of valid changes have valid values.
-use Rattle.std.proofs.Common.{ℕ, suc, Bool, true, false, List, [], ◌∷◌, ◌++◌, map, reverse, sym, subst}
-use Rattle.std.{proofs.lemmas.List.reverse-append, specs.Global.Vec}
+use Rattle.std.{proofs.Common.{ℕ, suc, Bool, true, false, List, [], ◌∷◌, ◌++◌, map, reverse, sym, subst}, proofs.lemmas.List.reverse-append}
+use Rattle.std.specs.Global.{Vec}
 use Rattle.yq_core.specs.Paths.{Step}
 use Rattle.yq_semantics.specs.Changes.{Addition, appends, overwrites, Change, replaces, adds, removes, sets_comment, Changed}
-use Rattle.yq_semantics.{specs.Plans.{add_op, all_ops, change_ops, ops_of, ordered}}
+use Rattle.yq_semantics.specs.Plans.{add_op, all_ops, change_ops, ops_of, ordered}
 use Rattle.yq_planner.specs.ChangeView.{all_changed_of, changed_of}
 use Rattle.yq_planner.specs.ValidChanges.{AddsValid, AreAllValid, AreValidChanges, Each, HasValidValue, HaveValidValues, IsValidChange}
 use Rattle.yq_planner.specs.declared.updating.change.PlacedChange.{PlacedChange}
