@@ -19,7 +19,7 @@ mod ways;
 pub use append::{append_in_flow, more_in_node};
 pub use edit::{last_step, unchanged};
 pub use near::{collection_near, part_index, part_near};
-pub use operands::{operand_holds, operands_hold};
+pub use operands::operand_holds;
 pub use put::{put_in_flow, put_in_node};
 pub use remove::remove_in_flow;
 pub use sole::emptying;
