@@ -53,7 +53,12 @@ children-preserved c =
     }
 
 pub returns : goal.returns
-returns c = search (rules, children_done, none_counted, c.children.invariant.so_far)
+returns c = λ root named within.
+    let f : FoundPlace → Judgement (List Changed) = λ q. and_then (all_allowed root) (effect_of c.args.effect.now c.args.documents.now q) in
+    let p : FoundPlace = place_at_path (path_of c.args.parent.now.path) (node_of c.args.parent.now.node) in
+    let so_far = c.children.invariant.so_far root named within in
+    let none = none_counted (left_of c.children.children) (omega (arith, c.children.invariant.counted, c.children-test.false)) in
+    ap verdict (children_done f p c.children.before (left_of c.children.children) so_far.0 _ none so_far.1)
 
 pub overflow_add-before : goal.overflow_add-before
 overflow_add-before c = omega (arith, c.children-test.true)
