@@ -1,8 +1,9 @@
 -- Which journals are believed, by what the system reports of them and of the links to them (own).
-use Rattle.std.specs.Prelude.{ℕ, ◌==◌, ◌&&◌, List, [], ◌∷◌, Bool, true, if◌then◌else◌, Option, Some, None}
+use Rattle.std.specs.Prelude.{◌≡◌, ℕ, ◌==◌, ◌&&◌, List, [], ◌∷◌, Bool, true, if◌then◌else◌, Option, Some, None}
 use Rattle.std.{specs.declared.io.ErrorKind.ErrorKind, specs.declared.io.ErrorKind.TheVariants.{InvalidInput, PermissionDenied}}
-use Rattle.yq_store.{specs.declared.disk.found.FoundFile.FoundFile, specs.declared.disk.state.FileState.FileState}
-use Rattle.yq_store.{specs.Trust.{believes, covers, with_file}, specs.declared.disk.trust.Trust.Trust}
+use Rattle.yq_store.{specs.declared.disk.belief.BelievedJournal.BelievedJournal, specs.declared.disk.found.FoundFile.FoundFile}
+use Rattle.yq_store.{specs.declared.disk.state.FileState.FileState, specs.Trust.{believes, covers, with_file}}
+use Rattle.yq_store.specs.declared.disk.trust.Trust.{Trust}
 
 -- the device and the inode are the same
 abbrev pub is_same_file : FileState → FileState → Bool
@@ -24,3 +25,7 @@ abbrev pub unbelieved : FoundFile → List (ℕ × ℕ) → Trust → FileState 
 unbelieved journal links t file =
     if is_same_file file journal.state then Some InvalidInput
     else if is_trusted journal links t then None else Some PermissionDenied
+
+-- a journal that was read is believed
+abbrev pub IsBelieved : Trust → FileState → BelievedJournal → Type 0
+IsBelieved trust file journal = unbelieved journal.found journal.links.items trust file ≡ None

@@ -1,6 +1,6 @@
 //! A store of real files.
 ghost use Rattle.std.specs.Prelude.{◌≡◌, false};
-ghost use Rattle.yq_store.specs.Calls.{reads_after, writes_after};
+ghost use Rattle.yq_store.specs.Calls.{CountsCall};
 ghost use Rattle.std.specs.FinMap as map;
 
 mod as_read;
@@ -30,7 +30,7 @@ use crate::disk::links::is_absence;
 use crate::disk::locking::LockRequest;
 use crate::disk::purpose::Purpose;
 use crate::disk::reading::read_text;
-use crate::store::Store;
+use crate::store::{Counts, Store};
 use std::alloc::Global;
 use std::fs::File;
 use std::io::{Eprint, ErrorKind};
@@ -41,7 +41,7 @@ use std::{fs, io};
 use yq_fault::Fault;
 
 /// Real files, for one command, which reads its file before it reads or writes anything else. A
-/// temporary file with the new bytes is written beside the old file, and renamed over it. What is
+/// temporary file with the new bytes is written next to the old file, and renamed over it. What is
 /// said of a store's content holds for none of this.
 #[derive(Drop)]
 pub struct DiskStore<'a, R: Drop> {
@@ -51,9 +51,7 @@ pub struct DiskStore<'a, R: Drop> {
     edited: Option<EditedFile>,
     reports: bool,
     hint: Option<JournalHint>,
-    failures: u64,
-    reads: u64,
-    writes: u64,
+    counts: Counts,
 }
 
 impl<'a, R: Drop> DiskStore<'a, R> {
@@ -66,13 +64,11 @@ impl<'a, R: Drop> DiskStore<'a, R> {
             edited: None,
             reports: false,
             hint: None,
-            failures: 0,
-            reads: 0,
-            writes: 0,
+            counts: Counts::none(),
         }
     }
 
-    /// The same store, which tells on standard error, or doesn't, where it waits for another run for
+    /// The same store, which says on standard error, or doesn't, where it waits for another run for
     /// longer than a second.
     pub fn reporting(self, reports: bool) -> Self {
         let mut store = self;
@@ -92,9 +88,7 @@ impl<
 > DiskStore<'a, R> {
     /// The bytes of a file, if there is one. A command that looks at a journal locks its file first.
     fn bytes_of(&mut self, alloc: Global, name: &str) -> io::Result<Option<Vec<u8>>>
-        ensures failures { self.new.failures ≡ self.old.failures }
-        ensures reads { self.new.reads ≡ self.old.reads }
-        ensures writes { self.new.writes ≡ self.old.writes }
+        ensures counts { self.new.counts ≡ self.old.counts }
     {
         if self.purpose == Purpose::Print {
             return match fs::open(&self.rt, name) {
@@ -129,9 +123,7 @@ impl<
 
     /// Replaces a file. Want of memory is an error only where every file is as before.
     fn put(&mut self, name: &str, bytes: &[u8]) -> io::Result<()>
-        ensures failures { self.new.failures ≡ self.old.failures }
-        ensures reads { self.new.reads ≡ self.old.reads }
-        ensures writes { self.new.writes ≡ self.old.writes }
+        ensures counts { self.new.counts ≡ self.old.counts }
     {
         match &mut self.edited {
             None => Err(io::Error::from(ErrorKind::Other)),
@@ -154,31 +146,30 @@ impl<
 
     ghost content = { λ _. map.empty };
 
-    ghost failures = { λ s. s.failures };
+    ghost failures = { λ s. s.counts.failures };
 
-    ghost leads = { λ s c t. (t.reads ≡ reads_after c s.reads) ×
-        (t.writes ≡ writes_after c s.writes) };
+    ghost leads = { λ s call t. CountsCall s.counts call t.counts };
 
     fn read(&mut self, alloc: Global, name: &str) -> Result<Vec<u8>, Fault> {
-        self.reads = self.reads.saturating_add(1);
+        self.counts.reads = self.counts.reads.saturating_add(1);
         match self.bytes_of(alloc, name) {
             Ok(Some(bytes)) => Ok(bytes),
             Ok(None) => Err(Fault::NotThere),
             Err(e) if e.kind() == ErrorKind::OutOfMemory => Err(Fault::OutOfMemory),
             Err(_) => {
-                self.failures = self.failures.saturating_add(1);
+                self.counts.failures = self.counts.failures.saturating_add(1);
                 Err(Fault::ReadFailed)
             }
         }
     }
 
     fn replace(&mut self, name: &str, bytes: &[u8]) -> Result<(), Fault> {
-        self.writes = self.writes.saturating_add(1);
+        self.counts.writes = self.counts.writes.saturating_add(1);
         match self.put(name, bytes) {
             Ok(()) => Ok(()),
             Err(e) if e.kind() == ErrorKind::OutOfMemory => Err(Fault::OutOfMemory),
             Err(_) => {
-                self.failures = self.failures.saturating_add(1);
+                self.counts.failures = self.counts.failures.saturating_add(1);
                 Err(Fault::WriteFailed)
             }
         }

@@ -1,9 +1,9 @@
 //! A store in memory, which can be made to fail.
 ghost use Rattle.std.{specs.Prelude.{◌≡◌, true, [], IfOk, option_map}, specs.String.string_bytes};
-ghost use Rattle.yq_store.{specs.Calls.{reads_after, writes_after}, specs.FileMap.file_bytes};
+ghost use Rattle.yq_store.{specs.Calls.{CountsCall, no_calls}, specs.FileMap.file_bytes};
 ghost use Rattle.std.specs.FinMap as map;
 
-use crate::store::Store;
+use crate::store::{Counts, Store};
 use std::alloc::{AllocError, Global};
 use std::collections::VecDeque;
 use yq_fault::Fault;
@@ -22,36 +22,28 @@ pub struct MemoryStore {
     alloc: Global,
     calls: u64,
     fails: Option<(u64, Left)>,
-    failures: u64,
-    reads: u64,
-    writes: u64,
+    counts: Counts,
 }
 
 impl MemoryStore {
     /// A store without files.
     pub fn new(alloc: Global) -> MemoryStore
         ensures log { result.log.items ≡ [] }
-        ensures failures { result.failures ≡ 0 }
-        ensures reads { result.reads ≡ 0 }
-        ensures writes { result.writes ≡ 0 }
+        ensures counts { result.counts ≡ no_calls }
     {
         MemoryStore {
             log: VecDeque::new(alloc),
             alloc,
             calls: 0,
             fails: None,
-            failures: 0,
-            reads: 0,
-            writes: 0,
+            counts: Counts::none(),
         }
     }
 
     /// Fails the call of this number, counted from 1 from now on.
     pub fn fail_at(&mut self, call: u64, left: Left)
         ensures log { self.new.log ≡ self.old.log }
-        ensures failures { self.new.failures ≡ self.old.failures }
-        ensures reads { self.new.reads ≡ self.old.reads }
-        ensures writes { self.new.writes ≡ self.old.writes }
+        ensures counts { self.new.counts ≡ self.old.counts }
     {
         self.calls = 0;
         self.fails = Some((call, left));
@@ -66,23 +58,23 @@ impl MemoryStore {
 
     /// How many calls failed.
     pub fn failures(&self) -> u64
-        ensures { result ≡ self.now.failures }
+        ensures { result ≡ self.now.counts.failures }
     {
-        self.failures
+        self.counts.failures
     }
 
     /// How many calls of `read` there were.
     pub fn reads(&self) -> u64
-        ensures { result ≡ self.now.reads }
+        ensures { result ≡ self.now.counts.reads }
     {
-        self.reads
+        self.counts.reads
     }
 
     /// How many calls of `replace` there were.
     pub fn writes(&self) -> u64
-        ensures { result ≡ self.now.writes }
+        ensures { result ≡ self.now.counts.writes }
     {
-        self.writes
+        self.counts.writes
     }
 
     /// The bytes of a file, without a call of the store.
@@ -96,10 +88,8 @@ impl MemoryStore {
     /// What a write of this call leaves, where this is the call to fail.
     fn next_call(&mut self) -> Option<Left>
         ensures log { self.new.log ≡ self.old.log }
-        ensures failures { self.new.failures ≡ self.old.failures }
+        ensures counts { self.new.counts ≡ self.old.counts }
         ensures alloc { self.new.alloc ≡ self.old.alloc }
-        ensures reads { self.new.reads ≡ self.old.reads }
-        ensures writes { self.new.writes ≡ self.old.writes }
     {
         self.calls = self.calls.saturating_add(1);
         match self.fails {
@@ -134,15 +124,14 @@ impl Store for MemoryStore {
 
     ghost content = { λ s. file_bytes s.log.items };
 
-    ghost failures = { λ s. s.failures };
+    ghost failures = { λ s. s.counts.failures };
 
-    ghost leads = { λ s c t. (t.reads ≡ reads_after c s.reads) ×
-        (t.writes ≡ writes_after c s.writes) };
+    ghost leads = { λ s call t. CountsCall s.counts call t.counts };
 
     fn read(&mut self, alloc: Global, name: &str) -> Result<Vec<u8>, Fault> {
-        self.reads = self.reads.saturating_add(1);
+        self.counts.reads = self.counts.reads.saturating_add(1);
         if self.next_call().is_some() {
-            self.failures = self.failures.saturating_add(1);
+            self.counts.failures = self.counts.failures.saturating_add(1);
             return Err(Fault::ReadFailed);
         }
         match find_bytes(&self.log, name) {
@@ -153,16 +142,16 @@ impl Store for MemoryStore {
 
     #[tactic(auto, using(crate::specs::FileMap::get_other))]
     fn replace(&mut self, name: &str, bytes: &[u8]) -> Result<(), Fault> {
-        self.writes = self.writes.saturating_add(1);
+        self.counts.writes = self.counts.writes.saturating_add(1);
         let next_call = self.next_call();
         if next_call == Some(Left::OldBytes) {
-            self.failures = self.failures.saturating_add(1);
+            self.counts.failures = self.counts.failures.saturating_add(1);
             return Err(Fault::WriteFailed);
         }
         let entry = entry(self.alloc, name, bytes)?;
         self.log.push_front(entry).map_err(AllocError::from)?;
         if next_call == Some(Left::NewBytes) {
-            self.failures = self.failures.saturating_add(1);
+            self.counts.failures = self.counts.failures.saturating_add(1);
             return Err(Fault::WriteFailed);
         }
         Ok(())

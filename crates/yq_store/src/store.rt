@@ -1,11 +1,32 @@
 //! Stores of named files.
 ghost use Rattle.std.specs.Prelude.{◌≡◌, ℕ, Bool, IsTrue, OnOk, OnErr, IfErr};
 ghost use Rattle.yq_store.{specs.FileMap.FileMap, specs.Count.{failures_after, IsOfRead, IsOfWrite}};
-ghost use Rattle.yq_store.specs.Calls.{Call, reads, writes, bytes_read};
+ghost use Rattle.yq_store.specs.Calls.{Call, bytes_read, no_calls, reads, writes};
 ghost use Rattle.yq_store.specs.Changes.{ReadsHeld, AbsentIfNotThere, HasPut, MayWrite, StaysWithoutMemory, WritesOnly};
 
 use std::alloc::Global;
 use yq_fault::Fault;
+
+/// How many calls of a store there were, and how many failed, each up to the last value of 64 bits.
+#[derive(Clone, Copy)]
+pub(crate) struct Counts {
+    pub(crate) reads: u64,
+    pub(crate) writes: u64,
+    pub(crate) failures: u64,
+}
+
+impl Counts {
+    /// Before the first call.
+    pub(crate) fn none() -> Counts
+        ensures { result ≡ no_calls }
+    {
+        Counts {
+            reads: 0,
+            writes: 0,
+            failures: 0,
+        }
+    }
+}
 
 /// A store of named files.
 pub trait Store {

@@ -42,7 +42,7 @@ fn is_younger<R: Clock>(rt: &R, found: &Metadata, most: u64) -> io::Result<bool>
     Ok(age.as_millis() < most.saturating_add(more) as u128)
 }
 
-/// What the system tells of an open file that is to be read. An empty one that was changed just now may be
+/// What the system reports of an open file that is to be read. An empty one that was changed just now may be
 /// about to be written by another program, which is waited for.
 pub fn found_before_reading<R: Clock>(rt: &R, file: &File) -> io::Result<Metadata> {
     let found = file.metadata()?;
@@ -54,7 +54,7 @@ pub fn found_before_reading<R: Clock>(rt: &R, file: &File) -> io::Result<Metadat
 }
 
 impl FileAsRead {
-    /// Reads an open file of which the system tells this.
+    /// Reads an open file of which the system reports this.
     pub fn read<R: Clock>(
         rt: &R,
         alloc: Global,

@@ -1,5 +1,5 @@
 //! Which journals are believed, by what the system reports of them.
-ghost use Rattle.std.specs.Prelude.{◌≡◌, None, IfOk};
+ghost use Rattle.std.specs.Prelude.{◌≡◌, IfOk};
 ghost use Rattle.yq_store.specs.Belief as spec;
 
 use crate::disk::found::FoundFile;
@@ -75,7 +75,7 @@ impl OpenJournal {
         file: FileState,
         most: u64,
     ) -> io::Result<BelievedJournal>
-        ensures { IfOk result (λ j. spec.unbelieved j.found j.links.items trust file ≡ None) }
+        ensures { IfOk result (spec.IsBelieved trust file) }
     {
         let OpenJournal {
             file: journal,

@@ -65,7 +65,7 @@ pub fn read_edited<R: Files<File = File> + Clock + Eprint + Env + Alloc<A = Glob
 
 /// Before the first write: that the file and, where that write is of its journal, what was found there may
 /// both be replaced, and that the name still leads to the file as it was read. Then what cut runs left
-/// beside these goes. Gives what was found of the journal, open.
+/// next to these goes. Gives what was found of the journal, open.
 fn check_first<R: Files<File = File> + Clock + Alloc<A = Global>>(
     rt: &R,
     edited: &EditedFile,

@@ -1,5 +1,5 @@
 //! The journal of a file, which another user may have put where it is looked for.
-ghost use Rattle.std.specs.Prelude.{◌≡◌, None, IfOk, IfSome};
+ghost use Rattle.std.specs.Prelude.{◌≡◌, IfOk, IfSome};
 ghost use Rattle.yq_store.specs.Belief as spec;
 ghost use Rattle.yq_store.specs.Rights as rights;
 
@@ -30,8 +30,7 @@ pub fn read_journal<R: Files<File = File> + Env + Alloc<A = Global>>(
     file: FileState,
     writes: bool,
 ) -> io::Result<Option<BelievedJournal>>
-    ensures { IfOk result (λ read. IfSome read
-        (λ j. spec.unbelieved j.found j.links.items trust file ≡ None)) }
+    ensures { IfOk result (λ read. IfSome read (spec.IsBelieved trust file)) }
 {
     'looks: for _ in 0..MOST_LOOKS {
         let Target {
@@ -79,7 +78,7 @@ fn rights_of_written(
     }
 }
 
-/// The rights of the journal that is to be written at a target, beside its open file or elsewhere.
+/// The rights of the journal that is to be written at a target, next to its open file or elsewhere.
 pub fn journal_rights<R: Files>(
     rt: &R,
     target: &Target,

@@ -17,7 +17,7 @@ const MOST_TRIES: u32 = 12_000;
 /// How many seconds a run waits for a lock by the clock.
 const LONGEST_WAIT: u64 = 60;
 
-/// After how many of them a run tells for what it waits: about a second.
+/// After how many of them a run says for what it waits: about a second.
 const SILENT_TRIES: u32 = 200;
 
 /// The pause between two tries, in milliseconds.
@@ -34,7 +34,7 @@ const UNLOCKED: &str = "YQ_NO_LOCK";
 pub struct LockRequest<'n> {
     pub name: &'n str,
     pub purpose: Purpose,
-    /// Whether a run that waits for it for longer than a second tells that on standard error.
+    /// Whether a run that waits for it for longer than a second says that on standard error.
     pub reports: bool,
 }
 

@@ -13,10 +13,10 @@ use std::path::PathBuf;
 use std::rt::Files;
 use std::{fs, io};
 
-/// What is written before the number of a mount in what the system tells of an open file.
+/// What is written before the number of a mount in what the system reports of an open file.
 const MOUNT: &str = "mnt_id:";
 
-/// The number of a mount in what the system tells of an open file, where it is reported.
+/// The number of a mount in what the system reports of an open file, where it is reported.
 fn mount_in(info: Vec<u8>) -> Option<u64> {
     for line in std::str::from_utf8(&info).unwrap_or("").lines() {
         if let Some(number) = line.strip_prefix(MOUNT) {
@@ -26,7 +26,7 @@ fn mount_in(info: Vec<u8>) -> Option<u64> {
     None
 }
 
-/// The number of the mount through which a file was opened, where the system tells it.
+/// The number of the mount through which a file was opened, where the system reports it.
 fn mount_of<R: Files<File = File> + Alloc<A = Global>>(
     rt: &R,
     file: &File,

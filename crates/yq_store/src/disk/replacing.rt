@@ -1,4 +1,4 @@
-//! Replacing a file: a temporary file beside it is written, synced, and renamed over it.
+//! Replacing a file: a temporary file next to it is written, synced, and renamed over it.
 
 use crate::disk::as_read::FileAsRead;
 use crate::disk::links::folder_of;

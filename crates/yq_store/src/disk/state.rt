@@ -1,4 +1,4 @@
-//! What tells one file from another, and whether it was changed.
+//! What distinguishes one file from another, and whether it was changed.
 ghost use Rattle.std.specs.Prelude.{◌≡◌};
 ghost use Rattle.yq_store.specs.Belief as spec;
 
@@ -20,7 +20,7 @@ pub struct FileState {
 }
 
 impl FileState {
-    /// That of a file, as the system tells it.
+    /// That of a file, as the system reports it.
     pub fn of(file: &Metadata) -> FileState {
         FileState {
             device: file.dev(),

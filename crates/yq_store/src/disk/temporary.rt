@@ -1,4 +1,4 @@
-//! Temporary files beside the files that they are to replace, and those that cut runs left there.
+//! Temporary files next to the files that they are to replace, and those that cut runs left there.
 
 use crate::disk::links::folder_of;
 use crate::disk::locking::is_locked;
@@ -28,7 +28,7 @@ const DIGITS: usize = 16;
 /// the most that a name may have.
 const MOST_OF_NAME: usize = 234;
 
-/// How many seconds old a temporary file is when no run is at work on it any more, where no lock tells it.
+/// How many seconds old a temporary file is when no run is at work on it any more, where no lock says so.
 const AGE: u64 = 3_600;
 
 /// What the names of a path's temporary files have of its last name.
@@ -38,7 +38,7 @@ fn name_within(path: &PathBuf) -> &str {
         .unwrap_or("")
 }
 
-/// A path for a temporary file beside a path: `.NAME.yq-` for its last name, and then the digits.
+/// A path for a temporary file next to a path: `.NAME.yq-` for its last name, and then the digits.
 fn temporary_path(alloc: Global, path: &PathBuf, number: u64) -> Result<PathBuf, AllocError> {
     let name = name_within(path);
     let name = format!(in alloc; ".{name}.yq-{number:016x}")?;
@@ -72,7 +72,7 @@ fn new_at<R: Files<File = File> + Env + Alloc<A = Global>>(
     }
 }
 
-/// Makes a temporary file beside a path, under a name that no file has: neither what an earlier run
+/// Makes a temporary file next to a path, under a name that no file has: neither what an earlier run
 /// left there when it was cut nor what another run writes at the same time is touched. It is locked, so
 /// that no other run takes it for what was left.
 pub fn make_temporary<R: Files<File = File> + RandomSource + Env + Alloc<A = Global>>(
@@ -143,7 +143,7 @@ fn abandoned_at<R: Files<File = File>>(
 }
 
 /// Removes an entry of a folder where it is a temporary file for this name, and a regular file on which no
-/// run is at work: its lock tells it or, where no lock does, how long ago it was written.
+/// run is at work: its lock says so or, where no lock does, how long ago it was written.
 fn remove_abandoned<R: Files<File = File>>(rt: &R, entry: &DirEntry<&R>, name: &str, now: u64) {
     if !is_temporary(entry.file_name(), name) {
         return;
@@ -166,7 +166,7 @@ fn remove_abandoned<R: Files<File = File>>(rt: &R, entry: &DirEntry<&R>, name: &
     }
 }
 
-/// Removes the temporary files that runs left beside a path when they were cut. Only a run that
+/// Removes the temporary files that runs left next to a path when they were cut. Only a run that
 /// holds the lock of its file calls it. What can't be removed stays.
 pub fn remove_left<R: Files<File = File> + Clock + Alloc<A = Global>>(rt: &R, path: &PathBuf) {
     let Ok(now) = rt.since_1970() else {

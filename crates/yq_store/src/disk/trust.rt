@@ -18,7 +18,7 @@ const EVERYONE_WRITES: u32 = 0o002;
 /// The bit that lets only the owners rename over a file in a folder, and root.
 const STICKY: u32 = 0o1000;
 
-/// What the system tells of the run itself belongs to the user of the run.
+/// What the system reports of the run itself belongs to the user of the run.
 const OWN_RUN: &str = "/proc/self";
 
 /// The user of the run, where the system reports it.
@@ -58,7 +58,7 @@ impl Writers {
     }
 }
 
-/// Who may put something in the place of a file or beside it: the user of the run, root, and who may
+/// Who may put something in the place of a file or next to it: the user of the run, root, and who may
 /// write the file.
 #[derive(Clone, Copy)]
 pub struct Trust {
