@@ -78,7 +78,7 @@ module _ {S : Type 0} (leads : S → Call → S → Type 0) where
 
   -- ---- reading a pair
 
-  -- a journal that was read is opened beside a text, and settled
+  -- a journal that was read is opened next to a text, and settled
   module _ (v : Vec ℕ Global) (z y : State) (settled : settled_beside z v.items ≡ Some y) where
     abbrev IsRead : Option (List ℕ) → S → S → Type 0
     IsRead beside s t = (t ≡ s) × (journal_beside beside ≡ Some z)

@@ -75,7 +75,7 @@ pub not_opened : (file journal : Option (List ℕ)) (go : List ℕ → State →
     r ≡ Err e → d ≡ c → Refused file journal e → Works (from_pair file journal go) f j c d r
 not_opened file journal go f j c d r e is same why = search rules
 
--- one that was, by what it came to
+-- one that was, by how it ended
 pub from_opened : (file journal : Option (List ℕ)) (go : List ℕ → State → Effect) (f j : List ℕ) (c m d : FileMap) (t : List ℕ) (s : State) {T : Type 0} (r : Result T Fault) →
     m ≡ c → from_pair file journal go ≡ go t s → Works (go t s) f j m d r → Works (from_pair file journal go) f j c d r
 from_opened file journal go f j c m d t s r same is works = search rules

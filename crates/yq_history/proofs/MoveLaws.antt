@@ -28,7 +28,7 @@ journal_written c e j s w =
     record { text = there; reads = ap journal_beside there ∙ w.reads }
 
 module _ (f j : List ℕ) (apart : f ≢ j) where
-  -- a journal written beside a text
+  -- a journal written next to a text
   pub wrote_journal : (c e : FileMap) (t : List ℕ) (s : State) (h : History) → get c f ≡ Some t → Writes c e j s → Describes s t h → PairStands e f j h
   wrote_journal c e t s h is w k = record {
     text = t;
@@ -38,7 +38,7 @@ module _ (f j : List ℕ) (apart : f ≢ j) where
     describes = k;
   }
 
-  -- and then a text beside it
+  -- and then a text next to it
   wrote_text : (c e g : FileMap) (u : List ℕ) (s : State) (h : History) → Writes c e j s → g ≡ insert e f u → Describes s u h → PairStands g f j h
   wrote_text c e g u s h w is k = record {
     text = u;
@@ -164,11 +164,11 @@ bytes_same t = (bytes_eq-Decides t t).1 refl
 pub bytes_differ : (t u : List ℕ) → t ≢ u → bytes_eq t u ≡ false
 bytes_differ t u d = search rules
 
--- an open move is done beside the text to which it leads
+-- an open move is done next to the text to which it leads
 settles_moved : (s : State) (t u : List ℕ) (step : Move) → moved_text s.records s.at step t ≡ Some u → u ≢ t → settled_beside (with_move s step t) u ≡ Some (journal_after s step)
 settles_moved s t u step m d = search rules
 
--- the journal with the move open, settled beside the new text
+-- the journal with the move open, settled next to the new text
 pub settled_is : (s : State) (t u : List ℕ) (step : Move) (y z : State) →
     moved_text s.records s.at step t ≡ Some u → u ≢ t → y ≡ with_move s step t → settled_beside y u ≡ Some z → z ≡ journal_after s step
 settled_is s t u step y z m changes is settles = same_Some z (journal_after s step) (sym settles ∙ ap (λ x. settled_beside x u) is ∙ settles_moved s t u step m changes)

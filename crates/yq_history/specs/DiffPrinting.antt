@@ -47,7 +47,11 @@ print_ended o _ = []
 abbrev pub open_after : Open → Part → Open
 open_after o (part.Skipped t) = opened (o.old_at + length (text_lines t.now)) (o.new_at + length (text_lines t.now))
 open_after o (part.Unchanged t) =
-    record o { old_at = o.old_at + length (text_lines t.now); new_at = o.new_at + length (text_lines t.now); body = o.body ++ marked_lines (codes " ") (text_lines t.now) }
+    record o {
+      old_at = o.old_at + length (text_lines t.now);
+      new_at = o.new_at + length (text_lines t.now);
+      body = o.body ++ marked_lines (codes " ") (text_lines t.now);
+    }
 open_after o (part.Deleted t) = record o { old_at = o.old_at + length (text_lines t.now); body = o.body ++ marked_lines (codes "-") (text_lines t.now) }
 open_after o (part.Added t) = record o { new_at = o.new_at + length (text_lines t.now); body = o.body ++ marked_lines (codes "+") (text_lines t.now) }
 

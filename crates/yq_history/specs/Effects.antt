@@ -11,13 +11,13 @@ use Rattle.yq_store.specs.FileMap.{FileMap}
 use Rattle.yq_fault.specs.declared.fault.Fault.TheVariants as fault
 
 -- what a command does: it is refused; it writes nothing and has this output; or it has none of its own, and leaves this text in the file
--- and the second of these journals beside it, where the first one, in which its move is open, is until the text does
+-- and the second of these journals next to it, where the first one, in which its move is open, is until the text does
 pub data Effect : Type 0 where
   refuses : Cause → Effect
   writes_nothing : Output → Effect
   writes_both : List ℕ → State → State → Effect
 
--- what goes on from a text and its journal, settled beside it; J5 where it can't be settled
+-- what goes on from a text and its journal, settled next to it; J5 where it can't be settled
 abbrev pub from_settled : Option State → List ℕ → (List ℕ → State → Effect) → Effect
 from_settled None t go = refuses (named (fault.Journal Unsettled))
 from_settled (Some s) t go = go t s
@@ -69,7 +69,7 @@ printed_by (writes_nothing o) = o
 printed_by _ = bytes []
 
 -- what a command leaves that was cut short: the file as it was, and the journal so too or with the move open; or the new text in the file,
--- and beside it the journal with the move open, or the one after it
+-- and next to it the journal with the move open, or the one after it
 abbrev pub IsCutShort : List ℕ → State → State → List ℕ → List ℕ → FileMap → FileMap → Type 0
 IsCutShort u started s file journal old new =
     ((get new file ≡ get old file) × ((get new journal ≡ get old journal) ⊎ IsJournal (get new journal) started))

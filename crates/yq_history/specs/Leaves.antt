@@ -23,7 +23,8 @@ abbrev pub HasState : FileMap → List ℕ → State → Type 0
 HasState content name s = journal_beside (get content name) ≡ Some s
 
 -- from each history for which a file and its journal are good, a call arrives at the next one, or is refused for its cause
-abbrev pub ArrivesBy : (Option History → Option Cause) → (Option History → Option History) → List ℕ → List ℕ → FileMap → FileMap → {T : Type 0} → Result T Fault → Type 0
+abbrev pub ArrivesBy : (Option History → Option Cause) → (Option History → Option History) →
+    List ℕ → List ℕ → FileMap → FileMap → {T : Type 0} → Result T Fault → Type 0
 ArrivesBy cause next file journal old new r = (h : Option History) → GoodIn old file journal h → Arrives new file journal (cause h) h (next h) r
 
 -- What a call leaves of what names hold. Of its own names nothing is said where a call of the store failed or memory was refused.

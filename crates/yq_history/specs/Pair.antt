@@ -29,7 +29,7 @@ pub record Writes (old new : FileMap) (journal : List ℕ) (s : State) : Type 0 
   pub reads : journal_in (journal_text s) ≡ Some s
   pub written : new ≡ insert old journal (journal_text s)
 
--- the file is this text, beside which this journal is at rest, and the pair is good for the history
+-- the file is this text, next to which this journal is at rest, and the pair is good for the history
 pub record PairAtRest (content : FileMap) (file journal : List ℕ) (s : State) (t : List ℕ) (h : History) : Type 0 where
   pub file_is : get content file ≡ Some t
   pub at_rest : AtRest s t h

@@ -23,15 +23,19 @@ BadOnlyIfNone content name r = IfErr r (λ e. ((e ≡ fault.Journal BadJournal) 
 abbrev pub IsReadFrom : {S E : Type 0} → Result State E → Option (List ℕ) → S → S → Type 0
 IsReadFrom r beside s t = (t ≡ s) × IfOk r (λ j. journal_beside beside ≡ Some j)
 
+-- what goes on from what a store holds by the names of a pair
+abbrev pub from_held : FileMap → Pair → (List ℕ → State → Effect) → Effect
+from_held content pair go = from_names content pair.file.now pair.journal.now go
+
 -- what was opened is what goes on from the bytes of the file and of its journal
 abbrev pub FindsPair : FileMap → Pair → {E : Type 0} → Result (Vec ℕ Global × State) E → Type 0
 FindsPair content pair r =
-    IfOk r (λ p. (go : List ℕ → State → Effect) → from_names content pair.file.now pair.journal.now go ≡ go p.0.items p.1)
+    IfOk r (λ p. (go : List ℕ → State → Effect) → from_held content pair go ≡ go p.0.items p.1)
 
 -- an error from inside is the refusal of whatever would go on from there
 abbrev pub MissesPair : FileMap → Pair → {T : Type 0} → Result T Fault → Type 0
 MissesPair content pair r =
-    IfErr r (λ e. is_outer_fault e ≡ false → (go : List ℕ → State → Effect) → from_names content pair.file.now pair.journal.now go ≡ refuses (named e))
+    IfErr r (λ e. is_outer_fault e ≡ false → (go : List ℕ → State → Effect) → from_held content pair go ≡ refuses (named e))
 
 -- the text that was opened is the file's
 abbrev pub OpensText : FileMap → Pair → {E : Type 0} → Result (Vec ℕ Global × State) E → Type 0
@@ -65,11 +69,13 @@ module _ {S : Type 0} (d : Ghosts S) (old new : S) where
     ActsOnPair a r =
         IsTrue d.keeps → NamesDiffer pair → ArrivesBy a.cause a.next pair.file.now pair.journal.now (d.content old) (d.content new) r
 
-    -- its effect came about
+    -- an effect on what both names hold came about
+    abbrev pub WorksHeld : (List ℕ → State → Effect) → {T : Type 0} → Result T Fault → Type 0
+    WorksHeld go r = Works (from_held (d.content old) pair go) pair.file.now pair.journal.now (d.content old) (d.content new) r
+
+    -- that of an action
     abbrev pub WorksOnPair : Action → {T : Type 0} → Result T Fault → Type 0
-    WorksOnPair a r =
-        IsTrue d.keeps → NamesDiffer pair →
-        Works (from_names (d.content old) pair.file.now pair.journal.now a.effect) pair.file.now pair.journal.now (d.content old) (d.content new) r
+    WorksOnPair a r = IsTrue d.keeps → NamesDiffer pair → WorksHeld a.effect r
 
     -- a listing leaves every history for which the pair is good, or is refused for its cause
     abbrev pub ArrivesListed : {T : Type 0} → Result T Fault → Type 0
@@ -79,16 +85,14 @@ module _ {S : Type 0} (d : Ghosts S) (old new : S) where
 
     -- the effect of one came about
     abbrev pub ListsPair : Bool → {T : Type 0} → Result T Fault → Type 0
-    ListsPair diffs r =
-        IsTrue d.keeps →
-        Works (from_names (d.content old) pair.file.now pair.journal.now (listing_effect diffs)) pair.file.now pair.journal.now (d.content old) (d.content new) r
+    ListsPair diffs r = IsTrue d.keeps → WorksHeld (listing_effect diffs) r
 
 module _ {S : Type 0} (d : Ghosts S) (old : S) (pair : Pair) where
   -- what a listing prints is what its effect on the bytes of both names says
   abbrev pub Lists : Bool → declared.Report → {T E : Type 0} → Result T E → Type 0
   Lists diffs report r =
       IsTrue d.keeps →
-      OnOk r (IsOutput pair.file.now (printed_by (from_names (d.content old) pair.file.now pair.journal.now (listing_effect diffs))) (string_bytes report.text))
+      OnOk r (IsOutput pair.file.now (printed_by (from_held (d.content old) pair (listing_effect diffs))) (string_bytes report.text))
 
   -- it is the history's, for each history for which the pair is good
   abbrev pub Prints : Bool → declared.Report → {T E : Type 0} → Result T E → Type 0

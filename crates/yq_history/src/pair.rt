@@ -1,10 +1,9 @@
 //! A file and its journal, read from a store and written to it.
-ghost use Rattle.yq_store.specs.Changes.{WritesOnly};
-ghost use Rattle.yq_history.{specs.Leaves.{HasState, LeavesStore}, specs.Calls.{PutsJournal, ReadsJournal}};
+ghost use Rattle.yq_history.{specs.Leaves.{HasState, Leaves, LeavesStore}, specs.Calls.{PutsJournal, ReadsJournal}};
 ghost use Rattle.yq_history.specs.PairAnswers.{BadOnlyIfNone, IsReadFrom, FindsPair, MissesPair, OpensText, OpensBy, OpensPair};
 ghost use Rattle.yq_history.specs.PairAnswers.{WritesState, MayWriteState};
 ghost use Rattle.yq_fault.specs.Faults.{is_outer_fault};
-ghost use Rattle.std.specs.Prelude.{◌≡◌, IfOk, IfErr, IsTrue, IsNone};
+ghost use Rattle.std.specs.Prelude.{◌≡◌, ◌≢◌, IfOk, IfErr, IsTrue, IsNone};
 
 use crate::Pair;
 use std::alloc::Global;
@@ -37,8 +36,7 @@ pub fn write_journal<D: Store>(
     ensures ok { WritesState D.Store store.old store.new journal.now state.now result }
     ensures err { MayWriteState D.Store store.old store.new journal.now state.now result }
     ensures outside { IfErr result (λ e. IsTrue (is_outer_fault e)) }
-    ensures others { IsTrue D.keeps → WritesOnly D.content store.old store.new journal.now }
-    ensures leaves { LeavesStore D.Store store.old store.new result }
+    ensures leaves { Leaves D.Store (λ q. q ≢ journal.now) store.old store.new result }
     ensures calls { PutsJournal D.leads result journal.now state.now store.old store.new }
 {
     let bytes = state.to_json(alloc)?;

@@ -1,6 +1,6 @@
 //! Undo and redo of a file and its journal.
 ghost use Rattle.yq_history.{specs.Actions.walking, specs.Directions.walk_move, specs.Leaves.Leaves, specs.Pair.IsOther};
-ghost use Rattle.yq_history.{specs.Effects.move_effect, specs.OpenedAnswers.{ActsFrom, MakesFrom, WorksFrom}};
+ghost use Rattle.yq_history.specs.OpenedAnswers.{ActsFrom, MakesFrom, WorksFrom};
 ghost use Rattle.yq_history.specs.PairAnswers.{ActsOnPair, CallsAction, WorksOnPair};
 ghost use Rattle.std.specs.Prelude.{◌≡◌, None};
 ghost use Rattle.yq_journal.{specs.Refusals.way_fault, specs.State.MovesTo};
@@ -33,7 +33,7 @@ fn move_only<D: Store>(
     write_journal(alloc, store, pair.journal, &state)
 }
 
-/// Carries out an undo or a redo beside a settled journal.
+/// Carries out an undo or a redo next to a settled journal.
 fn move_from<D: Store>(
     alloc: Global,
     store: &mut D,

@@ -23,12 +23,12 @@ returns g c =
           (third_write _ _ apart _ _ _ _ _ _ _ k c.requires.moves _ _ _ _ c.requires.changes c.in_ok-start_known.ensures.ok put c.in_ok-finish.ensures.ok)));
       text = λ keeps apart.
           on_ok c.write_journal-2.result
-          (c.write_journal-2.ensures.others keeps c.args.open.pair.file.now apart ∙ ap (λ m. get m c.args.open.pair.file.now) (c.in_ok-replace.ensures.written keeps) ∙ get_written _ c.args.open.pair.file.now _);
+          ((c.write_journal-2.ensures.leaves.names keeps).others c.args.open.pair.file.now apart ∙ ap (λ m. get m c.args.open.pair.file.now) (c.in_ok-replace.ensures.written keeps) ∙ get_written _ c.args.open.pair.file.now _);
       moved = λ keeps. on_ok_map _ (c.write_journal-2.ensures.ok keeps)
           (moved_journal _ c.args.open.state _ _ c.args.step _ _ _ _ c.requires.moves c.requires.changes c.in_ok-start_known.ensures.ok c.in_ok-finish.ensures.ok);
       cut = λ keeps apart.
           let put = c.in_ok-replace.ensures.written keeps in
-          let file = c.write_journal-2.ensures.others keeps c.args.open.pair.file.now apart ∙ ap (λ m. get m c.args.open.pair.file.now) put ∙ get_written _ c.args.open.pair.file.now _ in
+          let file = (c.write_journal-2.ensures.leaves.names keeps).others c.args.open.pair.file.now apart ∙ ap (λ m. get m c.args.open.pair.file.now) put ∙ get_written _ c.args.open.pair.file.now _ in
           on_err_map _ (c.write_journal-2.ensures.err keeps)
           (λ x. either x
           (λ same. cut_changed _ _ _ _ _ _ apart _ _ c.in_ok-start_known.ensures.ok (c.in_ok-write_journal.ensures.ok keeps) _ (same ∙ put))
@@ -41,12 +41,12 @@ returns g c =
           absurd (barred free);
       leaves = record {
         store = record {
-          no_output = c.write_journal-2.ensures.leaves.no_output;
-          count = c.write_journal-2.ensures.leaves.count ∙ ap (failures_after c.write_journal-2.result) (c.in_ok-replace.ensures.count ∙ c.in_ok-write_journal.ensures.leaves.count);
+          no_output = c.write_journal-2.ensures.leaves.store.no_output;
+          count = c.write_journal-2.ensures.leaves.store.count ∙ ap (failures_after c.write_journal-2.result) (c.in_ok-replace.ensures.count ∙ c.in_ok-write_journal.ensures.leaves.store.count);
         };
         names = λ keeps. record {
           kept = all_outside _ c.write_journal-2.result c.write_journal-2.ensures.outside;
-          others = λ q apart. c.write_journal-2.ensures.others keeps q apart.1 ∙ c.in_ok-replace.ensures.others keeps q apart.0 ∙ c.in_ok-write_journal.ensures.others keeps q apart.1;
+          others = λ q apart. (c.write_journal-2.ensures.leaves.names keeps).others q apart.1 ∙ c.in_ok-replace.ensures.others keeps q apart.0 ∙ (c.in_ok-write_journal.ensures.leaves.names keeps).others q apart.1;
         };
       };
       calls =
@@ -130,7 +130,7 @@ returns-in_err-finish-clause-calls g c =
 pub returns-in_err-write_journal-clause-leaves : goal.returns-in_err-write_journal-clause-leaves
 returns-in_err-write_journal-clause-leaves g c = record {
   store = search rules;
-  names = λ keeps. record { kept = search rules; others = λ q apart. c.in_err-write_journal.ensures.others keeps q apart.1 };
+  names = λ keeps. record { kept = search rules; others = λ q apart. (c.in_err-write_journal.ensures.leaves.names keeps).others q apart.1 };
 }
 
 pub returns-in_err-replace-clause-leaves : goal.returns-in_err-replace-clause-leaves
@@ -140,11 +140,11 @@ returns-in_err-replace-clause-leaves g c =
     record {
       store = record {
         no_output = search rules;
-        count = c.in_err-replace.ensures.count ∙ failed_write r _ _ (p.1 ∙ ap Err p.2) ∙ ap (failures_after r) c.in_ok-write_journal.ensures.leaves.count;
+        count = c.in_err-replace.ensures.count ∙ failed_write r _ _ (p.1 ∙ ap Err p.2) ∙ ap (failures_after r) c.in_ok-write_journal.ensures.leaves.store.count;
       };
       names = λ keeps. record {
         kept = search rules;
-        others = λ q apart. c.in_err-replace.ensures.others keeps q apart.0 ∙ c.in_ok-write_journal.ensures.others keeps q apart.1;
+        others = λ q apart. c.in_err-replace.ensures.others keeps q apart.0 ∙ (c.in_ok-write_journal.ensures.leaves.names keeps).others q apart.1;
       };
     }
 
@@ -153,6 +153,6 @@ returns-in_err-finish-clause-leaves g c = record {
   store = search rules;
   names = λ keeps. record {
     kept = search rules;
-    others = λ q apart. c.in_ok-replace.ensures.others keeps q apart.0 ∙ c.in_ok-write_journal.ensures.others keeps q apart.1;
+    others = λ q apart. c.in_ok-replace.ensures.others keeps q apart.0 ∙ (c.in_ok-write_journal.ensures.leaves.names keeps).others q apart.1;
   };
 }

@@ -3,7 +3,7 @@ use Rattle.std.proofs.lemmas.Bool.{eq-eqb, ne_eqb}
 use Rattle.yq_history.proofs.MoveLaws.{none_of, either, journal_written, on_err_map, on_ok_map}
 use Rattle.yq_history.{proofs.SquashLaws.{squash_refused, squash_of_one, squash_ends}, specs.Pair.IsJournal}
 use Rattle.yq_history.proofs.EffectLaws.{squash_not_done, squash_one_works, squash_works}
-use Rattle.yq_history.{proofs.CallLaws.{fails, makes_none, puts_as, squashed_one, squash_write}, proofs.FaultLaws.all_outside}
+use Rattle.yq_history.proofs.CallLaws.{fails, makes_none, puts_as, squashed_one, squash_write}
 use Rattle.yq_history.proofs.squashing.squash_from.Goals as goal
 
 pub returns-in_err-squash-clause-arrives : goal.returns-in_err-squash-clause-arrives
@@ -30,7 +30,7 @@ pub returns-clause-effect : goal.returns-clause-effect
 returns-clause-effect g c = λ keeps apart there.
     squash_works c.args.open.pair.file.now c.args.open.pair.journal.now (g.D.Store.content c.args.store.now) c.args.open.state c.args.open.text.items
     c.args.n _ c.write_journal.result (ne_eqb c.args.n 1 c.if-n-eq1.false) c.in_ok-squash.ensures.free there
-    (c.write_journal.ensures.others keeps _ apart)
+    ((c.write_journal.ensures.leaves.names keeps).others _ apart)
     (on_ok_map _ (c.write_journal.ensures.ok keeps) (λ w. subst (IsJournal _) c.in_ok-squash.ensures.ok (journal_written _ _ _ _ w)))
     (on_err_map _ (c.write_journal.ensures.err keeps) (λ x. either x inl (λ w. inr (subst (IsJournal _) c.in_ok-squash.ensures.ok (journal_written _ _ _ _ w)))))
     c.write_journal.ensures.outside
@@ -46,9 +46,3 @@ returns-clause-calls g c =
     squash_write g.D.Store.leads c.write_journal.result c.args.open.pair.file.now c.args.open.pair.journal.now c.args.open.text.items
     c.args.open.state c.args.n c.args.store.now c.write_journal.new.store (ne_eqb c.args.n 1 c.if-n-eq1.false) c.in_ok-squash.ensures.free
     (puts_as g.D.Store.leads c.write_journal.result c.args.open.pair.journal.now _ _ c.args.store.now c.write_journal.new.store c.in_ok-squash.ensures.ok c.write_journal.ensures.calls)
-
-pub returns-clause-leaves : goal.returns-clause-leaves
-returns-clause-leaves g c = record {
-  store = c.write_journal.ensures.leaves;
-  names = λ keeps. record { kept = all_outside _ c.write_journal.result c.write_journal.ensures.outside; others = c.write_journal.ensures.others keeps };
-}

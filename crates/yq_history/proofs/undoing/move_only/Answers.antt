@@ -1,7 +1,7 @@
 use Rattle.std.{proofs.Common.{rules, inl, inr, refl}, proofs.lemmas.Result.err_from_is_err_and}
 use Rattle.yq_history.proofs.MoveLaws.{journal_written, turned, same_content, on_ok_map, on_err_map, either, equal_move, refused_move}
 use Rattle.yq_history.{proofs.EffectLaws.{move_equal, move_refused, way_free}, proofs.CallLaws.{fails, makes_none, one_write, puts_as}}
-use Rattle.yq_history.{proofs.FaultLaws.{all_outside, way_of}, specs.Directions.walk_move}
+use Rattle.yq_history.{proofs.FaultLaws.way_of, specs.Directions.walk_move}
 use Rattle.yq_history.proofs.undoing.move_only.Goals as goal
 
 pub returns-in_err-make-clause-arrives : goal.returns-in_err-make-clause-arrives
@@ -30,10 +30,4 @@ returns-clause-calls g c =
     c.requires.way c.requires.equal puts
 
 pub returns-clause-leaves : goal.returns-clause-leaves
-returns-clause-leaves g c = record {
-  store = c.write_journal.ensures.leaves;
-  names = λ keeps. record {
-    kept = all_outside _ c.write_journal.result c.write_journal.ensures.outside;
-    others = λ q apart. c.write_journal.ensures.others keeps q apart.1;
-  };
-}
+returns-clause-leaves g c = search rules
