@@ -12,7 +12,7 @@ use std::{fs, io};
 /// How many symbolic links are followed from one name, as Linux does.
 const MOST_LINKS: u32 = 40;
 
-/// Where the system reports processes and of their open files.
+/// Where the system reports on processes and on their open files.
 const PROCESSES: &str = "/proc";
 
 /// Where a name leads through its symbolic links.
@@ -26,7 +26,7 @@ pub struct Target {
     pub found: Option<Metadata>,
 }
 
-/// The device of the files that report processes, where there are any.
+/// The device of the files that report on processes, where there are any.
 fn device_of_processes<R: Files>(rt: &R) -> Option<u64> {
     match fs::metadata(rt, PROCESSES) {
         Ok(folder) => Some(folder.dev()),
@@ -35,7 +35,7 @@ fn device_of_processes<R: Files>(rt: &R) -> Option<u64> {
 }
 
 /// What is at a path, where anything does: a link itself, and not what it leads to. At a path through
-/// a file that is no folder nothing is, and one through the files that report processes, on this device,
+/// a file that is no folder nothing is, and one through the files that report on processes, on this device,
 /// is refused.
 fn found_at<R: Files>(
     rt: &R,
