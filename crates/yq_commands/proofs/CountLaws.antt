@@ -7,7 +7,7 @@ use Rattle.yq_history.specs.Report.{Report}
 use Rattle.yq_fault.{specs.declared.fault.Fault.Fault, specs.Faults.is_output}
 use Rattle.yq_store.specs.Count.{failures_after, count_plus_one}
 
--- the count of the answers that tell something, one answer more
+-- the count of the answers that report something, one answer more
 pub passing_more : (passes : Answer → Bool) (rs : List Answer) (a : Answer) → count_passing passes (rs ++ a ∷ []) ≡ count_passing passes rs + (if passes a then 1 else 0)
 passing_more passes [] a = elim (passes a) as (λ b. (if b then 0 + 1 else 0) ≡ 0 + (if b then 1 else 0)) [ true ↦ refl | false ↦ refl ]
 passing_more passes (b ∷ rs) a =
@@ -16,11 +16,11 @@ passing_more passes (b ∷ rs) a =
       | false ↦ passing_more passes rs a
     ]
 
--- no answer tells anything
+-- no answer reports anything
 pub no_answers : (passes : Answer → Bool) (rs : List Answer) (old : ℕ) → [] ≡ rs → old < 2 ^ 64 → old ≡ min (old + count_passing passes rs) (2 ^ 64 - 1)
 no_answers passes rs old none small = subst (λ xs. old ≡ min (old + count_passing passes xs) (2 ^ 64 - 1)) none (omega (arith, small))
 
--- a count of failures is that of the answers that tell them
+-- a count of failures is that of the answers that report them
 sum_more : (passes : Answer → Bool) (rs : List Answer) (a : Answer) (old n m : ℕ) →
     n ≡ min (old + count_passing passes rs) (2 ^ 64 - 1) → m ≡ (if passes a then count_plus_one n else n) → m ≡ min (old + count_passing passes (rs ++ a ∷ [])) (2 ^ 64 - 1)
 sum_more passes rs a old n m before after = search (rules, passing_more)

@@ -10,8 +10,9 @@ use Rattle.yq_history.{specs.Pair.{Arrives, GoodIn, Opens}, specs.declared.opene
 use Rattle.yq_history.{proofs.EffectLaws.not_opened, proofs.PairLaws.same_pair}
 use Rattle.yq_fault.{specs.declared.fault.Fault.Fault, specs.Faults.is_outer_fault}
 use Rattle.yq_commands.{specs.CommandDone.{EditsFrom, EditsInPlace, EditsOpened, Evaluates}, specs.CommandEffects.edit_effect}
-use Rattle.yq_commands.{specs.CommandSteps.{update_cause, update_next}, specs.Editing.{Refuses, program_edits, program_in}}
-use Rattle.yq_commands.{specs.CommandFaults.cause_in, specs.Evaluation.{evaluated, of_file, shows}, proofs.EditEffects.parsed_works}
+use Rattle.yq_commands.{specs.EvalAsked.{EvalAsked, asked_in}, specs.CommandSteps.{update_cause, update_next}}
+use Rattle.yq_commands.{specs.Editing.{Refuses, program_edits, program_in}, specs.CommandFaults.cause_in}
+use Rattle.yq_commands.{specs.Evaluation.{evaluated, of_file, shows}, proofs.EditEffects.parsed_works}
 use Rattle.yq_commands.proofs.OutcomeLaws.{all_left, arrives_as, unopened}
 use Rattle.yq_fault.specs.declared.fault.Fault.TheVariants as fault
 
@@ -26,21 +27,23 @@ stays_at c f j cause h k r e is why good = search rules
 
 -- ---- an edit in place
 
-module _ (expr : List ℕ) (options : EvalOptions) (f j : List ℕ) (c : FileMap) {T : Type 0} (r : Result T Fault) (e : Fault) (is : r ≡ Err e) (s : Report) where
+module _ (asked : EvalAsked) (c : FileMap) {T : Type 0} (r : Result T Fault) (e : Fault) (is : r ≡ Err e) (s : Report) where
   -- its expression is no program
-  pub unparsed_edits : (e ≢ fault.OutOfMemory → IsFor (cause_in (program_in expr)) e) → EditsInPlace expr options f j c c r s
+  pub unparsed_edits : (e ≢ fault.OutOfMemory → IsFor (cause_in (program_in asked.expr)) e) → EditsInPlace asked c c r s
   unparsed_edits why = search rules
 
   -- its file or its journal couldn't be read, or settled
-  pub unopened_edits : (p : Program) (m : FileMap) → program_in expr ≡ Ok p → m ≡ c → ((h : Option History) → GoodIn c f j h → Opens m f j h (Err e)) →
-      (is_outer_fault e ≡ false → (go : List ℕ → State → Effect) → from_names c f j go ≡ refuses (named e)) → EditsInPlace expr options f j c m r s
+  pub unopened_edits : (p : Program) (m : FileMap) → program_in asked.expr ≡ Ok p → m ≡ c →
+      ((h : Option History) → GoodIn c asked.file asked.journal h → Opens m asked.file asked.journal h (Err e)) →
+      (is_outer_fault e ≡ false → (go : List ℕ → State → Effect) → from_names c asked.file asked.journal go ≡ refuses (named e)) → EditsInPlace asked c m r s
   unopened_edits p m parsed same opens missed = record {
     arrives = λ apart h good.
-        arrives_as m f j r (λ q. update_cause q h) (λ q. update_next expr q h) h (Ok p) (program_in expr) (sym parsed)
-        (unopened (update_cause (Ok p)) (update_next expr (Ok p)) m m f j r refl e h is (opens h good) (same_pair c m f j h same good));
+        arrives_as m asked.file asked.journal r (λ q. update_cause q h) (λ q. update_next asked.expr q h) h (Ok p) (program_in asked.expr) (sym parsed)
+        (unopened (update_cause (Ok p)) (update_next asked.expr (Ok p)) m m asked.file asked.journal r refl e h is (opens h good)
+        (same_pair c m asked.file asked.journal h same good));
     effect = λ apart.
-        parsed_works f j c m expr p (get c f) (get c j) r parsed
-        (not_opened (get c f) (get c j) (λ t z. edit_effect expr (program_edits p t) t z) f j c m r e is same missed);
+        parsed_works asked.file asked.journal c m asked.expr p (get c asked.file) (get c asked.journal) r parsed
+        (not_opened (get c asked.file) (get c asked.journal) (λ t z. edit_effect asked.expr (program_edits p t) t z) asked.file asked.journal c m r e is same missed);
     edited = λ apart. no_success _ r e is;
     output = λ h good. no_success _ r e is;
     listed = λ apart. no_success _ r e is;
@@ -78,8 +81,10 @@ module _ (options : EvalOptions) (expr f : List ℕ) (c : FileMap) {T : Type 0} 
 
 -- ---- by the words of `eval`
 
--- what holds of their bytes holds of them
+-- what holds of their bytes holds of what they ask
 pub by_words : (w : EvalWords) (x f j : List ℕ) → x ≡ string_bytes w.expr → f ≡ string_bytes w.file → j ≡ string_bytes w.journal →
-    (P : List ℕ → List ℕ → List ℕ → Type 0) → P x f j → P (string_bytes w.expr) (string_bytes w.file) (string_bytes w.journal)
+    (P : EvalAsked → Type 0) → P (record { expr = x; options = w.options; file = f; journal = j }) → P (asked_in w)
 by_words w x f j expr_is file_is journal_is P h =
-    subst (λ y. P y (string_bytes w.file) (string_bytes w.journal)) expr_is (subst (λ y. P x y (string_bytes w.journal)) file_is (subst (P x f) journal_is h))
+    let asks = λ (x f j : List ℕ). P (record { expr = x; options = w.options; file = f; journal = j }) in
+    subst (λ y. asks y (string_bytes w.file) (string_bytes w.journal)) expr_is
+    (subst (λ y. asks x y (string_bytes w.journal)) file_is (subst (asks x f) journal_is h))

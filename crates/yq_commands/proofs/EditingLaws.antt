@@ -28,9 +28,9 @@ pub parse_refused : (t : List ℕ) (f : ParseFault) → outcome t ≡ refusal f 
 unfolding program_in
 parse_refused t f h = search rules
 
--- ---- whether a fault tells that they are no UTF-8
+-- ---- whether a fault says that they are no UTF-8
 
--- of other bytes it tells that
+-- of other bytes it says that
 pub no_utf8_fault : (t : List ℕ) (f : ReadFault) → is_utf8 t ≡ false → f.kind ≡ NotUtf8 → IsUnreadable t (Unreadable f)
 no_utf8_fault t f other kind = (λ is. other, λ is. kind)
 

@@ -1,4 +1,4 @@
--- What a command comes to, by the contract of the call that carries it out.
+-- What a command does, by the contract of the call that carries it out.
 use Rattle.std.{proofs.Common.{rules, ap, ◌≡◌, ◌≢◌, ℕ, Bool, List, Option, Result, Ok, Err, OnOk, refl, ◌∙◌, subst}, specs.FinMap.get}
 use Rattle.yq_journal.{specs.State.State, specs.History.History}
 use Rattle.yq_history.{specs.Causes.Cause, specs.Effects.{Effect, Works, from_names, listing_effect, printed_by}, specs.Leaves.LeavesNames}

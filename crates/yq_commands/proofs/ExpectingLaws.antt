@@ -1,4 +1,4 @@
--- Whether an edit changes what it is asked to change, told of its outcome, its effect and its history.
+-- Whether an edit changes what it is asked to change, by its outcome, its effect and its history.
 use Rattle.std.proofs.Common.{rules, ◌≡◌, ℕ, Bool, true, false, not, ◌&&◌, List, [], Option, Some, Result, Ok, OnOk, if◌then◌else◌, ap}
 use Rattle.std.{proofs.lemmas.Option.same_Some, specs.FinMap.get, specs.Str.bytes_eq}
 use Rattle.yq_semantics.specs.Program.{Program}
@@ -35,6 +35,6 @@ pub history_showing : (options : EvalOptions) (p : Program) (c : FileMap) (f j t
     showing_change options t (program_edits p t) ≡ report_edit options (Ok p) h
 history_showing options p c f j t there h good = search (rules, same_Some, good_text)
 
--- what is told, in other words
+-- the same, in other words
 pub matched_as : (T : Type 0) (r : Result T Fault) (m a b : Bool) → OnOk r (m ≡ a) → a ≡ b → OnOk r (m ≡ b)
 matched_as T r m a b is same = search rules

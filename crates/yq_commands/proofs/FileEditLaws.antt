@@ -3,9 +3,9 @@ use Rattle.std.proofs.Common.{rules, Bool, true, ◌≡◌, ◌≢◌, ℕ, List
 use Rattle.std.proofs.lemmas.Option.{none-some}
 use Rattle.yq_semantics.specs.Program.{Program, is_read}
 use Rattle.yq_text.specs.Splice.{Splice}
-use Rattle.yq_history.{specs.Causes.{Cause, IsFor}, specs.Effects.Works, specs.Output.IsOutput, specs.Unified.IsPrintedDiff}
+use Rattle.yq_history.{specs.Causes.IsFor, specs.Effects.Works, specs.Output.IsOutput, specs.Unified.IsPrintedDiff}
 use Rattle.yq_fault.{specs.declared.fault.Fault.Fault, specs.declared.fault.Fault.TheVariants.OutOfMemory}
-use Rattle.yq_commands.{specs.CommandFaults.{IsUnparsed, cause_in}, specs.CommandEffects.{edit_effect, output_by}}
+use Rattle.yq_commands.{specs.CommandFaults.{RefusedUnparsed, cause_in}, specs.CommandEffects.{edit_effect, output_by}}
 use Rattle.yq_commands.specs.Editing.{program_in, EditOutcome, edited}
 use Rattle.yq_commands.{specs.FileEdits.{HoldsEdited, IsFileEdited, PrintsChange, PrintsEdit, PrintsUpdate}, specs.Expecting.change_output}
 use Rattle.yq_journal.specs.State.{State}
@@ -14,14 +14,13 @@ use Rattle.yq_store.specs.FileMap.{FileMap}
 -- ---- an expression that is no program
 
 -- one that is a program has no such cause
-pub parsed_free : {T : Type 0} (r : Result T Fault) (expr : List ℕ) (p : Program) → program_in expr ≡ Ok p →
-    (x : Cause) → cause_in (program_in expr) ≡ Some x → IsUnparsed x r
-parsed_free r expr p is x cause = absurd (none-some x (sym (ap cause_in is) ∙ cause))
+pub parsed_free : {T : Type 0} (r : Result T Fault) (expr : List ℕ) (p : Program) → program_in expr ≡ Ok p → RefusedUnparsed (cause_in (program_in expr)) r
+parsed_free r expr p is = λ x cause. absurd (none-some x (sym (ap cause_in is) ∙ cause))
 
 -- one that is none is refused for it
 pub unparsed_fault : {T : Type 0} (r : Result T Fault) (expr : List ℕ) (e : Fault) → r ≡ Err e → (e ≢ OutOfMemory → IsFor (cause_in (program_in expr)) e) →
-    (x : Cause) → cause_in (program_in expr) ≡ Some x → IsUnparsed x r
-unparsed_fault r expr e is why x cause = search rules
+    RefusedUnparsed (cause_in (program_in expr)) r
+unparsed_fault r expr e is why = λ x cause. search rules
 
 -- ---- an accepted edit
 

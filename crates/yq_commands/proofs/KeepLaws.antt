@@ -1,9 +1,9 @@
 -- What a command leaves of the store's names, and a list of them.
-use Rattle.std.proofs.Common.{rules, ◌≡◌, ◌≢◌, ◌⊎◌, inl, inr, ℕ, true, false, List, [], ◌∷◌, ◌++◌, Option, Some, Result, Ok, Err, OnOk}
-use Rattle.std.{proofs.Common.{IfErr, sym, ap, ◌∙◌, subst, refl}, proofs.lemmas.List.Elements.{All-head, All-tail}, specs.FinMap.get}
+use Rattle.std.proofs.Common.{rules, ◌≡◌, ◌≢◌, ◌⊎◌, inl, inr, ℕ, true, false, List, [], ◌∷◌, ◌++◌, Option, Result, Ok, Err, OnOk, IfErr}
+use Rattle.std.{proofs.Common.{sym, ap, ◌∙◌, subst, refl}, proofs.lemmas.List.Elements.{All-head, All-tail}, specs.FinMap.get}
 use Rattle.std.specs.String.{string_bytes}
 use Rattle.yq_journal.{specs.Good.Good, specs.History.History}
-use Rattle.yq_commands.{specs.declared.answer.Answer.Answer, specs.CommandFaults.IsUnparsed}
+use Rattle.yq_commands.{specs.declared.answer.Answer.Answer, specs.CommandFaults.{IsUnparsed, RefusedUnparsed}}
 use Rattle.yq_commands.{specs.CommandEffects.{OfEffect, IsListing, expression_cause, output_by}, specs.FileEdits.HasEdited}
 use Rattle.yq_commands.{specs.CommandDone.{CarriesOut, IsSilent}, specs.CommandNames.{IsOn, file_of}}
 use Rattle.yq_commands.specs.Lists.{IsUnrelated, AllOnOrApart, Reply, IsAnswer, Goes, RunsAll, ReportsEffect, HasEffect, RunsTo, Keeps}
@@ -30,10 +30,10 @@ shows_effect : {T : Type 0} (cmd : Command) (file journal : Option (List ℕ)) (
     OfEffect cmd file journal (λ x. OnOk r (IsOutput (file_of cmd) (output_by (prints_change cmd) file x) s.printed))
 shows_effect cmd file journal r s apart silent listed = search rules
 
--- ---- what a reply tells of an effect
+-- ---- what a reply says of an effect
 
 module _ (cmd : Command) (x : Effect) (f j : List ℕ) (c e : FileMap) where
-  -- what an answer tells, with the bytes that are printed if it is one of those that print
+  -- what an answer says, with the bytes that are printed if it is one of those that print
   abbrev ReportsOf : Answer → List ℕ → Type 0
   ReportsOf a o = ReportsEffect cmd x f j c e (reply a o).answer (reply a o).printed
 
@@ -57,7 +57,7 @@ pub record IsDone {T : Type 0} (c e : FileMap) (cmd : Command) (r : Result T Fau
   pub done : CarriesOut cmd c e r s
   pub silent : IsSilent cmd s
   pub no_output : IfErr r (λ x. is_output x ≡ false)
-  pub unparsed : (x : Cause) → expression_cause cmd ≡ Some x → IsUnparsed x r
+  pub unparsed : RefusedUnparsed (expression_cause cmd) r
   pub helped : Helps cmd r s
 
 -- a command on a file names it
@@ -90,8 +90,8 @@ module _ {T : Type 0} (c e : FileMap) (cmd : Command) (r : Result T Fault) (a : 
   goes_on f j apart (inl on) h good =
       let p = arrived e f j cmd h r a s k.answered (k.done.output f j on h good) k.no_output (k.done.arrives f j apart on h good) in
       (p.0, inl (on, p.1), p.2)
-  goes_on f j apart (inr (inl strange)) h good =
-      (h, inr (inl strange, refl), subst (λ x. Good x (get e j) h) (sym (k.done.names.others f strange.0)) (subst (λ y. Good (get c f) y h) (sym (k.done.names.others j strange.1)) good))
+  goes_on f j apart (inr (inl unrelated)) h good =
+      (h, inr (inl unrelated, refl), subst (λ x. Good x (get e j) h) (sym (k.done.names.others f unrelated.0)) (subst (λ y. Good (get c f) y h) (sym (k.done.names.others j unrelated.1)) good))
   goes_on f j apart (inr (inr printing)) h good = (h, inr (inr printing, refl), same_pair c e f j h (k.done.still printing.1) good)
 
   has_effect : HasEffect cmd (reply a s.printed) c e

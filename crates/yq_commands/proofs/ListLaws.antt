@@ -93,7 +93,7 @@ inside_one a p o q = search rules
 none_first : (passes : Answer → Bool) (a : Answer) (rs : List Answer) → count_passing passes (a ∷ rs) ≡ 0 → (passes a ≡ false) × (count_passing passes rs ≡ 0)
 none_first passes a rs h3 = search rules
 
--- where no answer tells of a failure or of want of memory, all come from inside
+-- where no answer reports a failure or of want of memory, all come from inside
 pub all_inside : (rs : List Answer) → failures_in rs ≡ 0 → output_failures_in rs ≡ 0 → list_all has_memory rs ≡ true → list_all is_inside rs ≡ true
 all_inside [] none no_output m = refl
 all_inside (a ∷ rs) none no_output m =

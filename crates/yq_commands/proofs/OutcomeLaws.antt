@@ -12,7 +12,7 @@ use Rattle.yq_history.specs.Pair.{Arrives, GoodIn, Opens, PairAtRest}
 pub each_error : {T : Type 0} (P : Fault → Type 0) (r : Result T Fault) → ((e : Fault) → P e) → IfErr r P
 each_error P r h = search rules
 
--- want of memory tells of no output, and of no failed call
+-- want of memory reports no output, and no failed call
 pub memory_left : {S : Type 0} (d : Ghosts S) (s : S) {T : Type 0} (r : Result T Fault) → IfErr r (λ e. e ≡ OutOfMemory) → LeavesStore d s s r
 memory_left d s r h = search rules
 

@@ -24,7 +24,7 @@ use Rattle.yq_semantics.specs.Judgement as judgement
 use Rattle.yq_failure.specs.declared.failure.Failure.TheVariants as matching
 use Rattle.yq_fault.specs.declared.fault.Fault.TheVariants as fault
 
--- the fault of an edit tells why its text isn't shown
+-- the fault of an edit says why its text isn't shown
 pub reports_edit : (options : EvalOptions) (t : List ℕ) (o : EditOutcome) (x : Fault) → Refuses o x → IsFor (cause_in (show_edit options t o)) x
 reports_edit options t o x is = search rules
 

@@ -7,15 +7,15 @@ use Rattle.yq_args.{specs.declared.command.Command.Command, specs.declared.eval_
 use Rattle.yq_store.{specs.Calls.Call, specs.FileMap.FileMap, specs.declared.store.Store.Ghosts}
 use Rattle.yq_text.specs.declared.edited.Edited.{Edited}
 use Rattle.yq_history.{specs.Causes.Cause, specs.Effects.{Effect, Works}, specs.Leaves.{ArrivesBy, HoldsBytes, LeavesNames}}
-use Rattle.yq_history.{specs.Output.{IsOutput, Showing, Shows}, specs.OpenedAnswers.{IsHeld, MakesFrom}}
+use Rattle.yq_history.{specs.Output.{Showing, Shows}, specs.OpenedAnswers.{IsHeld, MakesFrom}}
 use Rattle.yq_history.{specs.Pair.{NamesDiffer, Arrives, Differs, GoodIn, IsOther}, specs.Report.Report}
 use Rattle.yq_history.specs.declared.opened.OpenPair.{OpenPair}
 use Rattle.yq_fault.specs.declared.fault.Fault.{Fault}
-use Rattle.yq_commands.specs.CommandEffects.{IsListing, OfEffect, edit_effect, output_by, update_effect}
+use Rattle.yq_commands.specs.CommandEffects.{IsListing, ListsUpdate, OfEffect, edit_effect, update_asked}
 use Rattle.yq_commands.{specs.CommandNames.{IsNotNamed, IsOn, file_of}, specs.CommandSteps.{cause_of, next_of, update_cause, update_next}}
 use Rattle.yq_commands.{specs.Editing.{EachProgram, program_edits, program_in}, specs.Evaluation.report_in, specs.CommandFaults.cause_in}
 use Rattle.yq_commands.specs.Expecting.{ReportsExpected, expects_change, report_edit, showing_change, works_as_expected}
-use Rattle.yq_commands.specs.FileEdits.{HasEdited, HoldsEdited, IsFileEdited, PrintsChange}
+use Rattle.yq_commands.{specs.EvalAsked.EvalAsked, specs.FileEdits.{HasEdited, HasEditedFile, HoldsEdited, PrintsChange}}
 use Rattle.yq_commands.specs.Prints.{prints, prints_change, reads_journal, report_of}
 
 -- ---- what calls on a file and its journal share
@@ -80,19 +80,19 @@ pub record CarriesOut (c : Command) (old new : FileMap) {T : Type 0} (r : Result
 -- ---- an edit in place
 
 -- what it does to a file and its journal by what both hold
-abbrev pub update_on : List ℕ → FileMap → List ℕ → List ℕ → Effect
-update_on expr held file journal = update_effect expr (program_in expr) (get held file) (get held journal)
+abbrev pub update_on : EvalAsked → FileMap → Effect
+update_on asked held = update_asked asked (get held asked.file) (get held asked.journal)
 
 -- What an edit in place does, and what it shows where it is carried out.
-pub record EditsInPlace (expr : List ℕ) (options : EvalOptions) (file journal : List ℕ) (old new : FileMap) {T : Type 0} (r : Result T Fault) (s : Report) : Type 0 where
-  pub arrives : file ≢ journal → ArrivesBy (update_cause (program_in expr)) (update_next expr (program_in expr)) file journal old new r
-  pub effect : file ≢ journal → Works (update_on expr old file journal) file journal old new r
-  pub edited : file ≢ journal →
-      OnOk r (IsFileEdited expr (get old file) (get new file) × PrintsChange options.diff file (get old file) (get new file) s.printed)
-  pub output : ShowsBy (report_edit options (program_in expr)) file journal old r s
-  pub listed : file ≢ journal → OnOk r (IsOutput file (output_by options.diff (get old file) (update_on expr old file journal)) s.printed)
-  pub expected : OnOk r (s.is_match ≡ works_as_expected options.expect_change (update_on expr old file journal))
-  pub names : LeavesNames (λ q. Differs q file journal) old new r
+pub record EditsInPlace (asked : EvalAsked) (old new : FileMap) {T : Type 0} (r : Result T Fault) (s : Report) : Type 0 where
+  pub arrives : asked.file ≢ asked.journal →
+      ArrivesBy (update_cause (program_in asked.expr)) (update_next asked.expr (program_in asked.expr)) asked.file asked.journal old new r
+  pub effect : asked.file ≢ asked.journal → Works (update_on asked old) asked.file asked.journal old new r
+  pub edited : asked.file ≢ asked.journal → OnOk r (HasEditedFile asked old new s.printed)
+  pub output : ShowsBy (report_edit asked.options (program_in asked.expr)) asked.file asked.journal old r s
+  pub listed : asked.file ≢ asked.journal → OnOk r (ListsUpdate asked (get old asked.file) (get old asked.journal) s.printed)
+  pub expected : OnOk r (s.is_match ≡ works_as_expected asked.options.expect_change (update_on asked old))
+  pub names : LeavesNames (λ q. Differs q asked.file asked.journal) old new r
 
 -- what an edit of a text by a program does
 abbrev pub program_effect : List ℕ → Program → List ℕ → State → Effect
@@ -142,7 +142,8 @@ MatchesStill options old new = options.expect_change ≡ false → old.is_match 
 -- ---- an expression that isn't carried out in place
 
 -- What it does and shows of a file, by what is due of that by its history. Every name holds what it held.
-pub record Evaluates (due : Option History → Result Showing Cause) (file : List ℕ) (old new : FileMap) {T : Type 0} (r : Result T Fault) (s : Report) : Type 0 where
+pub record Evaluates (due : Option History → Result Showing Cause) (file : List ℕ) (old new : FileMap)
+    {T : Type 0} (r : Result T Fault) (s : Report) : Type 0 where
   pub arrives : (journal : List ℕ) → ArrivesBy (λ h. cause_in (due h)) (λ h. h) file journal old new r
   pub output : (journal : List ℕ) → ShowsBy (λ h. report_in (due h)) file journal old r s
   pub same : new ≡ old

@@ -6,11 +6,10 @@ use Rattle.yq_journal.{specs.Record.Record, specs.Refusals.most_records, specs.S
 use Rattle.yq_journal.specs.declared.fault.JournalFault.TheVariants.{JournalFull}
 use Rattle.yq_args.specs.declared.command.Command.{Command}
 use Rattle.yq_args.specs.declared.command.Command.TheVariants.{Eval, Undo, Redo, History as Lists, Squash}
-use Rattle.yq_fault.specs.declared.fault.Fault.TheVariants.{OutOfMemory}
 use Rattle.yq_history.specs.Effects.{Effect, refuses, writes_nothing, writes_both, from_pair, move_effect, squash_effect, listing_effect}
 use Rattle.yq_history.{specs.Effects.printed_by, specs.Causes.{Cause, named}, specs.Output.{IsOutput, Output, bytes, diff}}
 use Rattle.yq_commands.{specs.CommandFaults.cause_in, specs.Editing.{EditOutcome, refused, edited, program_in, program_edits}}
-use Rattle.yq_commands.specs.Edits.{record_between}
+use Rattle.yq_commands.{specs.Edits.record_between, specs.EvalAsked.{EvalAsked, asked_in}}
 use Rattle.yq_journal.specs.declared.moves.Move.TheVariants as move
 use Rattle.yq_fault.specs.declared.fault.Fault.TheVariants as fault
 
@@ -31,9 +30,13 @@ abbrev pub update_effect : List ℕ → Result Program Cause → Option (List �
 update_effect expr (Err x) file journal = refuses x
 update_effect expr (Ok p) file journal = from_pair file journal (λ t s. edit_effect expr (program_edits p t) t s)
 
+-- the same, by what `eval` is asked
+abbrev pub update_asked : EvalAsked → Option (List ℕ) → Option (List ℕ) → Effect
+update_asked asked file journal = update_effect asked.expr (program_in asked.expr) file journal
+
 -- something holds of what a command does, by the bytes of its file and its journal; of what prints a file alone, and of help, nothing is said
 abbrev pub OfEffect : Command → Option (List ℕ) → Option (List ℕ) → (Effect → Type 0) → Type 0
-OfEffect (Eval w true) file journal holds = holds (update_effect (string_bytes w.expr) (program_in (string_bytes w.expr)) file journal)
+OfEffect (Eval w true) file journal holds = holds (update_asked (asked_in w) file journal)
 OfEffect (Undo f j) file journal holds = holds (from_pair file journal (move_effect move.Undo))
 OfEffect (Redo f j) file journal holds = holds (from_pair file journal (move_effect move.Redo))
 OfEffect (Lists f j diffs) file journal holds = holds (from_pair file journal (listing_effect diffs))
@@ -50,10 +53,12 @@ abbrev pub output_by : Bool → Option (List ℕ) → Effect → Output
 output_by true (Some old) (writes_both new started s) = diff old new
 output_by _ held x = printed_by x
 
+-- the bytes are those that an edit in place prints by what a file and a journal hold
+abbrev pub ListsUpdate : EvalAsked → Option (List ℕ) → Option (List ℕ) → List ℕ → Type 0
+ListsUpdate asked file journal printed = IsOutput asked.file (output_by asked.options.diff file (update_asked asked file journal)) printed
+
 -- the bytes are those that `history`, or an edit in place with `--diff`, prints by what a file and a journal hold; of other commands nothing is said
 abbrev pub IsListing : Command → Option (List ℕ) → Option (List ℕ) → List ℕ → Type 0
-IsListing (Eval w true) file journal printed =
-    string_bytes w.file ≢ string_bytes w.journal →
-    IsOutput (string_bytes w.file) (output_by w.options.diff file (update_effect (string_bytes w.expr) (program_in (string_bytes w.expr)) file journal)) printed
+IsListing (Eval w true) file journal printed = string_bytes w.file ≢ string_bytes w.journal → ListsUpdate (asked_in w) file journal printed
 IsListing (Lists f j diffs) file journal printed = IsOutput (string_bytes f) (printed_by (from_pair file journal (listing_effect diffs))) printed
 IsListing _ file journal printed = Unit {0}

@@ -20,3 +20,7 @@ FailsFor due r = IfErr r (λ e. e ≢ OutOfMemory → IsFor (cause_in due) e)
 -- a command is refused for this cause, or for want of memory, and for nothing else
 abbrev pub IsUnparsed : Cause → {T : Type 0} → Result T Fault → Type 0
 IsUnparsed x r = MatchResult r (λ v. ⊥) (λ e. e ≢ OutOfMemory → IsFor (Some x) e)
+
+-- the same, where there is such a cause
+abbrev pub RefusedUnparsed : Option Cause → {T : Type 0} → Result T Fault → Type 0
+RefusedUnparsed cause r = (x : Cause) → cause ≡ Some x → IsUnparsed x r

@@ -26,7 +26,7 @@ SplicesLead t e = all_done e.splices.items t ≡ Some (string_bytes e.text)
 abbrev pub LengthsLead : List ℕ → Edited → Type 0
 LengthsLead t e = lengths_done e.splices.items (length t) ≡ Some (length (string_bytes e.text))
 
--- the fault tells why nothing is given (own)
+-- the fault says why nothing is given (own)
 abbrev pub Refuses : EditOutcome → Fault → Type 0
 Refuses (refused x) e = IsFor (Some x) e
 Refuses (edited text changes) e = ⊥

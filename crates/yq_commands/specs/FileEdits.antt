@@ -8,7 +8,7 @@ use Rattle.yq_history.{specs.Unified.IsPrintedDiff, specs.declared.report.Report
 use Rattle.yq_fault.specs.declared.fault.Fault.{Fault}
 use Rattle.yq_store.specs.FileMap.{FileMap}
 use Rattle.yq_args.{specs.declared.command.Command.Command, specs.declared.command.Command.TheVariants.Eval}
-use Rattle.yq_commands.specs.Editing.{program_in}
+use Rattle.yq_commands.{specs.Editing.program_in, specs.EvalAsked.{EvalAsked, asked_in}}
 
 -- A program makes one text of another: the defined one, to which each of its updates in order leads.
 pub record IsTextEdited (p : Program) (t new : List ℕ) : Type 0 where
@@ -69,11 +69,18 @@ PrintsChange false file old new printed = printed ≡ []
 PrintsChange true file (Some t) (Some u) printed = IsPrintedDiff file t u printed
 PrintsChange true file _ _ printed = ⊥
 
+-- an edit in place leaves the edited text in its file, and prints nothing, or with `--diff` a diff
+abbrev pub HasEditedFile : EvalAsked → FileMap → FileMap → List ℕ → Type 0
+HasEditedFile asked old new printed =
+    IsFileEdited asked.expr (get old asked.file) (get new asked.file)
+    × PrintsChange asked.options.diff asked.file (get old asked.file) (get new asked.file) printed
+
+-- any other update prints it, or with `--diff` a diff
+abbrev pub PrintsAsked : EvalAsked → FileMap → List ℕ → Type 0
+PrintsAsked asked old printed = PrintsUpdate asked.options.diff asked.expr asked.file (get old asked.file) printed
+
 -- the edited text: an edit in place leaves it in the file, any other update prints it, or with `--diff` a diff; nothing is said of other commands
 abbrev pub HasEdited : Command → FileMap → FileMap → List ℕ → Type 0
-HasEdited (Eval w true) old new printed =
-    string_bytes w.file ≢ string_bytes w.journal → IsFileEdited (string_bytes w.expr) (get old (string_bytes w.file)) (get new (string_bytes w.file))
-    × PrintsChange w.options.diff (string_bytes w.file) (get old (string_bytes w.file)) (get new (string_bytes w.file)) printed
-HasEdited (Eval w false) old new printed =
-    PrintsUpdate w.options.diff (string_bytes w.expr) (string_bytes w.file) (get old (string_bytes w.file)) printed
+HasEdited (Eval w true) old new printed = string_bytes w.file ≢ string_bytes w.journal → HasEditedFile (asked_in w) old new printed
+HasEdited (Eval w false) old new printed = PrintsAsked (asked_in w) old printed
 HasEdited _ old new printed = Unit {0}

@@ -22,7 +22,7 @@ TookHelp old new = (name : List ℕ) × (new ≡ old ++ help_of name)
 abbrev pub ShowsHelp : {T : Type 0} → Result T Fault → Report → Type 0
 ShowsHelp r s = MatchResult r (λ v. (s.printed ≡ help_of name_of_yq) × (s.is_match ≡ true)) (λ e. e ≡ OutOfMemory)
 
--- a command that asks for help comes to that
+-- a command that asks for help is answered so
 abbrev pub Helps : Command → {T : Type 0} → Result T Fault → Report → Type 0
 Helps Help r s = ShowsHelp r s
 Helps _ r s = Unit {0}

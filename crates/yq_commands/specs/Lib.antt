@@ -5,6 +5,7 @@ pub mod CommandNames
 pub mod CommandSteps
 pub mod Editing
 pub mod Edits
+pub mod EvalAsked
 pub mod Evaluation
 pub mod Expecting
 pub mod FileEdits

@@ -6,7 +6,9 @@ use Rattle.yq_args.specs.declared.command.Command.{Command}
 use Rattle.yq_history.specs.Pair.{GoodIn}
 use Rattle.yq_store.specs.FileMap.{FileMap}
 use Rattle.yq_commands.{specs.declared.answer.Answer.Answer, specs.CommandNames.IsNotNamed}
-use Rattle.yq_commands.specs.Lists.{AllOnOrApart, Keeps, Reply, RunExactly, answers_in, has_memory, printed_in}
+use Rattle.yq_commands.specs.Lists.{AllOnOrApart, Keeps, Reply, RunExactly, RunsAll, answers_in, has_memory, printed_in}
+use Rattle.yq_store.specs.declared.store.Store as store
+use Rattle.yq_commands.specs.declared.output.Out as output
 
 -- No call failed: the count of failures is what it was, and below the number at which it stays.
 pub record NoneFailed {S : Type 0} (failures : S → ℕ) (old new : S) : Type 0 where
@@ -35,7 +37,7 @@ pub record EndsGood (Leads : Option History → Type 0) (new : FileMap) (file jo
   pub leads : Leads after
   pub good : GoodIn new file journal after
 
--- What the answers to a list of commands tell, by a way from history to history that the replies lead.
+-- What the answers to a list of commands say, by a way from history to history that the replies lead.
 pub record AnswersTo (Leads : List ℕ → List ℕ → Option History → List Command → List Reply → Option History → Type 0) (commands : List Command)
     {S : Type 0} (content : S → FileMap) (old new : S) (Took : List ℕ → Type 0) (answers : Vec Answer Global) : Type 0 where
   -- for each command its answer, and what it printed
@@ -52,6 +54,18 @@ pub record AnswersTo (Leads : List ℕ → List ℕ → Option History → List 
 abbrev pub AnswersExactly : List Command → {S : Type 0} → (S → FileMap) → S → S → (List ℕ → Type 0) → Vec Answer Global → Type 0
 AnswersExactly commands content old new Took answers =
     list_all has_memory answers.items ≡ true → AnswersTo RunExactly commands content old new Took answers
+
+-- by a store and an output before and after a list of commands
+module _ {S W : Type 0} (d : store.Ghosts S) (w : output.Ghosts W) (old new : S) (before after : W) (commands : List Command) where
+  -- where the store keeps what is put into it, the replies lead from history to history, and what they printed went to the output
+  abbrev pub RunsList : {E : Type 0} → Result (Vec Answer Global) E → Type 0
+  RunsList r = IsTrue d.keeps → IfOk r (AnswersTo RunsAll commands d.content old new (HasTakenUnlessFailed w.failures w.observable w.taken before after))
+
+  -- the same where no call failed: then a command is refused exactly for its cause
+  abbrev pub RunsByCause : {E : Type 0} → Result (Vec Answer Global) E → Type 0
+  RunsByCause r =
+      IsTrue d.keeps → NoneFailed d.failures old new → NoneFailed w.failures before after →
+      IfOk r (AnswersExactly commands d.content old new (HasTaken w.observable w.taken before after))
 
 -- the names that no command names hold what they held
 abbrev pub UnnamedStay : List Command → {S : Type 0} → (S → FileMap) → S → S → Type 0

@@ -39,7 +39,7 @@ abbrev pub answer_by : Bool → Answer
 answer_by true = Done
 answer_by false = NoMatch
 
--- the answer to what a command came to that shows this: it was carried out, or its output failed, or it was refused
+-- the answer to a command that shows this, by how it ended: it was carried out, or its output failed, or it was refused
 abbrev pub IsAnswer : {T : Type 0} → Result T Fault → Answer → Report → Type 0
 IsAnswer r a s = MatchResult r (λ _. (a ≡ answer_by s.is_match) ⊎ ((a ≡ Refused OutFailed) × (s.printed ≢ []))) (λ x. a ≡ Refused x)
 
@@ -111,7 +111,7 @@ PrintsEffect c x file journal old new is_expected o =
     (works_as_expected (expects_change c) x ≡ is_expected) × CameAbout x file journal old new
     × IsOutput file (output_by (prints_change c) (get old file) x) o
 
--- what a command's answer and the bytes that it printed tell of an effect: it came about and printed its bytes, and the answer says whether it is as
+-- what a command's answer and the bytes that it printed say of an effect: it came about and printed its bytes, and the answer says whether it is as
 -- expected; or it was refused and printed nothing; where the output failed, it came about
 abbrev pub ReportsEffect : Command → Effect → List ℕ → List ℕ → FileMap → FileMap → Answer → List ℕ → Type 0
 ReportsEffect c x file journal old new Done o = PrintsEffect c x file journal old new true o
@@ -177,42 +177,42 @@ abbrev pub is_memory : Fault → Bool
 is_memory OutOfMemory = true
 is_memory _ = false
 
--- the answer tells of a call of the store that failed
+-- the answer reports a call of the store that failed
 abbrev pub reports_failure : Answer → Bool
 reports_failure (Refused e) = is_failure e
 reports_failure _ = false
 
--- the answer tells that the output failed
+-- the answer says that the output failed
 abbrev pub reports_output : Answer → Bool
 reports_output (Refused e) = is_output e
 reports_output _ = false
 
--- how many answers tell it
+-- how many answers do
 abbrev pub count_passing : (Answer → Bool) → List Answer → ℕ
 count_passing passes [] = 0
 count_passing passes (a ∷ as') = if passes a then count_passing passes as' + 1 else count_passing passes as'
 
--- how many tell of a call of the store that failed
+-- how many report a call of the store that failed
 abbrev pub failures_in : List Answer → ℕ
 failures_in as' = count_passing reports_failure as'
 
--- how many tell that the output failed
+-- how many say that the output failed
 abbrev pub output_failures_in : List Answer → ℕ
 output_failures_in as' = count_passing reports_output as'
 
--- the answer doesn't tell of want of memory
+-- the answer doesn't report want of memory
 abbrev pub has_memory : Answer → Bool
 has_memory (Refused e) = not (is_memory e)
 has_memory _ = true
 
--- ---- what an output takes of a command, by what that came to
+-- ---- what an output takes of a command, by how that ended
 
--- one that can be observed takes the bytes of a command that was carried out, if the answer doesn't tell that it failed, and none of a refused one
+-- one that can be observed takes the bytes of a command that was carried out, if the answer doesn't say that it failed, and none of a refused one
 abbrev pub PutsReport : {W : Type 0} → Bool → (W → List ℕ) → W → W → {T : Type 0} → Result T Fault → Answer → Report → Type 0
 PutsReport observable taken old new r a s =
     IsTrue observable → MatchResult r (λ _. reports_output a ≡ false → taken new ≡ taken old ++ s.printed) (λ _. taken new ≡ taken old)
 
--- a failure is counted, where the answer to a command that was carried out tells it
+-- a failure is counted, where the answer to a command that was carried out says so
 abbrev pub CountsOutput : {W : Type 0} → (W → ℕ) → W → W → {T : Type 0} → Result T Fault → Answer → Type 0
 CountsOutput failures old new r a =
     MatchResult r (λ _. failures new ≡ (if reports_output a then count_plus_one (failures old) else failures old)) (λ _. failures new ≡ failures old)

@@ -5,8 +5,9 @@ use Rattle.yq_args.{specs.declared.command.Command.Command, specs.declared.eval_
 use Rattle.yq_args.specs.declared.eval_words.EvalWords.{EvalWords}
 use Rattle.yq_commands.specs.declared.parsed.Parsed.{Parsed}
 use Rattle.yq_commands.specs.CommandDone.{CarriesOut, EditsInPlace, EditsOpened, Evaluates, program_effect, showing_edit}
-use Rattle.yq_commands.{specs.Editing.{EditOutcome, program_edits, program_in}, specs.Evaluation.{evaluated, shows}}
-use Rattle.yq_commands.{specs.Expecting.IsChangeOutput, specs.FileEdits.{GivesEdit, PrintsHeldEdit, PrintsUpdate}, specs.Reads.with_match}
+use Rattle.yq_commands.{specs.Editing.{EditOutcome, program_edits, program_in}, specs.Evaluation.{evaluated, of_file, shows}}
+use Rattle.yq_commands.{specs.EvalAsked.asked_in, specs.Expecting.IsChangeOutput, specs.FileEdits.{GivesEdit, PrintsAsked, PrintsHeldEdit}}
+use Rattle.yq_commands.specs.Reads.{with_match}
 use Rattle.yq_eval.specs.declared.matched.Match.{Match}
 use Rattle.yq_history.{specs.declared.opened.OpenPair.OpenPair, specs.Causes.Cause, specs.Effects.Effect}
 use Rattle.yq_history.{specs.Output.{Showing, Shows, showing_by}, specs.Report.report_by}
@@ -48,6 +49,11 @@ parsed_effect e = program_effect e.expr.now (program_of e.program.now)
 abbrev pub parsed_showing : Parsed → List ℕ → Result Showing Cause
 parsed_showing e = shows e.options (program_of e.program.now)
 
+-- in a store that keeps what is put into it that is shown of a file
+abbrev pub ShowsParsed : {S : Type 0} → Ghosts S → (old new : S) → List ℕ → Parsed → {T : Type 0} → Result T Fault → declared.Report → Type 0
+ShowsParsed d old new file e r report =
+    IsTrue d.keeps → Evaluates (of_file (parsed_showing e)) file (d.content old) (d.content new) r (report_by report)
+
 -- what was printed of a file is the text that a program makes of it, or with `--diff` a diff, where the program is no read
 abbrev pub PrintsParsed : {S : Type 0} → Ghosts S → S → List ℕ → Parsed → declared.Report → {T E : Type 0} → Result T E → Type 0
 PrintsParsed d old file e report r =
@@ -63,8 +69,7 @@ EditsParsed d old new o e r report =
 module _ {S : Type 0} (d : Ghosts S) (old new : S) (w : EvalWords) {T : Type 0} (r : Result T Fault) where
   -- `eval` edits in place what its words name
   abbrev pub Updates : declared.Report → Type 0
-  Updates report =
-      IsTrue d.keeps → EditsInPlace (string_bytes w.expr) w.options (string_bytes w.file) (string_bytes w.journal) (d.content old) (d.content new) r (report_by report)
+  Updates report = IsTrue d.keeps → EditsInPlace (asked_in w) (d.content old) (d.content new) r (report_by report)
 
   -- it shows what they ask for
   abbrev pub ShowsWords : declared.Report → Type 0
@@ -74,8 +79,7 @@ module _ {S : Type 0} (d : Ghosts S) (old new : S) (w : EvalWords) {T : Type 0} 
 
   -- what it printed of an update is the edited text, or with `--diff` a diff
   abbrev pub PrintsWords : declared.Report → Type 0
-  PrintsWords report =
-      IsTrue d.keeps → OnOk r (PrintsUpdate w.options.diff (string_bytes w.expr) (string_bytes w.file) (get (d.content old) (string_bytes w.file)) (string_bytes report.text))
+  PrintsWords report = IsTrue d.keeps → OnOk r (PrintsAsked (asked_in w) (d.content old) (string_bytes report.text))
 
 -- in a store that keeps what is put into it a command is carried out
 abbrev pub Executes : {S : Type 0} → Ghosts S → (old new : S) → Command → {T : Type 0} → Result T Fault → declared.Report → Type 0

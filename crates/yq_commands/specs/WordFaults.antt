@@ -10,6 +10,6 @@ abbrev pub of_words : WordsError → Fault
 of_words (words.Fault cause) = Usage cause
 of_words words.Memory = OutOfMemory
 
--- the fault tells why these words are no command
+-- the fault says why these words are no command
 abbrev pub RefusesWords : List Text → Fault → Type 0
 RefusesWords words fault = (e : WordsError) × (fault ≡ of_words e) × WordsRefused (full_words words) e

@@ -1,4 +1,4 @@
-//! The answer to what a command came to.
+//! The answer to a command, by how it ended.
 ghost use Rattle.std.specs.Prelude.{◌≡◌};
 ghost use Rattle.yq_commands.specs.Lists.{CountsOutput, IsAnswer, PutsReport};
 ghost use Rattle.yq_history.specs.Report.{report_by};
@@ -19,7 +19,7 @@ fn answer_by(is_match: bool) -> Answer
     }
 }
 
-/// The answer to a command that came to this: where it was carried out, what it prints is put.
+/// The answer to a command that ended so: where it was carried out, what it prints is put.
 pub fn answer_of<W: Out>(out: &mut W, done: Result<(), Fault>, report: &Report) -> Answer
     ensures answered { IsAnswer done result (report_by report.now) }
     ensures taken { PutsReport W.observable W.taken out.old out.new done result

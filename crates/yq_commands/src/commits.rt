@@ -1,4 +1,4 @@
-//! An edited text, kept in its file beside the journal.
+//! An edited text, kept in its file next to the journal.
 ghost use Rattle.std.specs.Prelude.{◌≡◌, Some, IfOk, length};
 ghost use Rattle.yq_text.specs.Splice.{lengths_done};
 ghost use Rattle.yq_commands.{specs.CommandDone.{CallsOfEdit, EditsByAny, LeavesText}, specs.Editing.{LengthsLead, SplicesLead}};
@@ -27,7 +27,7 @@ fn record_of(
     Ok(Record::new(expr, splices, old.len() as u64, new.len() as u64))
 }
 
-/// Carries out an edit of a file beside its settled journal. One to an equal text writes nothing.
+/// Carries out an edit of a file next to its settled journal. One to an equal text writes nothing.
 pub fn commit<D: Store>(
     alloc: Global,
     store: &mut D,

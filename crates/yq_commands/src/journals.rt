@@ -1,4 +1,4 @@
-//! The journal of a command whose words name none: beside its file, or in the folder that the environment names.
+//! The journal of a command whose words name none: next to its file, or in the folder that the environment names.
 
 use crate::words::words_fault;
 use std::env::VarError;
@@ -33,7 +33,7 @@ fn may_be_there(rt: &HostRuntime, path: &str) -> bool {
 }
 
 /// The journal of a file in the folder of journals: its name is made of the path to which all links of
-/// the file's name lead. None where nothing is there; a path that the system doesn't tell is refused.
+/// the file's name lead. None where nothing is there; a path that the system doesn't report is refused.
 fn journal_of(rt: &HostRuntime, folder: &str, file: &str) -> Result<Option<String>, Fault> {
     match fs::canonicalize(rt, file) {
         Ok(path) => match journal_in_folder(rt.alloc(), folder, path.as_str()) {
@@ -64,7 +64,7 @@ fn names_of(command: &Command) -> Option<(&str, &str)> {
     }
 }
 
-/// The journal of a command in this folder of journals, where its words name none and none is beside
+/// The journal of a command in this folder of journals, where its words name none and none is next to
 /// its file.
 fn journal_elsewhere(
     rt: &HostRuntime,
@@ -86,7 +86,7 @@ fn journal_elsewhere(
 }
 
 /// A command, with its journal in the folder of journals where the environment names one, its words name no
-/// journal, and none is beside its file. Gives that folder with it then.
+/// journal, and none is next to its file. Gives that folder with it then.
 pub fn with_own_journal(
     rt: &HostRuntime,
     words: &[&str],

@@ -9,7 +9,7 @@ use std::fmt;
 
 /// What takes the program's output.
 pub trait Out {
-    /// Whether it tells what it was given. What is said of its bytes holds only then.
+    /// Whether it reports what it was given. What is said of its bytes holds only then.
     ghost observable: { Bool };
 
     /// The bytes put so far.

@@ -1,4 +1,4 @@
-pub mod GapLaws
+pub mod PieceLaws
 pub mod RecordLaws
 pub mod GoodLaws
 pub mod HistoryLaws

@@ -9,7 +9,7 @@ use Prim.Native.Nat.{zero}
 use Rattle.yq_text.specs.Splice.{Splice, swapped, change_done, all_done, flipped, length_done, lengths_done}
 use Rattle.yq_text.proofs.PlaceInList.{split_at, take_next}
 use Rattle.yq_text.proofs.SpliceLaws.{done-from_exchanges, exchanges-from_done, all_done-append, lengths_done-append}
-use Rattle.yq_journal.{specs.Turned.flipped_if, proofs.GapLaws.none_done, specs.Record.if_length}
+use Rattle.yq_journal.{specs.Turned.flipped_if, proofs.PieceLaws.none_done, specs.Record.if_length}
 
 and_then_one : (o : Option (List ℕ)) (s : Splice) → option_and_then (all_done (s ∷ [])) o ≡ option_and_then (change_done s) o
 and_then_one o s = search rules

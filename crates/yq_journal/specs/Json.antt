@@ -74,7 +74,9 @@ has_count v = if v == 1 then Some false else if v == 2 then Some true else None
 
 -- the journal of a version that a value means (own)
 unfoldable pub state_of : Bool → Data → Option State
-state_of counted d = state_from (number_at (codes "at") d) (option_and_then (pending_of counted) (get (codes "pending") d)) (option_and_then (records_of counted) (get (codes "records") d))
+state_of counted d =
+    state_from (number_at (codes "at") d) (option_and_then (pending_of counted) (get (codes "pending") d))
+    (option_and_then (records_of counted) (get (codes "records") d))
 
 -- the journal that a value means: the keys are at, pending, records, version (own)
 unfoldable pub journal_of : Data → Option State
@@ -100,7 +102,9 @@ move_data Redo = null
 -- an open move as a value, null where there is none (own)
 abbrev pub pending_data : Option Pending → Data
 pending_data None = null
-pending_data (Some p) = object (member (codes "from") (bytes_data p.from) (member (codes "kind") (string (kind_text p.step)) (member (codes "record") (move_data p.step) no_members)))
+pending_data (Some p) =
+    object (member (codes "from") (bytes_data p.from) (member (codes "kind") (string (kind_text p.step))
+    (member (codes "record") (move_data p.step) no_members)))
 
 -- the object of a journal in version 2 (own)
 abbrev pub journal_object : ℕ → Data → Items → Data

@@ -1,6 +1,6 @@
 pub use Rattle.yq_text.specs.Splice
 pub mod Bare
-pub mod ByteGapBuffer
+pub mod PieceTable
 pub mod Record
 pub mod Refusals
 pub mod State

@@ -112,9 +112,13 @@ list_data f xs = items_of (map f xs)
 
 -- a splice as a value (own)
 abbrev pub change_data : Splice → Data
-change_data c = object (member (codes "at") (number (unsigned c.at)) (member (codes "new") (bytes_data c.new) (member (codes "old") (bytes_data c.old) no_members)))
+change_data c =
+    object (member (codes "at") (number (unsigned c.at)) (member (codes "new") (bytes_data c.new)
+    (member (codes "old") (bytes_data c.old) no_members)))
 
 -- a record as a value (own)
 abbrev pub record_data : Record → Data
-record_data r = object (member (codes "after_len") (number (unsigned r.after_len)) (member (codes "before_len") (number (unsigned r.before_len))
-    (member (codes "count") (number (unsigned r.count)) (member (codes "expr") (string r.expr) (member (codes "splices") (array (list_data change_data r.changes)) no_members)))))
+record_data r =
+    object (member (codes "after_len") (number (unsigned r.after_len)) (member (codes "before_len") (number (unsigned r.before_len))
+    (member (codes "count") (number (unsigned r.count)) (member (codes "expr") (string r.expr)
+    (member (codes "splices") (array (list_data change_data r.changes)) no_members)))))

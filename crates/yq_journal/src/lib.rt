@@ -3,12 +3,12 @@
 
 mod bare;
 mod fault;
-mod gap;
 mod journal;
 mod laws;
 mod lengths;
 mod moves;
 mod opening;
+mod piece_table;
 mod quoting;
 mod read;
 mod record;

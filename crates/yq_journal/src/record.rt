@@ -4,7 +4,7 @@ ghost use Rattle.yq_text.specs.Splice.{lengths_done};
 ghost use Rattle.yq_journal.{specs.Record.{Record, done, undone, record_with}, specs.Refusals.{ErrorIs, if_moves}, specs.Added.HoldsParts};
 
 use crate::fault::{JournalError, JournalFault};
-use crate::gap::spliced;
+use crate::piece_table::spliced;
 use std::alloc::Global;
 use std::marker::Model;
 use yq_text::Splice;

@@ -6,7 +6,7 @@ use Rattle.yq_fault.{specs.declared.fault.Fault.Fault, specs.declared.fault.Faul
 use Rattle.yq_splice.specs.Answers.{TextFails}
 use Rattle.yq_commands.{specs.CommandFaults.IsOfNoCall, specs.Editing.{Refuses, program_edits}}
 
--- the fault tells why
+-- the fault says why
 pub edit_refuses : (p : Program) (s t : List ℕ) (e : Fault) → s ≡ t → is_utf8 t ≡ true → TextFails e (edit_of p s) → e ≢ OutOfMemory → Refuses (program_edits p t) e
 unfolding program_edits
 edit_refuses p s t e same utf8 fails other = search rules

@@ -1,4 +1,4 @@
-//! Edits of texts, and of files beside their journals.
+//! Edits of texts, and of files next to their journals.
 ghost use Rattle.std.{specs.Prelude.{◌≡◌, IfOk, IfErr, [], false}, specs.String.string_bytes};
 ghost use Rattle.yq_semantics.specs.View.{program_of};
 ghost use Rattle.yq_commands.specs.CommandDone.{MatchesStill};
@@ -64,7 +64,7 @@ pub fn is_as_expected(options: EvalOptions, old: &[u8], new: &[u8]) -> bool
     !(options.expect_change && new == old)
 }
 
-/// Edits a file beside its settled journal. An edit to an equal text writes nothing. The report tells
+/// Edits a file next to its settled journal. An edit to an equal text writes nothing. The report says
 /// whether the edit changes what it is asked to change, and with `--diff` what it changes.
 pub fn edit_from<D: Store>(
     alloc: Global,

@@ -1,11 +1,11 @@
 //! Expressions that aren't carried out in place: what they show of a file.
-ghost use Rattle.std.{specs.Prelude.{◌≡◌, Some, IfErr, IsTrue, false}, specs.String.string_bytes};
+ghost use Rattle.std.specs.Prelude.{◌≡◌, IfErr, false};
 ghost use Rattle.yq_semantics.{specs.Program.is_read, specs.View.program_of};
-ghost use Rattle.yq_history.{specs.Calls.ReadsFile, specs.Causes.Cause, specs.Leaves.LeavesStore, specs.Report.report_by};
-ghost use Rattle.yq_commands.{specs.Calls.CallsOfEvaluation, specs.CommandDone.Evaluates, specs.Editing.program_in};
-ghost use Rattle.yq_commands.{specs.CommandFaults.{FailsFor, IsOfNoCall, IsUnparsed, cause_in}, specs.FileEdits.GivesEdit};
-ghost use Rattle.yq_commands.specs.Evaluation.{GivesShowing, of_file, shows};
-ghost use Rattle.yq_commands.specs.ProgramAnswers.{GivesUpdate, PrintsParsed, PrintsWords, ShowsWords, parsed_showing};
+ghost use Rattle.yq_history.{specs.Calls.ReadsFile, specs.Leaves.LeavesStore};
+ghost use Rattle.yq_commands.{specs.Calls.CallsToShow, specs.Editing.program_in, specs.EvalAsked.asked_in};
+ghost use Rattle.yq_commands.{specs.CommandFaults.{FailsFor, IsOfNoCall, RefusedUnparsed, cause_in}, specs.FileEdits.GivesEdit};
+ghost use Rattle.yq_commands.specs.Evaluation.{GivesShowing, shows};
+ghost use Rattle.yq_commands.specs.ProgramAnswers.{GivesUpdate, PrintsParsed, PrintsWords, ShowsParsed, ShowsWords};
 
 use crate::editing::{edit_text, is_as_expected};
 use std::alloc::Global;
@@ -72,8 +72,7 @@ fn evaluate_program<D: Store>(
     parsed: &Parsed<'_>,
     report: &mut Report,
 ) -> Result<(), Fault>
-    ensures done { IsTrue D.keeps → Evaluates (of_file (parsed_showing parsed.now)) file.now
-        (D.content store.old) (D.content store.new) result (report_by report.new) }
+    ensures done { ShowsParsed D.Store store.old store.new file.now parsed.now result report.new }
     ensures edited { PrintsParsed D.Store store.old file.now parsed.now report.new result }
     ensures leaves { LeavesStore D.Store store.old store.new result }
     ensures calls { ReadsFile D.leads result file.now (λ text s t. t ≡ s) store.old store.new }
@@ -93,10 +92,9 @@ pub fn evaluate<D: Store>(
 ) -> Result<(), Fault>
     ensures done { ShowsWords D.Store store.old store.new words.now result report.new }
     ensures edited { PrintsWords D.Store store.old store.new words.now result report.new }
-    ensures unparsed { (x : Cause) →
-        cause_in (program_in (string_bytes words.now.expr)) ≡ Some x → IsUnparsed x result }
+    ensures unparsed { RefusedUnparsed (cause_in (program_in (asked_in words.now).expr)) result }
     ensures leaves { LeavesStore D.Store store.old store.new result }
-    ensures calls { CallsOfEvaluation D.leads result words.now store.old store.new }
+    ensures calls { CallsToShow D.leads result (asked_in words.now) store.old store.new }
 {
     let expr = words.expr.as_str();
     let file = words.file.as_str();

@@ -1,9 +1,9 @@
 //! One command, carried out over a store.
-ghost use Rattle.std.{specs.Prelude.{◌≡◌, [], Some, false}, specs.String.string_bytes};
-ghost use Rattle.yq_commands.{specs.CommandDone.{IsSilent, MatchesStill, MatchesUnasked}, specs.CommandFaults.{IsUnparsed, cause_in}};
-ghost use Rattle.yq_commands.{specs.CommandEffects.expression_cause, specs.Editing.program_in, specs.Calls.{CallsOf, CallsOfUpdate}};
-ghost use Rattle.yq_commands.{specs.Help.Helps, specs.ProgramAnswers.{Executes, Updates}};
-ghost use Rattle.yq_history.{specs.Causes.Cause, specs.Leaves.LeavesStore, specs.Report.{nothing, report_by}};
+ghost use Rattle.std.{specs.Prelude.{◌≡◌, [], false}, specs.String.string_bytes};
+ghost use Rattle.yq_commands.{specs.CommandDone.{IsSilent, MatchesStill, MatchesUnasked}, specs.CommandFaults.{RefusedUnparsed, cause_in}};
+ghost use Rattle.yq_commands.{specs.CommandEffects.expression_cause, specs.Editing.program_in, specs.Calls.{CallsOf, CallsToEdit}};
+ghost use Rattle.yq_commands.{specs.EvalAsked.asked_in, specs.Help.Helps, specs.ProgramAnswers.{Executes, Updates}};
+ghost use Rattle.yq_history.{specs.Leaves.LeavesStore, specs.Report.{nothing, report_by}};
 
 use crate::editing::edit_from;
 use crate::evaluating::evaluate;
@@ -24,12 +24,11 @@ fn update<D: Store>(
 ) -> Result<(), Fault>
     requires empty { string_bytes report.old.text ≡ [] }
     ensures done { Updates D.Store store.old store.new words.now result report.new }
-    ensures unparsed { (x : Cause) →
-        cause_in (program_in (string_bytes words.now.expr)) ≡ Some x → IsUnparsed x result }
+    ensures unparsed { RefusedUnparsed (cause_in (program_in (asked_in words.now).expr)) result }
     ensures silent { words.now.options.diff ≡ false → string_bytes report.new.text ≡ [] }
     ensures unasked { MatchesStill words.now.options (report_by report.old) (report_by report.new) }
     ensures leaves { LeavesStore D.Store store.old store.new result }
-    ensures calls { CallsOfUpdate D.leads result words.now store.old store.new }
+    ensures calls { CallsToEdit D.leads result (asked_in words.now) store.old store.new }
 {
     let expr = words.expr.as_str();
     let file = words.file.as_str();
@@ -46,7 +45,7 @@ fn update<D: Store>(
     edit_from(alloc, store, open, &parsed, report)
 }
 
-/// Carries out a command but for its output, and tells what it shows.
+/// Carries out a command but for its output, and reports what it shows.
 pub fn execute<D: Store>(
     alloc: Global,
     store: &mut D,
@@ -55,7 +54,7 @@ pub fn execute<D: Store>(
 ) -> Result<(), Fault>
     requires empty { report_by report.old ≡ nothing }
     ensures done { Executes D.Store store.old store.new command.now result report.new }
-    ensures unparsed { (x : Cause) → expression_cause command.now ≡ Some x → IsUnparsed x result }
+    ensures unparsed { RefusedUnparsed (expression_cause command.now) result }
     ensures silent { IsSilent command.now (report_by report.new) }
     ensures matched { MatchesUnasked command.now (report_by report.new) }
     ensures helped { Helps command.now result (report_by report.new) }

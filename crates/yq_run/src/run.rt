@@ -1,8 +1,7 @@
 //! Lists of commands, carried out over a store.
 ghost use Rattle.std.specs.Prelude.{◌≡◌, IfOk, OnErr, IsTrue, length};
-ghost use Rattle.yq_commands.{specs.Lists.{RunsAll, failures_in, output_failures_in}, specs.Calls.CallsOfAll};
-ghost use Rattle.yq_commands.specs.ListRuns.{AnswersExactly, AnswersTo, CountsAnswers, NoneFailed, HasTaken, HasTakenUnlessFailed};
-ghost use Rattle.yq_commands.specs.ListRuns.{UnnamedStay};
+ghost use Rattle.yq_commands.{specs.Calls.CallsOfAll, specs.Lists.{failures_in, output_failures_in}};
+ghost use Rattle.yq_commands.specs.ListRuns.{CountsAnswers, RunsList, RunsByCause, UnnamedStay};
 
 use crate::executing::execute;
 use std::alloc::{AllocError, Global};
@@ -21,13 +20,9 @@ pub fn run_list<D: Store, W: Out>(
 ) -> Result<Vec<Answer>, AllocError>
     // The file always holds the text at the cursor of its history, to which the answers lead. An
     // accepted edit gave the defined text, and a refused command changed nothing.
-    ensures run { IsTrue D.keeps → IfOk result (AnswersTo RunsAll commands.now
-        D.content store.old store.new
-        (HasTakenUnlessFailed W.failures W.observable W.taken out.old out.new)) }
+    ensures run { RunsList D.Store W.Out store.old store.new out.old out.new commands.now result }
     // Where no call failed and memory was there, a command is refused exactly for its cause.
-    ensures exact { IsTrue D.keeps → NoneFailed D.failures store.old store.new →
-        NoneFailed W.failures out.old out.new → IfOk result (AnswersExactly commands.now
-        D.content store.old store.new (HasTaken W.observable W.taken out.old out.new)) }
+    ensures exact { RunsByCause D.Store W.Out store.old store.new out.old out.new commands.now result }
     ensures others { IsTrue D.keeps → UnnamedStay commands.now D.content store.old store.new }
     ensures count { CountsAnswers failures_in D.failures store.old store.new result }
     ensures out_count { CountsAnswers output_failures_in W.failures out.old out.new result }

@@ -1,7 +1,7 @@
 use Rattle.std.{proofs.Common.{take, sym, ap, ◌∙◌, arith, take_all, rules}, proofs.lemmas.Bool.both_ways}
 use Rattle.std.specs.Prelude.{is_some, option_and_then}
 use Rattle.yq_text.specs.Splice.{all_done, change_done}
-use Rattle.yq_journal.{specs.ByteGapBuffer.splice_of_parts, specs.Turned.turned_splices}
+use Rattle.yq_journal.{specs.PieceTable.splice_of_parts, specs.Turned.turned_splices}
 use Rattle.yq_journal.proofs.StandLaws.{some_of, lies_within, stays_small, found_there, not_there, not_all, done_next, length-turned}
 use Rattle.yq_journal.proofs.stands.stand.Goals as goal
 
