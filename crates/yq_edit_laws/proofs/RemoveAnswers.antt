@@ -1,22 +1,25 @@
 -- What removing from a flow collection comes to, by what the code finds.
-use Rattle.std.proofs.Common.{rules, ◌≡◌, ℕ, List, [], length, Option, Some, None, option_map, sym, ap, ◌∙◌, refl}
-use Rattle.std.proofs.lemmas.Option.{none-some, same_Some}
+use Rattle.std.proofs.Common.{rules, ◌≡◌, ℕ, List, [], length, Option, Some, None, option_map, sym, ap, ◌∙◌, refl, subst}
+use Rattle.std.{specs.Prelude.IfSome, proofs.lemmas.Option.{none-some, same_Some}}
 use Rattle.yq_core.{specs.Answers.◌>>=◌, specs.Paths.{Step, further}, specs.Collections.{CollAt, CollPieces}}
 use Rattle.yq_core.{specs.Nodes.{FlowNode, Items, Key, Sep, item, none}, proofs.Bools.bind_some}
 use Rattle.yq_flow_edits.{specs.FlowEdits.FlowEdit, specs.FlowPlaces.{PlacedEdit, place_edit}}
 use Rattle.yq_flow_edits.specs.Removals.{gap_of, last_out, removing, removing_from}
 use Rattle.yq_inline.specs.Neighbours.{PartTexts, PartsAround, around_part, around_view, coll_around, first_ends}
-use Rattle.yq_inline.specs.declared.neighbours.Neighbours.{Neighbours}
+use Rattle.yq_inline.{specs.declared.neighbours.Neighbours.Neighbours, specs.declared.in_front.NodeInFront.NodeInFront}
 use Rattle.yq_text.specs.Script.{Segment}
 use Rattle.yq_row_table.specs.Rows.{Cut, cut_text}
-use Rattle.yq_documents.specs.Reading.{cut_of, read_at}
+use Rattle.yq_documents.{specs.Located.steps_of, specs.Reading.{cut_of, read_at}, specs.declared.path.Path.Path}
 use Rattle.yq_places.{specs.FlowNodes.flow_collection, specs.Standings.last_step, proofs.FlowNodeLaws.with_more}
-use Rattle.yq_lookup.specs.RowFronts.{IsFlowFront}
+use Rattle.yq_lookup.{specs.RowFronts.{IsFlowFront, IsFoundNode, flow_found}, specs.declared.node_at.FoundNode.FoundNode}
+use Rattle.yq_lookup.{specs.declared.node_at.FoundNode.TheVariants.InFlow, proofs.RowParts.{leads_there, outside_there}}
+use denote.Bor.{Bor}
 use Rattle.yq_edit_rules.{specs.Edits.part_removed, specs.FlowParts.{flow_removed, flow_segments}}
-use Rattle.yq_edit_laws.{specs.EditPlaces.{edit_segments, moved_on, remove_around}, proofs.FlowAnswers.EditFound}
+use Rattle.yq_edit_laws.{specs.EditPlaces.{IsFoundAbove, edit_segments, moved_on, remove_around}, proofs.FlowAnswers.EditFound}
 use Rattle.yq_edit_laws.{proofs.FlowHeads.removed_within, proofs.FlowLonger.{edit_more, removing_more}, proofs.NeighbourPlaces.around_gone}
 use Rattle.yq_edit_laws.proofs.PiecePlaces.{Front, PieceFound, all_is, at_front, front_coll, piece_found, place_found}
 use Rattle.yq_edit_laws.proofs.FlowRemoveLaws.{bounds, bytes, texts}
+use Rattle.yq_core.specs.declared.path.Step as declared
 
 -- nothing goes where no item or entry is
 last_kept : (k : ℕ) (s : Step) (o : Option PartTexts) (g : List ℕ) (key : Key) (n : FlowNode) (sep : Sep) (is : Items) (rest : List ℕ) → around_part k s o is rest ≡ None → last_out k rest s g key n sep is ≡ None
@@ -96,3 +99,19 @@ module _ (t : List ℕ) (n : ℕ) (path init : List Step) (s : Step) (last : Som
 
       pub removal_missing : None ≡ remove_around row (around_view y) → gone ≡ None
       removal_missing is = search (rules, part_is z.0 z.1, out_is z.0, edit_more, none-some, place_is)
+
+-- ---- what the code finds above the last step
+
+-- it is at the steps before that
+found_there : (t : List ℕ) (path : Path) (init : List Step) (s : Step) (a : FoundNode) → Some (init, s) ≡ last_step (steps_of path) → IsFoundAbove t path a → IsFoundNode t path.doc init a
+found_there t path init s a last is = subst (λ (o : Option (List Step × Step)). IfSome o (λ x. IsFoundNode t path.doc x.0 a)) (sym last) is
+
+-- in a flow collection
+pub in_front : (t : List ℕ) (path : Path) (init : List Step) (s : Step) (a : FoundNode) (x : Front) → Some (init, s) ≡ last_step (steps_of path) → IsFoundAbove t path a → flow_found a ≡ Some x →
+    IsFlowFront t path.doc init x
+in_front t path init s a x last is e = leads_there t path.doc init a (Some x) e (found_there t path init s a last is)
+
+-- in none
+pub outside_flow : (t : List ℕ) (path : Path) (init : List Step) (s : Step) (a : FoundNode) → Some (init, s) ≡ last_step (steps_of path) → IsFoundAbove t path a →
+    ((f : NodeInFront) (k : ℕ) (left : Bor (List declared.Step)) → a ≡ InFlow f k left → ⊥) → part_removed path.doc (cut_of t) (last_step (steps_of path)) ≡ None
+outside_flow t path init s a last is never = no_collection t path.doc (steps_of path) init s last (outside_there t path.doc init a never (found_there t path init s a last is))

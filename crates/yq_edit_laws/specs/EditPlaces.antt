@@ -1,12 +1,14 @@
 -- Where flow collections of a text are edited, by places in bytes (YAML 1.2.2, 7.4; own).
-use Rattle.std.specs.Prelude.{ℕ, ◌+◌, ◌-◌, ◌≤◌, ◌<◌, ◌^◌, List, [], ◌∷◌, drop, length, take, Option, is_some, option_map, Bool, false, not}
-use Rattle.std.{specs.Prelude.if◌then◌else◌, specs.Str.IsCharBoundary}
+use Rattle.std.specs.Prelude.{ℕ, ◌+◌, ◌-◌, ◌≤◌, ◌<◌, ◌^◌, List, [], ◌∷◌, drop, length, take, Option, is_some, option_map, IfSome, Bool}
+use Rattle.std.{specs.Prelude.{false, not, if◌then◌else◌}, specs.Str.IsCharBoundary}
 use Rattle.yq_core.{specs.Answers.◌>>=◌, specs.Paths.Step, specs.Tree.Node}
 use Rattle.yq_core.specs.Places.{CoreNode, nothing, name, text, sequence, mapping, Placed, placed}
 use Rattle.yq_flow_edits.specs.FlowPlaces.{PlacedEdit, remove_between}
 use Rattle.yq_inline.specs.Neighbours.{PartTexts, PartsAround}
 use Rattle.yq_row_table.specs.Rows.{Cut, cut_text}
-use Rattle.yq_places.specs.FlowNodes.{flow_collection}
+use Rattle.yq_documents.{specs.Located.steps_of, specs.declared.path.Path.Path}
+use Rattle.yq_places.{specs.FlowNodes.flow_collection, specs.Standings.last_step}
+use Rattle.yq_lookup.{specs.RowFronts.IsFoundNode, specs.declared.node_at.FoundNode.FoundNode}
 use Rattle.yq_text.specs.Script.{Segment, keep, put}
 use Rattle.yq_edit_rules.specs.FlowParts.{flow_more}
 
@@ -61,3 +63,7 @@ placed_takes (placed anchor start content end form) key = content_takes form key
 -- one more item or entry in the flow collection to which steps lead in document n
 abbrev pub appended_in_flow : ℕ → List Step → Option (List ℕ) → Node → Cut → Option (List Segment)
 appended_in_flow n steps key v c = flow_collection n steps c >>= flow_more (cut_text c) key v
+
+-- The code finds this node above the last step of a path of a text.
+abbrev pub IsFoundAbove : List ℕ → Path → FoundNode → Type 0
+IsFoundAbove t path x = IfSome (last_step (steps_of path)) (λ s. IsFoundNode t path.doc s.0 x)

@@ -14,7 +14,7 @@ use yq_core::{Form, Inline, Value};
 use yq_documents::Path;
 use yq_flow_edits::{EditPlace, append_place, write_entry, write_inline};
 use yq_inline::{CollectionEnd, collection_end};
-use yq_lookup::CutText;
+use yq_lookup::{CutText, FoundNode};
 use yq_text::Segments;
 
 /// Whether a node takes an entry of a key, or an item.
@@ -99,7 +99,8 @@ pub fn append_in_flow<'d>(
     ensures { GivesSegments result (spec.appended_in_flow path.now.doc (steps_of path.now)
         (borrowed key.entry) (value_node value.now) (cut_of cut.now)) }
 {
-    let Some((front, before, left)) = cut.flow_front(path.doc, &path.steps) else {
+    let found = cut.node_found(alloc, path.doc, &path.steps)?;
+    let FoundNode::InFlow(front, before, left) = found else {
         return Ok(None);
     };
     let Some(end) = collection_end(front, left) else {

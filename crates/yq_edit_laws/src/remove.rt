@@ -12,7 +12,7 @@ use std::alloc::{AllocError, Global};
 use yq_documents::Path;
 use yq_flow_edits::{EditPlace, remove_between};
 use yq_inline::{Neighbours, PassedPart, part_neighbours};
-use yq_lookup::CutText;
+use yq_lookup::{CutText, FoundNode};
 use yq_text::Segments;
 
 /// Where an item or entry begins and ends in a text so long, if there is one.
@@ -47,8 +47,8 @@ fn place_between(piece: &str, part: Neighbours<'_>) -> Option<EditPlace>
     remove_between(piece, before, start, end, next_in(total, part.next))
 }
 
-/// An item or entry removed from a flow collection, with the white space and comma that go with
-/// it; `None` where the path leads to no part of a flow collection, or to a sole one.
+/// An item or entry removed from a flow collection, by what is found above it, with the white space and comma that go
+/// with it; `None` where the path leads to no part of a flow collection, or to a sole one.
 ///
 /// # Errors
 /// [`AllocError`] where memory is refused.
@@ -56,17 +56,19 @@ pub fn remove_in_flow<'d>(
     alloc: Global,
     cut: &CutText<'_, 'd>,
     path: &Path,
+    above: &FoundNode<'_, 'd>,
 ) -> Result<Option<Segments<'d>>, AllocError>
+    requires { spec.IsFoundAbove cut.now path.now above.now }
     ensures { GivesSegments result (part_removed path.now.doc (cut_of cut.now)
         (standings.last_step (steps_of path.now))) }
 {
-    let Some((above, last)) = last_step(&path.steps) else {
+    let Some((_, last)) = last_step(&path.steps) else {
         return Ok(None);
     };
-    let Some((front, before, left)) = cut.flow_front(path.doc, above) else {
+    let FoundNode::InFlow(front, before, left) = above else {
         return Ok(None);
     };
-    let Some(part) = part_neighbours(front, left, last) else {
+    let Some(part) = part_neighbours(*front, left, last) else {
         return Ok(None);
     };
     let text = cut.text();
@@ -74,5 +76,5 @@ pub fn remove_in_flow<'d>(
         return Ok(None);
     };
     let nothing = String::new(alloc);
-    edit_at(alloc, text, before, place, nothing)
+    edit_at(alloc, text, *before, place, nothing)
 }

@@ -1,13 +1,25 @@
 -- What the node is to which steps lead in the head of a row, read alone.
-use Rattle.std.proofs.Common.{◌≡◌, ℕ, List, length, Option, Some, None, option_map, refl, sym, ap, ◌∙◌}
-use Rattle.yq_core.{specs.Entries.{EntryPieces, entry_pieces_at, locate_entry}, specs.Paths.{Step, node_at}, specs.Places.Placed}
-use Rattle.yq_core.{specs.Trees.{placed_tree, tree_of}, proofs.PathLaws.{entry_tree, path_places, path_tree}, proofs.TreeLaws.node_tree}
-use Rattle.yq_row_table.specs.Rows.{Row}
+use Rattle.std.proofs.Common.{◌≡◌, ℕ, ◌+◌, List, length, Option, Some, None, option_map, refl, sym, ap, ◌∙◌}
+use Rattle.std.{proofs.lemmas.Option.slice_get-map, specs.List.slice_get}
+use Rattle.yq_core.{specs.Answers.◌>>=◌, specs.Entries.{EntryPieces, entry_pieces_at, locate_entry}, specs.Paths.{Step, node_at}}
+use Rattle.yq_core.{specs.Places.Placed, specs.Trees.{placed_tree, tree_of}, proofs.PathLaws.{entry_tree, path_places, path_tree}}
+use Rattle.yq_core.proofs.TreeLaws.{node_tree}
+use Rattle.yq_row_table.specs.Rows.{Cut, Part, Row}
+use Rattle.yq_documents.{specs.Documents.document_parts, specs.LinesInRows.document_row, specs.Reading.part_document}
 use Rattle.yq_outline.specs.Lines.{head_of}
 use Rattle.yq_inline.{specs.Along.{as_item, located_along, located_from, node_from}, specs.declared.in_front.NodeInFront.NodeInFront}
-use Rattle.yq_places.{specs.NodeReading.summary_in_head, specs.NodesAt.node_summary}
+use Rattle.yq_places.{specs.NodeReading.summary_in_head, specs.NodesAt.{node_in, node_summary}, specs.RowWalk.document_row_range}
 use Rattle.yq_lookup.specs.RowFronts.{IsRowFront, summary_along}
 use Rattle.yq_core.specs.Tree as tree
+
+-- no node is where no document is
+pub none_there : (c : Cut) (n : ℕ) (steps : List Step) → None ≡ document_row_range n c → None ≡ option_map node_summary (node_in n steps c)
+none_there c n steps e =
+    go (slice_get (document_parts c) n) e ∙ sym (ap (λ o. option_map node_summary (o >>= λ d. node_at steps d.root)) (slice_get-map part_document (document_parts c) n))
+  where
+    go : (o : Option Part) → ◌≡◌ {A = Option (ℕ × ℕ)} None (option_map (λ p. (document_row n c, document_row n c + length p.rows)) o) → None ≡ option_map node_summary (option_map part_document o >>= λ d. node_at steps d.root)
+    go None e = refl
+    go (Some p) e = absurd cc
 
 module _ (t behind : List ℕ) (r : Row) (x : NodeInFront × ℕ) (h : IsRowFront t behind r x) (ss : List Step) where
   abbrev top : EntryPieces

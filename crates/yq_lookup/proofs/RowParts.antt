@@ -11,9 +11,21 @@ use Rattle.yq_documents.specs.Reading.{cut_of}
 use Rattle.yq_inline.specs.Along.{along_view, as_item, front_read, located_along, located_from, node_from}
 use Rattle.yq_inline.{specs.declared.along.NodeAlong.NodeAlong, specs.declared.in_front.NodeInFront.NodeInFront}
 use Rattle.yq_places.{specs.FlowNodes.{content_flow, flow_collection}, proofs.FlowNodeLaws.{content_more, entry_more, item_more, with_more}}
-use Rattle.yq_lookup.{specs.PartNodes.{IsPartNode, PartAgrees, part_at, coll_part}, specs.RowFronts.{IsFlowFront, IsRowFront}}
+use Rattle.yq_lookup.specs.PartNodes.{IsPartNode, PartAgrees, part_at, coll_part}
+use Rattle.yq_lookup.specs.RowFronts.{IsFlowFront, IsFoundNode, IsRowFront, LeadsToFront, flow_found}
+use Rattle.yq_lookup.{specs.declared.node_at.FoundNode.FoundNode, specs.declared.node_at.FoundNode.TheVariants.{InFlow, Outside}}
 use Rattle.yq_lookup.proofs.RowItems.{before_is}
 use Rattle.yq_core.specs.declared.path.Step as declared
+
+-- the node that the code finds is in no flow collection
+pub outside_there : (t : List ℕ) (n : ℕ) (steps : List Step) (x : FoundNode) → ((a : NodeInFront) (k : ℕ) (left : Bor (List declared.Step)) → x ≡ InFlow a k left → ⊥) → IsFoundNode t n steps x →
+    LeadsToFront t n steps None
+outside_there t n steps (InFlow a k left) never is = absurd (never a k left refl)
+outside_there t n steps (Outside o) never is = is.flow
+
+-- where it is, if it is in one
+pub leads_there : (t : List ℕ) (n : ℕ) (steps : List Step) (x : FoundNode) (o : Option (NodeInFront × ℕ × Bor (List declared.Step))) → flow_found x ≡ o → IsFoundNode t n steps x → LeadsToFront t n steps o
+leads_there t n steps x o e is = subst (LeadsToFront t n steps) e is.flow
 
 -- the items or entries of a node are those of its collection
 pub node_entry : (s : Step) (node : FlowNode) (rest : List ℕ) → (coll_in node rest >>= coll_part s) ≡ path_inside s node rest

@@ -7,7 +7,8 @@ use Rattle.yq_text.specs.Limit.{text_limit}
 use Rattle.yq_row_table.{specs.Exchange.behind_row, specs.Rows.{Content, Row, parent_indent}, specs.View.rows_of}
 use Rattle.yq_inline.{specs.Along.{front_read, located_along}, specs.declared.in_front.NodeInFront.NodeInFront}
 use Rattle.yq_documents.specs.Reading.{cut_of}
-use Rattle.yq_places.{specs.FlowNodes.{content_flow, flow_collection}, specs.NodesAt.{NodeAt, node_summary, node_view}}
+use Rattle.yq_places.{specs.FlowNodes.{content_flow, flow_collection}, specs.NodesAt.{NodeAt, node_in, node_summary, node_view}}
+use Rattle.yq_lookup.{specs.declared.node_at.FoundNode.FoundNode, specs.declared.node_at.FoundNode.TheVariants.{InFlow, Outside}}
 use Rattle.yq_outline.specs.Lines.{head_of}
 use Rattle.yq_core.specs.declared.path.Step as declared
 use Rattle.yq_places.specs.declared.places.node_at.NodeAt as found
@@ -58,3 +59,19 @@ summary_along ss n = option_map (λ (x : List ℕ × Placed). node_summary (plac
 -- what the code finds is that node
 abbrev pub IsNodeAlong : List Step → NodeInFront → Option found.NodeAt → Type 0
 IsNodeAlong ss n o = option_map node_view o ≡ summary_along ss n
+
+-- where the code finds the node at a path in the node in front of a text; nothing outside flow collections
+abbrev pub flow_found : FoundNode → Option (NodeInFront × ℕ × Bor (List declared.Step))
+flow_found (InFlow front before left) = Some (front, before, left)
+flow_found (Outside o) = None
+
+-- what is known of the node that the code finds
+abbrev pub found_summary : FoundNode → Option NodeAt
+found_summary (InFlow front before left) = summary_along (map tree_step left.now) front
+found_summary (Outside o) = option_map node_view o
+
+-- What the code finds at a path of document n is the node there: the flow collection at the path is in the node in front of a text, or there is
+-- none.
+pub record IsFoundNode (t : List ℕ) (n : ℕ) (steps : List Step) (x : FoundNode) : Type 0 where
+  pub flow : LeadsToFront t n steps (flow_found x)
+  pub node : found_summary x ≡ option_map node_summary (node_in n steps (cut_of t))

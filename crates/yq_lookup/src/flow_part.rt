@@ -4,6 +4,7 @@ ghost use Rattle.yq_core.specs.Entries.{tree_step};
 ghost use Rattle.yq_lookup.specs.PartNodes as spec;
 
 use crate::cut_text::CutText;
+use crate::node_at::FoundNode;
 use std::alloc::{AllocError, Global};
 use yq_core::Step;
 use yq_inline::{NodeAlong, read_part};
@@ -21,7 +22,8 @@ impl<'t> CutText<'_, 't> {
         ensures { IfOk result (spec.FindsPart self.now doc (map tree_step steps.now)
             (tree_step last.now)) }
     {
-        let Some((front, start, left)) = self.flow_front(doc, steps) else {
+        let above = self.node_found(alloc, doc, steps)?;
+        let FoundNode::InFlow(front, start, left) = above else {
             return Ok(None);
         };
         let Some(found) = read_part(alloc, front, left, last)? else {

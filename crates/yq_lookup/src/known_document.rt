@@ -57,16 +57,34 @@ fn known_upto(known: KnownDocuments, doc: usize) -> KnownDocuments
     KnownDocuments::none()
 }
 
-/// Where a search goes on from a document, or begins: how many documents come before a part, the number of that, and
-/// whether it is one.
-fn search_start(rows: &Rows<'_>, from: Option<KnownDocument>) -> (usize, usize, bool)
+/// A part from which a search goes on.
+#[derive(Clone, Copy)]
+struct SearchStart {
+    /// How many parts come before it.
+    part: usize,
+    /// How many documents do.
+    count: usize,
+    /// Whether it is one.
+    is_document: bool,
+}
+
+/// Where a search goes on from a document, or begins.
+fn search_start(rows: &Rows<'_>, from: Option<KnownDocument>) -> SearchStart
     requires { IfSome from (IsKnownDocument rows.now.bounds) }
-    ensures order { (doc : ℕ) → IfSome from (λ k. k.doc ≤ doc) → result.0 ≤ doc }
-    ensures goes_on { NumbersGoOn rows.now.bounds result.1 result.0 result.2 }
+    ensures order { (doc : ℕ) → IfSome from (λ k. k.doc ≤ doc) → result.count ≤ doc }
+    ensures goes_on { NumbersGoOn rows.now.bounds result.part result.count result.is_document }
 {
     match from {
-        Some(known) => (known.doc, known.part, true),
-        None => (0, 0, first_is_document(rows)),
+        Some(known) => SearchStart {
+            part: known.part,
+            count: known.doc,
+            is_document: true,
+        },
+        None => SearchStart {
+            part: 0,
+            count: 0,
+            is_document: first_is_document(rows),
+        },
     }
 }
 
@@ -79,11 +97,11 @@ pub(crate) fn find_document(rows: &Rows<'_>, known: KnownDocuments, doc: usize) 
     ensures known { AreKnownDocuments rows.now.bounds result }
 {
     let from = known_upto(known, doc);
-    let (start, first, begins) = search_start(rows, from.last);
-    let mut count = start;
-    let mut is_document = begins;
+    let start = search_start(rows, from.last);
+    let mut count = start.count;
+    let mut is_document = start.is_document;
     let mut before = from.before;
-    'parts: for part in first..rows.parts() {
+    'parts: for part in start.part..rows.parts() {
         let bound = rows.part(part);
         if is_document {
             let here = KnownDocument { doc: count, part };

@@ -19,6 +19,7 @@ pub use cut_text::CutText;
 pub use knowledge::{Knowledge, StepSearches};
 pub use known_document::{KnownDocument, KnownDocuments};
 pub use laws::{comments_stand, contents_spell, entries_spell, pieces_exist, pieces_hold};
+pub use node_at::FoundNode;
 pub use yq_places::{
     EntryMark, FlowHead, Held, HeldRow, LinesIn, NodeAt, Removal, Seam, Standing, TextPiece,
     collection_along, line_end, split_break,

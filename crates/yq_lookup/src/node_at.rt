@@ -3,7 +3,7 @@ ghost use Rattle.std.specs.Prelude.{◌≡◌, ◌<◌, length, map, option_and_
 ghost use Rattle.yq_core.specs.Entries.{tree_step};
 ghost use Rattle.yq_row_table.{specs.Rows.Row as RowOf, specs.View.rows_of};
 ghost use Rattle.yq_documents.{specs.Located.steps_of, specs.Reading.{content_is_fit, cut_of}};
-ghost use Rattle.yq_places.{specs.FlowNodes.flow_collection, specs.HeadReading.IsRowHead, specs.RemovalPlaces.has_others_at};
+ghost use Rattle.yq_places.{specs.FlowNodes.flow_collection, specs.HeadReading.IsRowHead};
 ghost use Rattle.yq_places.specs.FlowViews as flows;
 ghost use Rattle.yq_places.specs.NodesAt as spec;
 ghost use Rattle.yq_lookup.specs.RowFronts as fronts;
@@ -17,6 +17,16 @@ use yq_outline::{Head, ScalarContent};
 use yq_places::{FlowHead, NodeAt, block_node, head_node, is_text, node_place, place_line};
 use yq_row_heads::row_head;
 use yq_row_walk::head_place;
+
+/// The node at a path.
+#[derive(Drop)]
+pub enum FoundNode<'s, 't> {
+    /// In the node in front of a text, which isn't read yet: how many bytes come before that, and the steps that lead
+    /// on in it.
+    InFlow(NodeInFront<'t>, usize, &'s [Step]),
+    /// Outside flow collections: what it is, if there is one.
+    Outside(Option<NodeAt<'t>>),
+}
 
 /// What the node is to which steps lead in the node in front of a text, read alone.
 fn front_node<'t>(
@@ -34,7 +44,48 @@ fn front_node<'t>(
     head_node(alloc, Head::Inline(node), &[])
 }
 
+impl<'t> FoundNode<'_, 't> {
+    /// What it is, if there is one.
+    pub fn read(self, alloc: Global) -> Result<Option<NodeAt<'t>>, AllocError>
+        ensures { IfOk result (λ o. option_map spec.node_view o ≡ fronts.found_summary self.entry) }
+    {
+        match self {
+            FoundNode::InFlow(front, _, left) => front_node(alloc, front, left),
+            FoundNode::Outside(node) => Ok(node),
+        }
+    }
+}
+
 impl<'t> CutText<'_, 't> {
+    /// Where the node at a path of document `doc`, counted from 0, is, and what it is outside flow collections.
+    pub fn node_found<'s>(
+        &self,
+        alloc: Global,
+        doc: usize,
+        steps: &'s [Step],
+    ) -> Result<FoundNode<'s, 't>, AllocError>
+        ensures { IfOk result (fronts.IsFoundNode self.now doc (map tree_step steps.now)) }
+    {
+        let Some(walk) = self.walk(doc) else {
+            return Ok(FoundNode::Outside(None));
+        };
+        let Some((place, left)) = node_place(&walk, steps) else {
+            return Ok(FoundNode::Outside(None));
+        };
+        let Some(at) = place_line(&walk, place) else {
+            let node: Option<NodeAt<'t>> = block_node(&walk, place);
+            return Ok(FoundNode::Outside(node));
+        };
+        match self.row_front(at.row) {
+            Some((front, before)) => Ok(FoundNode::InFlow(front, before, left)),
+            None => {
+                let (head, _, _) = self.row_head(alloc, at.row)?;
+                let node: Option<NodeAt<'t>> = head_node(alloc, head, left)?;
+                Ok(FoundNode::Outside(node))
+            }
+        }
+    }
+
     /// What the node at a path of document `doc`, counted from 0, is.
     pub fn node_at(
         &self,
@@ -46,22 +97,8 @@ impl<'t> CutText<'_, 't> {
             option_map spec.node_summary (spec.node_in doc (map tree_step steps.now)
             (cut_of self.now))) }
     {
-        let Some(walk) = self.walk(doc) else {
-            return Ok(None);
-        };
-        let Some((place, left)) = node_place(&walk, steps) else {
-            return Ok(None);
-        };
-        let Some(at) = place_line(&walk, place) else {
-            return Ok(block_node(&walk, place));
-        };
-        match self.row_front(at.row) {
-            Some((front, _)) => front_node(alloc, front, left),
-            None => {
-                let (head, _, _) = self.row_head(alloc, at.row)?;
-                head_node(alloc, head, left)
-            }
-        }
+        let found = self.node_found(alloc, doc, steps)?;
+        found.read(alloc)
     }
 
     /// The scalar at a path, if one is there.
@@ -77,19 +114,6 @@ impl<'t> CutText<'_, 't> {
         match self.node_at(alloc, path.doc, &path.steps)? {
             Some(node) => Ok(node.scalar()),
             None => Ok(None),
-        }
-    }
-
-    /// Whether the collection in which a path ends has others beside the item or entry to which it
-    /// leads.
-    pub fn has_others(&self, alloc: Global, path: &Path) -> Result<bool, AllocError>
-        ensures { IfOk result (λ b. b ≡ has_others_at path.now.doc (steps_of path.now)
-            (cut_of self.now)) }
-    {
-        let above = path.steps.len().saturating_sub(1);
-        match self.node_at(alloc, path.doc, &path.steps[..above])? {
-            Some(node) => Ok(node.has_several()),
-            None => Ok(false),
         }
     }
 

@@ -1,14 +1,14 @@
 //! The nodes in the heads of rows, in front of a text.
-ghost use Rattle.std.specs.Prelude.{◌≡◌, ◌<◌, ◌||◌, length, map};
-ghost use Rattle.yq_core.{specs.Entries.tree_step, specs.Nodes.begins_with};
+ghost use Rattle.std.specs.Prelude.{◌≡◌, ◌<◌, ◌||◌, length};
+ghost use Rattle.yq_core.specs.Nodes.{begins_with};
 ghost use Rattle.yq_row_table.specs.View.{rows_of};
 ghost use Rattle.yq_documents.specs.Reading.{cut_of};
 ghost use Rattle.yq_lookup.specs.RowFronts as spec;
 
 use crate::cut_text::CutText;
-use yq_core::{DEPTH_LIMIT, Place, Step, further_spaces};
+use yq_core::{DEPTH_LIMIT, Place, further_spaces};
 use yq_inline::NodeInFront;
-use yq_places::{is_text, node_place, place_line};
+use yq_places::is_text;
 use yq_row_walk::head_place;
 
 /// Whether a flow collection begins so.
@@ -38,29 +38,5 @@ impl<'t> CutText<'_, 't> {
             text,
         };
         Some((front, start))
-    }
-
-    /// The node in the head in which the flow collection at a path of document `doc`, counted from 0, is, how many bytes
-    /// come before it, and the steps that lead on in it; nothing, where no flow collection is at the path.
-    pub fn flow_front<'s>(
-        &self,
-        doc: usize,
-        steps: &'s [Step],
-    ) -> Option<(NodeInFront<'t>, usize, &'s [Step])>
-        ensures { spec.LeadsToFront self.now doc (map tree_step steps.now) result }
-    {
-        let Some(walk) = self.walk(doc) else {
-            return None;
-        };
-        let Some((place, left)) = node_place(&walk, steps) else {
-            return None;
-        };
-        let Some(at) = place_line(&walk, place) else {
-            return None;
-        };
-        let Some((node, before)) = self.row_front(at.row) else {
-            return None;
-        };
-        Some((node, before, left))
     }
 }

@@ -1,2 +1,2 @@
 pub mod ChoiceLaws
-pub mod RowsGoneLaws
+pub mod RemovingLaws

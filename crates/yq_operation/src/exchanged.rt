@@ -7,6 +7,7 @@ ghost use Rattle.yq_documents.{specs.Located.steps_of, specs.Reading.cut_of};
 ghost use Rattle.yq_places.{specs.NodesAt.node_in, specs.Standings.last_step};
 ghost use Rattle.yq_semantics.specs.Operations.{operation_of};
 ghost use Rattle.yq_text.specs.Script.{keep};
+ghost use Rattle.yq_edit_laws.specs.Emptying.{IsNodeAbove};
 ghost use Rattle.yq_edit_rules.{specs.Answers.GivesSegments, specs.Replacing.keeps_scalar as is_kept_there};
 ghost use Rattle.yq_edit_rules.specs.ReplaceEdits.{value_put_at as value_put_there};
 ghost use Rattle.yq_edit_rules.specs.Edits as spec;
@@ -17,8 +18,8 @@ use yq_block_edits::{
 };
 use yq_core::Value;
 use yq_documents::Path;
-use yq_edit_laws::{append_in_flow, emptying, put_in_flow, remove_in_flow, unchanged};
-use yq_lookup::CutText;
+use yq_edit_laws::{append_in_flow, emptying, last_step, put_in_flow, remove_in_flow, unchanged};
+use yq_lookup::{CutText, NodeAt};
 use yq_semantics::Op;
 use yq_text::Segments;
 
@@ -97,40 +98,43 @@ fn appended<'d>(
     append_in_flow(alloc, cut, path, key, value)
 }
 
-/// A sole item or entry taken out: an empty collection is put in the place of its own.
+/// A sole item or entry taken out of a collection of which this is known: an empty collection is put in the place of
+/// its own.
 fn sole_removed<'d>(
     alloc: Global,
     cut: &CutText<'_, 'd>,
     path: &Path,
+    above: &NodeAt<'_>,
 ) -> Result<Option<Segments<'d>>, AllocError>
+    requires { IsNodeAbove cut.now path.now above.now }
     ensures { GivesSegments result (spec.sole_removed path.now.doc (cut_of cut.now)
         (last_step (steps_of path.now))) }
 {
-    let Some((place, value)) = emptying(alloc, cut, path)? else {
+    let Some((place, value)) = emptying(alloc, path, above)? else {
         return Ok(None);
     };
     replaced(alloc, cut, &place, &value)
 }
 
-/// One of several items or entries of a block collection taken out, or a sole one of any.
-#[tactic(auto, using(crate::proofs::ChoiceLaws::chosen, crate::proofs::ChoiceLaws::not_chosen))]
+/// One of several items or entries of a block collection of which this is known taken out, or a sole one of any.
 fn rows_or_sole<'d>(
     alloc: Global,
     cut: &CutText<'_, 'd>,
     path: &Path,
+    above: &NodeAt<'_>,
 ) -> Result<Option<Segments<'d>>, AllocError>
+    requires { IsNodeAbove cut.now path.now above.now }
     ensures { GivesSegments result (spec.rows_or_sole path.now.doc (steps_of path.now)
         (cut_of cut.now)) }
 {
-    let others = cut.has_others(alloc, path)?;
-    if others {
+    if above.has_several() {
         one_removed(alloc, cut, path)
     } else {
-        sole_removed(alloc, cut, path)
+        sole_removed(alloc, cut, path, above)
     }
 }
 
-/// An item or entry taken out.
+/// An item or entry taken out, by what is found above it.
 #[tactic(auto, using(crate::proofs::ChoiceLaws::first_is, crate::proofs::ChoiceLaws::second_is))]
 fn removed<'d>(
     alloc: Global,
@@ -139,10 +143,19 @@ fn removed<'d>(
 ) -> Result<Option<Segments<'d>>, AllocError>
     ensures { GivesSegments result (spec.removed path.now.doc (steps_of path.now) (cut_of cut.now)) }
 {
-    if let Some(segments) = remove_in_flow(alloc, cut, path)? {
+    let Some((steps, _)) = last_step(&path.steps) else {
+        return Ok(None);
+    };
+    let found = cut.node_found(alloc, path.doc, steps)?;
+    let inside = remove_in_flow(alloc, cut, path, &found)?;
+    if let Some(segments) = inside {
         return Ok(Some(segments));
     }
-    rows_or_sole(alloc, cut, path)
+    let above = found.read(alloc)?;
+    match above {
+        Some(above) => rows_or_sole(alloc, cut, path, &above),
+        None => Ok(None),
+    }
 }
 
 /// What an operation exchanges, if what it names is there.

@@ -4,8 +4,6 @@
 
 mod exchanged;
 mod operation;
-mod rows_gone;
 
 pub use exchanged::op_segments;
 pub use operation::{carry_along, carry_one, change_one};
-pub use rows_gone::change;

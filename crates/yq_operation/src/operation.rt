@@ -7,13 +7,13 @@ ghost use Rattle.yq_lookup.specs.Knowledge.{KnowledgeStays};
 ghost use Rattle.yq_edit_laws.{specs.Answers.{Edits, EditFails}, specs.Valid.segments_by};
 ghost use Rattle.yq_edit_laws.specs.Carried as spec;
 
-use crate::{change, op_segments};
+use crate::exchanged::op_segments;
 use std::alloc::Global;
 use yq_edit_laws::on_the_way;
 use yq_edit_rules::is_filled;
 use yq_lookup::{CutText, Knowledge};
 use yq_semantics::{ExprError, Op, Refusal};
-use yq_text::{ChangedMiddle, Edited, exchange};
+use yq_text::{ChangedMiddle, Edited, changes, exchange};
 
 /// From now on it is known what is on the way of an operation, and how far steps were searched, if its value
 /// may ask for them.
@@ -30,6 +30,17 @@ fn go_on<'d, 'o: 'd>(alloc: Global, cut: &mut CutText<'d, '_>, op: &'o Op)
         }
         Op::Remove(_) | Op::LineComment(_, _) | Op::HeadComment(_, _) => {}
     }
+}
+
+/// What an operation changes in a text with its cut.
+fn change(alloc: Global, cut: &CutText<'_, '_>, op: &Op) -> Result<ChangedMiddle, ExprError>
+    ensures ok { IfOk result (IsChange (segments_by (operation_of op.now) (cut_of cut.now))) }
+    ensures err { IfErr result (λ e. EditFails e (spec.carry_one (operation_of op.now)
+        (cut_of cut.now))) }
+{
+    let _text = cut.text();
+    let segments = op_segments(alloc, cut, op)?;
+    changes(alloc, &segments)?.ok_or(ExprError::Fault(Refusal::TooLarge))
 }
 
 /// What an operation changes in a text with its cut, and what is known after it: of its way, and of steps.

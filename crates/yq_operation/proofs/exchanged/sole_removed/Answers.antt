@@ -9,7 +9,7 @@ use Rattle.yq_operation.proofs.exchanged.sole_removed.Goals as goal
 pub returns : goal.returns
 returns c =
     let cut = cut_of c.args.cut.now in
-    let empties = sym c.in_ok-place.ensures ∙ ap (option_map emptied_view) c.in-Some.is in
+    let empties = sym (c.in_ok-place.ensures c.args.cut.now c.requires) ∙ ap (option_map emptied_view) c.in-Some.is in
     subst (GivesSegments c.replaced.result)
     (sym (sole_by_emptying c.args.path.now.doc cut (last_step (steps_of c.args.path.now)) ∙ ap (λ (o : Option Emptied). o >>= λ e. replace_segments e.doc e.steps e.value cut) empties))
     c.replaced.ensures
