@@ -11,7 +11,7 @@ use Rattle.yq_inline.{specs.Measured.closing_byte, specs.declared.in_front.Parts
 use Rattle.yq_inline.specs.Neighbours.{IsCollectionOf, IsFirstInFront, IsStepPart, IsPassed, PartTexts, PartsAround, around_part}
 use Rattle.yq_inline.specs.Neighbours.{coll_around, coll_end, coll_read, first_ends, first_read, first_text, from_read, last_ends}
 use Rattle.yq_inline.specs.Neighbours.{last_read, rest_from, passed_view, past_last, past_passed}
-use Rattle.yq_inline.{specs.declared.passing.{FoundPart.FoundPart, PassedPart.PassedPart}, proofs.FirstParts.behind_is}
+use Rattle.yq_inline.{specs.declared.passing.FoundPart.FoundPart, specs.declared.passing.PassedPart.PassedPart, proofs.FirstParts.behind_is}
 use denote.Bor.{Bor}
 
 -- ---- steps

@@ -6,8 +6,9 @@ use Rattle.yq_core.specs.Nodes.{FlowNode, Items, Key, Sep, flow_items_text, item
 use Rattle.yq_core.{specs.Reading.{all_items, all_node, sep_at}, specs.Quoted.IsQuotedText, specs.Scalars.{is_quoted, scalar_content}}
 use Rattle.yq_core.{specs.Tree.key_label, specs.Trees.key_content}
 use Rattle.yq_inline.{specs.Along.{front_read, parts_read}, specs.Measured.closing_byte, specs.declared.in_front.NodeInFront.NodeInFront}
-use Rattle.yq_inline.{specs.declared.in_front.PartsInFront.PartsInFront, specs.declared.passing.{FoundPart.FoundPart, PassedPart.PassedPart}}
-use Rattle.yq_inline.{specs.declared.neighbours.CollectionEnd.CollectionEnd, specs.declared.neighbours.Neighbours.Neighbours}
+use Rattle.yq_inline.{specs.declared.in_front.PartsInFront.PartsInFront, specs.declared.passing.FoundPart.FoundPart}
+use Rattle.yq_inline.{specs.declared.passing.PassedPart.PassedPart, specs.declared.neighbours.CollectionEnd.CollectionEnd}
+use Rattle.yq_inline.specs.declared.neighbours.Neighbours.{Neighbours}
 use denote.Bor.{Bor}
 
 -- ---- what items and entries are next to each other
