@@ -8,7 +8,8 @@ use Rattle.yq_core.{specs.Text.is_empty, specs.Trees.{node_head, placed_tree, tr
 use Rattle.yq_core.{proofs.NodeAgain.is_anchored, proofs.TreeLaws.node_tree}
 use Rattle.yq_documents.{specs.FlowReading.{alias_or_collection, head_flow_at, node_flow_at}, specs.KeyReading.EndsIn}
 use Rattle.yq_documents.{specs.RowReading.{is_block_head, is_short_plain, read_head, node_head_at}, proofs.HeadLaws.fitting}
-use Rattle.yq_compose.{specs.Borrowing.{IsPassedHead, IsPassedNode, opens_collection}, proofs.PassedLaws.deeper_node}
+use Rattle.yq_compose.specs.Borrowing.{opens_collection}
+use Rattle.yq_inline.{specs.Passed.{IsPassedHead, IsPassedNode}, proofs.PassedLaws.deeper_node}
 use Rattle.yq_documents.proofs.HeadLaws as heads
 use Rattle.yq_documents.proofs.RowFlowLaws as flows
 

@@ -5,7 +5,6 @@ pub mod NearLaws
 pub mod StopLaws
 pub mod PositionOrder
 pub mod UnderLaws
-pub mod KeysLaws
 pub mod LineLevelLaws
 pub mod ReadyLaws
 pub mod GivesLaws
@@ -26,7 +25,6 @@ pub mod DecodedRows
 pub mod PartLaws
 pub mod DocumentsRead
 pub mod FlowSound
-pub mod PassedLaws
 pub mod BorrowedHeads
 pub mod BorrowedDepths
 pub mod WordHeads

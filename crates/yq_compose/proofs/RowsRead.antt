@@ -5,19 +5,21 @@ use Rattle.std.{proofs.Math.Seq.{drop-append_seam, get_or-append_seam}, proofs.l
 use Rattle.std.{proofs.lemmas.List.length-map, proofs.lemmas.Option.{cond_some, slice_get-map}, proofs.lemmas.Str.IsCharBoundary-start}
 use Rattle.std.{specs.List.slice_get, specs.Prelude.option_map, specs.Str.{IsCharBoundary, IsUtf8}}
 use Rattle.yq_core.{specs.Answers.{ReadFails, ReadError}, specs.Quoted.IsQuotedText, specs.Nodes.begins_with, specs.Text.is_empty}
-use Rattle.yq_core.{specs.Scalars.{scalar_content, is_quoted}, specs.Borrowed.borrows_text, proofs.OneLine.kept}
+use Rattle.yq_core.{specs.Scalars.{scalar_content, is_quoted}, specs.Borrowed.{borrows_text, borrowed_text}, proofs.OneLine.kept}
+use Rattle.yq_core.{specs.FitKeys.key_fits, proofs.BorrowedTexts.borrows_key}
 use Rattle.yq_outline.{specs.Lines.head_of, proofs.RowLaws.{colon_some, mark_quoted}}
 use Rattle.yq_row_table.{specs.Exchange.{before_content, behind_row, rows_behind}, specs.Grammar.IsMark}
 use Rattle.yq_row_table.{specs.Rows.{Row, Cut, parent_indent}, specs.View.{Slices, colon_of, key_of_mark, slices, rows_of, RowsView}}
-use Rattle.yq_row_table.{proofs.PlaceLaws.{RowIn, place, row_in}, proofs.SliceLaws.content_slices}
+use Rattle.yq_row_table.{proofs.PlaceLaws.{RowIn, place, row_in}, proofs.SliceLaws.content_slices, specs.WordRows.KnowsHead}
 use Rattle.yq_documents.{specs.FlowReading.{head_flow_at, row_flow}, specs.KeyReading.EndsIn}
-use Rattle.yq_documents.specs.Decoded.{alias_from, borrowed_head, borrowed_text, decoded_view, decoded_head_flow}
+use Rattle.yq_documents.specs.Decoded.{alias_from, borrowed_head, decoded_view, decoded_head_flow}
 use Rattle.yq_documents.{specs.declared.decoded.DecodedHead.DecodedHead, specs.Reading.{content_is_fit, cut_of, mark_is_fit}}
 use Rattle.yq_documents.{specs.RowReading.read_head, proofs.HeadLaws.{fitting, head_is, head_text}, proofs.RowFlowLaws.flow_is}
 use Rattle.yq_documents.proofs.RowLineLaws.{content_quoted}
-use Rattle.yq_compose.{specs.Checking.borrows_head, specs.Deciding.Denies, specs.FitReading.key_fits}
+use Rattle.yq_inline.proofs.WholeCollections.{whole_passed}
+use Rattle.yq_compose.{specs.Borrowing.PassesHead, specs.Checking.borrows_head, specs.Deciding.Denies}
 use Rattle.yq_compose.{specs.Decoding.{IsCutInto, IsHeadDecoded, IsKeyDecoded}, proofs.RowBegins.mark_plain}
-use Rattle.yq_compose.{proofs.AliasHeads.{MeansAlias, means_alias}, proofs.BorrowLaws.{borrows_key, borrowed_read}}
+use Rattle.yq_compose.{proofs.AliasHeads.{MeansAlias, means_alias}, proofs.BorrowLaws.borrowed_read}
 use Rattle.yq_core.specs.Tree as trees
 use Rattle.yq_failure.specs.declared.failure.Failure.TheVariants as errors
 use Rattle.yq_row_table.specs.Rows as rows
@@ -166,6 +168,14 @@ module _ (t : List ℕ) (s : RowsView) (k : IsCutInto t s) (i : ℕ) (r : Row) (
 
     pub text_ends : EndsIn t text
     text_ends = (before, text_there ∙ ap (λ (x : List ℕ). before ++ x) (sym from_there))
+
+    -- what is known of the head is so of the text from it on
+    pub passed_there : (d : ℕ) → KnowsHead d (slices r).head → 0 < d → PassesHead d text
+    passed_there d knows more =
+        let k = knows more in
+        let x : Slices = slices r in
+        let rest : List ℕ = x.tail ++ (x.raw ++ behind_row i c) in
+        (k.0, (rest, whole_passed d x.head rest text k.1 from_there))
 
     module _ (p : ℤ) (h : List ℕ) (parent : p ≡ parent_indent r) (head : h ≡ (slices r).head) where
       pub head_read : read_head t p h text ≡ fitting (content_is_fit r.content) (head_of r.content)

@@ -3,14 +3,14 @@ use Rattle.std.proofs.Common.{⊎_elim, rules, ◌≡◌, ℕ, zero, suc, ◌+�
 use Rattle.std.proofs.Common.{length, take, append-nil, get_or, Some, None, refl, sym, ◌∙◌, subst, arith, inl, inr}
 use Rattle.std.{proofs.lemmas.Bool.{and_parts, false≢true, or_cases}, specs.List.slice_get}
 use Rattle.yq_core.{specs.Borrowed.borrows_text, specs.Runs.is_word_byte, specs.Scalars.is_quoted, specs.Text.{front, is_empty}}
-use Rattle.yq_core.proofs.Bools.{at_byte}
+use Rattle.yq_core.{proofs.Bools.at_byte, specs.FitKeys.key_fits}
 use Rattle.yq_row_table.{specs.Rows.Row, specs.View.{RowsView, Slices, rows_of, slices}}
-use Rattle.yq_row_table.specs.WordRows.{AreOtherRows, AreWordRows, borrows_quoted, is_word_head, is_word_key, is_word_row}
-use Rattle.yq_row_table.proofs.WordFronts.{word_unquoted}
+use Rattle.yq_row_table.specs.WordRows.{AreOtherRows, AreWordRows, KnowsRow, borrows_quoted, is_word_head, is_word_key, is_word_row}
+use Rattle.yq_row_table.{specs.declared.rows.Other.Other, proofs.WordFronts.word_unquoted}
 use Rattle.yq_documents.{specs.Decoded.IsDecodedBy, specs.Reading.{cut_of, mark_is_fit}, specs.RowReading.row_fits}
 use Rattle.yq_documents.specs.declared.decoded.Decoded.{Decoded}
-use Rattle.yq_compose.{specs.Checking.{begins_tree, borrows_head}, specs.Decoding.{IsCutInto, IsKeyDecoded}, specs.FitReading.key_fits}
-use Rattle.yq_compose.{proofs.AheadLaws.first_apart, proofs.DecodedRows.{DecodedUpto, row_step}, proofs.WordHeads.no_tree}
+use Rattle.yq_compose.{specs.Checking.{begins_tree, borrows_head}, specs.Decoding.{IsCutInto, IsKeyDecoded}, proofs.AheadLaws.first_apart}
+use Rattle.yq_compose.{proofs.DecodedRows.{DecodedUpto, row_step}, proofs.WordHeads.no_tree}
 use Rattle.yq_compose.proofs.RowsRead.{borrowed_fit, key_borrowed, key_fits_is, key_unquoted, keyless, no_head, none_decoded, pieces_there}
 use Rattle.yq_compose.proofs.RowsRead.{row_at}
 
@@ -32,7 +32,7 @@ quoted_fits : (key : List ℕ) → is_quoted key ≡ true → key_fits key ≡ t
 quoted_fits key quoted = search (rules, ⊎_elim, or_cases)
 
 -- What is made of the rows before those that are left.
-pub record OthersDecoded (t : List ℕ) (rows : List Slices) (left : List ℕ) (ms : List Decoded) : Type 0 where
+pub record OthersDecoded (t : List ℕ) (rows : List Slices) (left : List Other) (ms : List Decoded) : Type 0 where
   pub at : ℕ
   pub within : at ≤ length rows
   pub upto : DecodedUpto t at ms
@@ -76,14 +76,15 @@ module _ (t : List ℕ) (s : RowsView) (k : IsCutInto t s) where
   words_passed i j ms from = passed_by (j - i) i j ms (omega (arith, from))
 
   -- the next of those that are left
-  pub next_other : (left : List ℕ) (ms : List Decoded) → 1 ≤ length left → OthersDecoded t s.rows left ms →
-      (get_or left 0 0 < length s.rows) × DecodedUpto t (get_or left 0 0) ms × AreOtherRows s.rows (suc (get_or left 0 0)) (take (length left - 1) (drop 1 left))
-  next_other [] ms some u = absurd (omega (arith, some))
-  next_other (n ∷ ns) ms some u =
-      let h = subst (AreOtherRows s.rows u.at) (first_apart (n ∷ ns) n some refl) u.others in
-      (h.1, words_passed u.at n ms h.0 (omega (arith, h.1)) h.2 u.upto, h.3)
+  pub next_other : (x : Other) (left : List Other) (ms : List Decoded) → 1 ≤ length left → OthersDecoded t s.rows left ms →
+      ((get_or left 0 x).row < length s.rows) × DecodedUpto t (get_or left 0 x).row ms × KnowsRow s.rows (get_or left 0 x)
+      × AreOtherRows s.rows (suc (get_or left 0 x).row) (take (length left - 1) (drop 1 left))
+  next_other x [] ms some u = absurd (omega (arith, some))
+  next_other x (o ∷ os) ms some u =
+      let h = subst (AreOtherRows s.rows u.at) (first_apart (o ∷ os) o some refl) u.others in
+      (h.1, words_passed u.at o.row ms h.0 (omega (arith, h.1)) h.2 u.upto, h.3, h.4)
 
   -- after the last of them
-  pub no_other : (left : List ℕ) (ms : List Decoded) → length left < 1 → OthersDecoded t s.rows left ms → DecodedUpto t (length s.rows) ms
+  pub no_other : (left : List Other) (ms : List Decoded) → length left < 1 → OthersDecoded t s.rows left ms → DecodedUpto t (length s.rows) ms
   no_other [] ms none u = words_passed u.at (length s.rows) ms u.within (omega arith) u.others u.upto
-  no_other (n ∷ ns) ms none u = absurd (omega (arith, none))
+  no_other (o ∷ os) ms none u = absurd (omega (arith, none))

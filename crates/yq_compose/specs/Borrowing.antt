@@ -1,65 +1,9 @@
--- Reading (own; a reader may skip it): what is passed of flow collections that the text lends.
-use Rattle.std.specs.Prelude.{◌≡◌, ℕ, Bool, true, false, ◌||◌, List, ◌∷◌, Some, ℤ}
-use Rattle.yq_core.specs.Borrowed.{borrows_items, borrows_node, borrows_text}
-use Rattle.yq_core.specs.Keys.{are_distinct, each_has_unique_keys, has_unique_keys, keys_of}
-use Rattle.yq_core.specs.Nodes.{FlowNode, coll, Items, node_text, flow_items_text, IsFlowNode, AreFlowItems, begins_with, is_empty_node}
-use Rattle.yq_core.{specs.Nodes.opening_bracket, specs.PlacedReading.split_key, specs.Scalars.scalar_content}
-use Rattle.yq_core.{specs.Trees.{placed_tree, tree_of, items_tree}, specs.View.borrowed_view}
+-- Reading (own; a reader may skip it): heads that the text lends.
+use Rattle.std.specs.Prelude.{◌≡◌, ◌≤◌, ℕ, Bool, ◌||◌, List, Some, ℤ}
+use Rattle.yq_core.{specs.Inline.depth_limit, specs.Nodes.begins_with, specs.Trees.placed_tree, specs.View.borrowed_view}
 use Rattle.yq_core.specs.declared.borrowed.BorrowedNode.{BorrowedNode}
-use Rattle.yq_documents.{specs.FlowReading.head_flow_at, specs.Reading.{is_fit, has_fit_keys, each_has_fit_keys}}
-use Rattle.yq_documents.specs.RowReading.{read_head}
-
--- A node that the text lends is in front, with at most d collections nested; its keys are fit, and no mapping has one twice (own).
-pub record IsPassedNode (d : ℕ) (t rest : List ℕ) : Type 0 where
-  pub node : FlowNode
-  pub stands : t ≡ node_text node rest
-  pub valid : IsFlowNode true (Some 0) d node rest
-  pub borrowed : borrows_node node ≡ true
-  pub unique : has_unique_keys (tree_of node) ≡ true
-  pub fit : has_fit_keys node ≡ true
-
--- The same of one that is something (own).
-pub record IsPassedContent (d : ℕ) (t rest : List ℕ) : Type 0 where
-  pub passed : IsPassedNode d t rest
-  pub some : is_empty_node passed.node ≡ false
-
--- The same of a collection by its closing bracket, after the opening one (own).
-pub record IsPassedCollection (k d : ℕ) (t rest : List ℕ) : Type 0 where
-  pub passed : IsPassedNode d (opening_bracket k ∷ t) rest
-  pub gap : List ℕ
-  pub items : Items
-  pub is : passed.node ≡ coll k gap items
-
--- The same of items or entries with these keys, and of their closing bracket (own).
-pub record ArePassedParts (d k : ℕ) (keys : List (List ℕ)) (t rest : List ℕ) : Type 0 where
-  pub items : Items
-  pub stand : t ≡ flow_items_text k items rest
-  pub valid : AreFlowItems d k items rest
-  pub borrowed : borrows_items items ≡ true
-  pub unique : each_has_unique_keys (items_tree items) ≡ true
-  pub fit : each_has_fit_keys items ≡ true
-  pub keys_are : keys_of (items_tree items) ≡ keys
-
--- The same of entries whose keys differ (own).
-pub record AreApartEntries (d : ℕ) (t rest : List ℕ) : Type 0 where
-  pub keys : List (List ℕ)
-  pub passed : ArePassedParts d 125 keys t rest
-  pub apart : are_distinct keys ≡ true
-
--- A fit key that the text lends is in front; after its `:` and a gap is that rest (own).
-pub record IsPassedKey (content t rest : List ℕ) : Type 0 where
-  pub key : List ℕ
-  pub read : split_key t ≡ Some (key, rest)
-  pub borrowed : borrows_text key ≡ true
-  pub fit : is_fit key ≡ true
-  pub means : content ≡ scalar_content key
-
--- A collection that the text lends is in front (own).
-pub record IsPassedHead (d : ℕ) (t rest : List ℕ) : Type 0 where
-  pub close : ℕ
-  pub after : List ℕ
-  pub stands : t ≡ opening_bracket close ∷ after
-  pub collection : IsPassedCollection close d after rest
+use Rattle.yq_inline.specs.Passed.{IsPassedHead}
+use Rattle.yq_documents.{specs.FlowReading.head_flow_at, specs.RowReading.read_head}
 
 -- a sequence or mapping in flow style begins so (own)
 abbrev pub opens_collection : List ℕ → Bool
@@ -69,3 +13,7 @@ opens_collection t = begins_with 91 t || begins_with 123 t
 pub record IsBorrowedHead (whole head t : List ℕ) (b : BorrowedNode) : Type 0 where
   pub view : (n : ℤ) → read_head whole n head t ≡ Some (Some (placed_tree (borrowed_view b)))
   pub flow : (n : ℤ) → Some (borrowed_view b) ≡ head_flow_at whole n head t
+
+-- the collection in front is passed, with at most so many collections nested (own)
+abbrev pub PassesHead : ℕ → List ℕ → Type 0
+PassesHead d t = (d ≤ depth_limit) × ((rest : List ℕ) × IsPassedHead d t rest)

@@ -1,12 +1,12 @@
 -- Reading (own; a reader may skip it): what is made of the rows of a text.
 use Rattle.std.specs.Prelude.{◌≡◌, ℕ, List, [], ◌∷◌, length, slice_get, Option, Some, None, String, option_and_then, option_map}
 use Rattle.std.{specs.Prelude.string_bytes, specs.declared.alloc.Global.Global}
-use Rattle.yq_core.specs.Scalars.{scalar_content}
+use Rattle.yq_core.{specs.Scalars.scalar_content, specs.Borrowed.borrowed_text}
 use Rattle.yq_outline.specs.Lines.{head_of}
 use Rattle.yq_row_table.{specs.Exchange.behind_row, specs.Grammar.IsCut, specs.Rows.Row, specs.View.{rows_of, slices, RowsView, rows_view}}
 use Rattle.yq_documents.specs.FlowReading.{row_flow}
-use Rattle.yq_documents.specs.Decoded.{IsDecoded, Rise, borrowed_head, borrowed_text, decoded_or, decoded_view, decoded_head_flow}
-use Rattle.yq_documents.{specs.Reading.cut_of, specs.declared.decoded.Decoded.Decoded, specs.declared.decoded.DecodedHead.DecodedHead}
+use Rattle.yq_documents.{specs.Decoded.{IsDecoded, Rise, borrowed_head, decoded_or, decoded_view, decoded_head_flow}, specs.Reading.cut_of}
+use Rattle.yq_documents.{specs.declared.decoded.Decoded.Decoded, specs.declared.decoded.DecodedHead.DecodedHead}
 
 -- A text has a cut, and these are its pieces (own).
 pub record IsCutInto (t : List ℕ) (s : RowsView) : Type 0 where

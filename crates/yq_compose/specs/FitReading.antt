@@ -1,5 +1,5 @@
 -- Reading (own; a reader may skip it: the grammar is what is believed, and the clauses `found` and `only` tie the two): what is asked of rows, by their pieces.
-use Rattle.std.{specs.Prelude.{Bool, ◌||◌, ◌&&◌, not, List, ℕ, codes}, specs.Str.bytes_eq}
+use Rattle.std.specs.Prelude.{Bool, ◌||◌, ◌&&◌, not, List, ℕ}
 use Rattle.yq_core.{specs.Plain.holds_break, specs.Text.is_empty, specs.Nodes.begins_with, specs.Scalars.is_quoted}
 use Rattle.yq_row_table.specs.View.{Slices}
 use Rattle.yq_documents.specs.RowReading.{is_block_head}
@@ -15,7 +15,3 @@ has_break s = holds_break s.anchor || (holds_break s.apart || holds_break s.head
 -- the row is a plain scalar of several lines alone (own)
 abbrev pub is_multiline_plain : Slices → Bool
 is_multiline_plain s = is_empty s.dashes && (is_empty s.colon && (is_plain_head s.head && has_break s))
-
--- a key as it is written, if there is one, is no plain `<<` (own)
-abbrev pub key_fits : List ℕ → Bool
-key_fits key = not (bytes_eq key (codes "<<"))

@@ -7,6 +7,5 @@ pub mod Checking
 pub mod Borrowing
 pub mod Named
 pub mod Flows
-pub mod Keys
 pub mod Decoding
 pub mod Places

@@ -1,72 +1,26 @@
 //! What rows spell, made where their text doesn't lend it.
-ghost use Rattle.std.specs.List.{list_any};
-ghost use Rattle.std.specs.Prelude.{◌≡◌, ◌<◌, ◌++◌, ◌==◌, if◌then◌else◌, false, length, option_and_then, option_map, string_bytes, true};
-ghost use Rattle.std.specs.Prelude.{IfErr, IfOk, IfSome, IsTrue, List, ℕ};
-ghost use Rattle.yq_core.{specs.Answers.IsOfText, specs.Text.front, specs.Borrowed.borrows_text as is_borrowed_text};
-ghost use Rattle.yq_core.{specs.Quoted.IsQuotedText, specs.Runs.is_word_byte, specs.Scalars.is_quoted as is_in_quotes};
+ghost use Rattle.std.specs.Prelude.{◌≡◌, ◌<◌, ◌++◌, length, option_and_then, option_map, string_bytes, true, IfErr, IfOk, IfSome, IsTrue};
+ghost use Rattle.std.specs.Prelude.{List, ℕ};
+ghost use Rattle.yq_core.{specs.Answers.IsOfText, specs.Text.front, specs.Quoted.IsQuotedText, specs.Runs.is_word_byte};
+ghost use Rattle.yq_core.specs.Scalars.{is_quoted as is_in_quotes};
 ghost use Rattle.yq_documents.specs.Decoded.{IsDecodedBy, decoded_view, decoded_head_flow};
 ghost use Rattle.yq_documents.{specs.Reading.{content_is_fit, cut_of, mark_is_fit}, specs.RowReading.row_fits};
+ghost use Rattle.yq_row_table.{specs.View.slices, specs.WordRows.KnowsHead};
 ghost use Rattle.yq_compose.{specs.Deciding.Decides, specs.Decoding.{IsCutInto, IsHeadDecoded, IsKeyDecoded, OfRow}};
 ghost use Rattle.yq_compose.specs.Checking as spec;
 
 use crate::borrowing::borrow_head;
-use crate::fit::key_fits;
-use crate::keys::Keys;
 use crate::nested::{Flow, flow_decoded};
 use std::alloc::Global;
 use yq_core::fault_place::fault_at;
-use yq_core::{FaultKind, ReadError, Run, first_is, is_quoted, run_len, strip};
-use yq_documents::{Decoded, DecodedHead, borrowed_text, node_refers};
+use yq_core::{FaultKind, ReadError, Run, is_quoted, run_len, strip};
+use yq_documents::{Decoded, DecodedHead, node_refers};
+use yq_inline::Keys;
+use yq_inline::borrows::{borrows_text, key_fits};
 use yq_row_heads::read_head;
-use yq_row_table::Rows;
+use yq_row_table::{Other, Rows};
 use yq_row_walk::head_place;
 use yq_scalar_reader::folding::quoted_content;
-use yq_scalar_reader::plain::holds_break;
-use yq_scalar_reader::quoted_line::is_quoted_line;
-
-/// Whether a backslash is in what is between double quotes, or a quote between single ones.
-fn holds_escape(is_double: bool, inner: &str) -> bool
-    ensures { result ≡ list_any (λ b. b == (if is_double then 92 else 39)) inner.now }
-{
-    let sign = if is_double { b'\\' } else { b'\'' };
-    inner.as_bytes().iter().any(|b| *b == sign)
-}
-
-/// Whether a backslash is what the bytes that mean themselves between double quotes end before.
-fn stops_at_slash(inner: &[u8]) -> bool
-    ensures { IsTrue result → list_any (λ b. b == 92) inner.now ≡ true }
-{
-    first_is(b'\\', inner.split_at(run_len(Run::Quoted(b'"'), inner)).1)
-}
-
-/// Whether a scalar is in double quotes, and has an escape before its first break.
-fn begins_escaped(piece: &str) -> bool
-    requires { is_in_quotes piece.now ≡ true → IsQuotedText piece.now }
-    ensures { IsTrue result → is_borrowed_text piece.now ≡ false }
-{
-    first_is(b'"', piece.as_bytes()) && stops_at_slash(borrowed_text(piece).as_bytes())
-}
-
-/// Whether the text lends what a key or scalar means: it is on one line, and has no escapes.
-pub(crate) fn borrows_text(piece: &str) -> bool
-    requires { is_in_quotes piece.now ≡ true → IsQuotedText piece.now }
-    ensures { result ≡ is_borrowed_text piece.now }
-{
-    if is_quoted_line(piece.as_bytes()) {
-        return true;
-    }
-    if begins_escaped(piece) {
-        return false;
-    }
-    if holds_break(piece) {
-        return false;
-    }
-    if !is_quoted(piece.as_bytes()) {
-        return true;
-    }
-    let is_double = first_is(b'"', piece.as_bytes());
-    !holds_escape(is_double, borrowed_text(piece))
-}
 
 /// Whether an alias, a flow collection or a block scalar begins so.
 fn begins_tree(head: &[u8]) -> bool
@@ -130,20 +84,22 @@ fn decode_key<'t>(
     Ok(Some(quoted_content(alloc, key)?))
 }
 
-/// The head of row `i` that its text doesn't lend, where its keys are fit.
+/// The head of another row that its text doesn't lend, where its keys are fit.
 fn decode_head<'t>(
     alloc: Global,
     keys: &mut Keys<'t>,
     text: &'t str,
     rows: &Rows<'t>,
-    i: usize,
+    other: Other,
 ) -> Result<Option<DecodedHead<'t>>, ReadError>
     requires cut { IsCutInto text.now rows.now }
-    requires within { i < length rows.now.rows }
-    ensures fits { OfRow text.now i (λ r. Decides result (content_is_fit r.content)) }
-    ensures agrees { OfRow text.now i (λ r. IfOk result (λ h. IsHeadDecoded text.now i h r)) }
+    requires within { other.row < length rows.now.rows }
+    requires known { OfRow text.now other.row (λ r. KnowsHead other.depth (slices r).head) }
+    ensures fits { OfRow text.now other.row (λ r. Decides result (content_is_fit r.content)) }
+    ensures agrees { OfRow text.now other.row (λ r. IfOk result (λ h. IsHeadDecoded text.now other.row h r)) }
     ensures fault { IfErr result IsOfText }
 {
+    let i = other.row;
     if !rows.has_head(i) {
         return Ok(None);
     }
@@ -159,7 +115,7 @@ fn decode_head<'t>(
         return Ok(Some(DecodedHead::Alias(name, start)));
     }
     let behind = text.split_at(start).1;
-    if let Some(node) = borrow_head(keys, text, head, behind) {
+    if let Some(node) = borrow_head(keys, other.depth, text, head, behind) {
         return Ok(Some(DecodedHead::Borrowed(node)));
     }
     let parent = rows.parent_indent(i);
@@ -189,29 +145,30 @@ fn decoded_row<'t>(
     Some(Decoded { row: i, key, head })
 }
 
-/// What is made of row `i`, where its keys are fit; nothing where its text lends all it spells.
+/// What is made of a row, where its keys are fit; nothing where its text lends all it spells.
 #[inline(always)]
 pub(crate) fn decoded_of<'t>(
     alloc: Global,
     keys: &mut Keys<'t>,
     text: &'t str,
     rows: &Rows<'t>,
-    i: usize,
+    other: Other,
 ) -> Result<Option<Decoded<'t>>, ReadError>
     requires cut { IsCutInto text.now rows.now }
-    requires within { i < length rows.now.rows }
-    ensures fits { OfRow text.now i (λ r. Decides result (row_fits r)) }
-    ensures agrees { OfRow text.now i (λ r.
-        IfOk result (λ m. IsDecodedBy (length text.now) (cut_of text.now) m i r)) }
-    ensures row { IfOk result (λ m. IfSome m (λ x. x.row ≡ i)) }
+    requires within { other.row < length rows.now.rows }
+    requires known { OfRow text.now other.row (λ r. KnowsHead other.depth (slices r).head) }
+    ensures fits { OfRow text.now other.row (λ r. Decides result (row_fits r)) }
+    ensures agrees { OfRow text.now other.row (λ r.
+        IfOk result (λ m. IsDecodedBy (length text.now) (cut_of text.now) m other.row r)) }
+    ensures row { IfOk result (λ m. IfSome m (λ x. x.row ≡ other.row)) }
     ensures fault { IfErr result IsOfText }
 {
-    let key = match decode_key(alloc, text, rows, i) {
+    let key = match decode_key(alloc, text, rows, other.row) {
         Ok(key) => key,
         Err(e) => return Err(e),
     };
-    match decode_head(alloc, keys, text, rows, i) {
-        Ok(head) => Ok(decoded_row(i, key, head)),
+    match decode_head(alloc, keys, text, rows, other) {
+        Ok(head) => Ok(decoded_row(other.row, key, head)),
         Err(e) => Err(e),
     }
 }

@@ -12,12 +12,12 @@ use crate::bound::unbound_alias;
 use crate::checked::{Checked, row_fault};
 use crate::document_names::names_of;
 use crate::fit::has_short_root;
-use crate::keys::Keys;
 use crate::reached::with_level;
 use crate::sound::check_lines;
 use std::alloc::Global;
 use yq_core::fault_place::fault_at;
 use yq_core::{DEPTH_LIMIT, FaultKind, ReadError};
+use yq_inline::Keys;
 use yq_outline::Position;
 
 /// The aliases of a document: an earlier anchor of its name for each. Whether there are some is known.

@@ -35,13 +35,6 @@ fn is_long(row: &Row<'_>) -> bool
     row.dashes().is_empty() && (row.colon().is_empty() && (is_plain(row.head()) && has_break(row)))
 }
 
-/// Whether a key as it is written, if there is one, is no plain `<<`.
-pub(crate) fn key_fits(key: &str) -> bool
-    ensures { result ≡ spec.key_fits key.now }
-{
-    key != "<<"
-}
-
 /// Whether the first row of a document, if there is one, is no plain scalar of several lines alone.
 pub(crate) fn has_short_root(rows: &Rows<'_>, document: Stretch) -> bool
     requires { HasRows rows.now document }

@@ -6,12 +6,12 @@ ghost use Rattle.yq_compose.{specs.Deciding.Decides, specs.Flows.flow_view};
 ghost use Rattle.yq_outline.specs.Sound.{head_is_sound};
 ghost use Rattle.yq_outline.specs.Sound as spec;
 
-use crate::keys::Keys;
 use crate::nested::Flow;
 use std::alloc::{AllocError, Global};
 use std::collections::BTreeMap;
 use yq_core::fault_place::fault_at;
 use yq_core::{BorrowedNode, FaultKind, Form, Inline, Piece, ReadError};
+use yq_inline::Keys;
 use yq_inline::reading::read_node;
 use yq_scalar_reader::are_distinct;
 

@@ -6,11 +6,11 @@ ghost use Rattle.yq_documents.specs.Reading.{cut_of, have_fit_keys};
 ghost use Rattle.yq_compose.{specs.Deciding.Decides, specs.Decoding.{AreDecoded, IsCutInto, list_of_option}};
 
 use crate::decoding::decoded_of;
-use crate::keys::Keys;
 use std::alloc::{AllocError, Global};
 use yq_core::ReadError;
 use yq_documents::Decoded;
-use yq_row_table::Rows;
+use yq_inline::Keys;
+use yq_row_table::{Other, Rows};
 
 /// Adds what is made of one more row, if anything is.
 #[inline(always)]
@@ -34,7 +34,7 @@ fn decode_others<'t>(
     alloc: Global,
     text: &'t str,
     rows: &Rows<'t>,
-    others: &[usize],
+    others: &[Other],
 ) -> Result<Vec<Decoded<'t>>, ReadError>
     requires cut { IsCutInto text.now rows.now }
     requires others { AreOtherRows rows.now.rows 0 others.now }
@@ -45,8 +45,8 @@ fn decode_others<'t>(
     let mut decoded = Vec::with_capacity(alloc, others.len())?;
     let mut keys = Keys::new(alloc);
     let mut left = others;
-    'rows: while let [row, behind @ ..] = left {
-        let found = match decoded_of(alloc, &mut keys, text, rows, *row) {
+    'rows: while let [other, behind @ ..] = left {
+        let found = match decoded_of(alloc, &mut keys, text, rows, *other) {
             Ok(found) => found,
             Err(e) => return Err(e),
         };
@@ -72,7 +72,8 @@ fn decode_each<'t>(
     let mut keys = Keys::new(alloc);
     let mut at = 0;
     'rows: while at < rows.len() {
-        let row = match decoded_of(alloc, &mut keys, text, rows, at) {
+        let other = Other { row: at, depth: 0 };
+        let row = match decoded_of(alloc, &mut keys, text, rows, other) {
             Ok(row) => row,
             Err(e) => return Err(e),
         };

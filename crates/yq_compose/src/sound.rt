@@ -3,17 +3,17 @@ ghost use Rattle.std.specs.Prelude.{◌≡◌, ◌≢◌, ◌+◌, ◌++◌, ◌
 ghost use Rattle.yq_core.{specs.Answers.IsOfText, specs.declared.fault.FaultKind.TheVariants.NotUtf8, specs.Text.with_first};
 ghost use Rattle.yq_outline.{specs.Ends.{part, has_no_lines}, specs.RowWalk.{IsLine, IsPosition, OfLine, OfLines}};
 ghost use Rattle.yq_compose.{specs.Checking.{IsChecked, IsReached, OfChecked, OfCheckedLine, GivesEnd, GivesStop}, specs.Deciding.Decides};
-ghost use Rattle.yq_compose.specs.Keys.{key_texts};
+ghost use Rattle.yq_inline.specs.KeyTexts.{key_texts};
 ghost use Rattle.yq_outline.specs.Outline as outline;
 ghost use Rattle.yq_outline.specs.Sound as spec;
 
 use crate::checked::{Checked, line_key, row_fault};
-use crate::keys::{Keys, take_distinct};
 use crate::nested::head_fault;
 use crate::reached::{Reached, is_bare, is_deeper, key_at, line_behind};
 use std::alloc::{AllocError, Global};
 use std::collections::BTreeMap;
 use yq_core::{FaultKind, ReadError};
+use yq_inline::{Keys, take_distinct};
 use yq_outline::Position;
 use yq_row_walk::{behind, has_head, is_deeper as is_line_deeper};
 

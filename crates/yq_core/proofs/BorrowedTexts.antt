@@ -1,9 +1,10 @@
 -- Keys and scalars that a text lends mean what is written, without its quotes.
 use Rattle.std.proofs.Common.{◌≡◌, ℕ, zero, suc, ◌-◌, eqb, Bool, true, false, cond, ◌||◌, List, [], ◌∷◌, drop, take, length, refl, sym, ap}
-use Rattle.std.{proofs.Common.{◌∙◌, rules}, proofs.lemmas.Bool.{cond-true, or_parts}, specs.List.list_any}
-use Rattle.yq_core.{specs.Borrowed.{borrows_text, holds_escape}, specs.ContentReading.quoted_content, specs.Plain.holds_break}
-use Rattle.yq_core.{specs.Quoted.IsQuotedText, specs.Scalar.{plain_of, string_of}, specs.Scalars.{is_quoted, scalar_content, scalar_of}}
-use Rattle.yq_core.{specs.Text.is_feed, proofs.OneLine.{kept, one_line, borrowed_quoted}}
+use Rattle.std.{proofs.Common.{◌∙◌, rules}, proofs.lemmas.Bool.{cond-false, cond-true, or_parts}, specs.List.list_any}
+use Rattle.yq_core.{specs.Borrowed.{borrowed_text, borrows_text, holds_escape}, specs.ContentReading.quoted_content}
+use Rattle.yq_core.{specs.Plain.holds_break, specs.Quoted.IsQuotedText, specs.Scalar.{plain_of, string_of}}
+use Rattle.yq_core.{specs.Scalars.{is_quoted, scalar_content, scalar_of}, specs.Text.is_feed}
+use Rattle.yq_core.proofs.OneLine.{kept, one_line, borrowed_quoted}
 
 pub any_drop : (f : ℕ → Bool) (n : ℕ) (t : List ℕ) → list_any f t ≡ false → list_any f (drop n t) ≡ false
 any_drop f zero t e = e
@@ -46,3 +47,14 @@ quoted_scalar t inner quoted q e is = rw quoted (ap string_of (is ∙ inner_mean
 pub plain_scalar : (t : List ℕ) → is_quoted t ≡ false → borrows_text t ≡ true → plain_of t ≡ scalar_of t
 unfolding scalar_of
 plain_scalar t quoted e = rw quoted (ap plain_of (sym (one_line t (borrows_parts t e).0)))
+
+-- what is borrowed of them is what they mean
+pub borrows_key : (t : List ℕ) → (is_quoted t ≡ true → IsQuotedText t) → borrows_text t ≡ true → borrowed_text t ≡ scalar_content t
+borrows_key t q e = go (is_quoted t) refl
+  where
+    inner : List ℕ
+    inner = take (length t - 2) (drop 1 t)
+
+    go : (quoted : Bool) → is_quoted t ≡ quoted → borrowed_text t ≡ scalar_content t
+    go true quoted = cond-true (is_quoted t) inner t quoted ∙ quoted_means t inner quoted (q quoted) e refl
+    go false quoted = cond-false (is_quoted t) inner t quoted ∙ plain_means t quoted e

@@ -1,5 +1,7 @@
 pub mod Across
 pub mod BorrowedLaws
+pub mod DistinctKeys
+pub mod ShortKeys
 pub mod TextChars
 pub mod PlainRuns
 pub mod Prefixes

@@ -91,3 +91,9 @@ mutual
       let h = sep_ends k s (flow_items_text k is u) sep in
       let node = node_keeps k n d false old new c e h (keeps_alike (Some true) false (node_text n []) old new like) x.2 in
       (key_keeps k d false key n old new c e h (keeps_alike (Some true) false (key_text key (node_text n [])) old new like) x.2 node x.0, x.1, node, sep, items_any is d k t u c x.4)
+
+-- a collection is read alike whatever follows it
+pub coll_any : (k : ℕ) (g : List ℕ) (is : Items) (flow : Bool) (spaces : Option ℕ) (d : ℕ) (t u : List ℕ) → IsFlowNode true (Some 0) d (coll k g is) t → IsFlowNode flow spaces d (coll k g is) u
+unfolding IsFlowNode
+coll_any k g is flow spaces zero t u h = absurd h.2
+coll_any k g is flow spaces (suc d) t u h = (h.0, gap_alike (Some true) g (flow_items_text k is t) (flow_items_text k is u) (items_text_alike k is t u h.0) h.1, items_any is d k t u h.0 h.2)

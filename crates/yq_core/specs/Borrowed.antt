@@ -1,11 +1,11 @@
 -- Nodes of flow collections of which a text lends each key and scalar (own).
-use Rattle.std.specs.Prelude.{◌≡◌, ℕ, ◌-◌, ◌==◌, Bool, true, false, ◌&&◌, not, List, take, drop, length, Option, Some, None, if◌then◌else◌}
-use Rattle.std.specs.List.{list_any}
+use Rattle.std.specs.Prelude.{◌≡◌, ℕ, ◌-◌, ◌==◌, Bool, true, false, ◌&&◌, not, List, [], take, drop, length, Option, Some, None}
+use Rattle.std.{specs.Prelude.if◌then◌else◌, specs.List.list_any}
 use Rattle.yq_core.{specs.Plain.holds_break, specs.Scalars.is_quoted, specs.Keys.{has_unique_keys, each_has_unique_keys}}
 use Rattle.yq_core.specs.Nodes.{Key, bare, keyed, FlowNode, empty, alias, scalar, coll, anchored, Items, none, item, begins_with, node_text}
 use Rattle.yq_core.specs.Nodes.{flow_items_text, IsFlowNode, AreFlowItems}
 use Rattle.yq_core.{specs.Places.{Placed, placed, nothing, Parts, end, locate, locate_items}, specs.Reading.{all_node, all_items}}
-use Rattle.yq_core.specs.Trees.{tree_of, items_tree}
+use Rattle.yq_core.{specs.FitKeys.each_has_fit_keys, specs.Trees.{tree_of, items_tree}}
 
 -- a backslash in double quotes, or a quote in single ones, comes after the first byte and before the last (own)
 abbrev pub holds_escape : List ℕ → Bool
@@ -14,6 +14,10 @@ holds_escape t = if is_quoted t then list_any (λ b. b == (if begins_with 34 t t
 -- the text lends what a key or scalar means: it is on one line, and has no escapes (own)
 abbrev pub borrows_text : List ℕ → Bool
 borrows_text t = not (holds_break t) && not (holds_escape t)
+
+-- a text as it is written, without its quotes (own)
+abbrev pub borrowed_text : List ℕ → List ℕ
+borrowed_text t = if is_quoted t then take (length t - 2) (drop 1 t) else t
 
 -- the text lends a key, if there is one (own)
 abbrev pub borrows_key : Key → Bool
@@ -69,6 +73,17 @@ borrows_all (Some x) = borrows_items x.0 && each_has_unique_keys (items_tree x.0
 -- whether such items or entries with their closing bracket are in front (own)
 unfoldable pub are_borrowed : ℕ → ℕ → List ℕ → Bool
 are_borrowed d k t = borrows_all (all_items d k t)
+
+-- A text is a flow collection with at most d collections nested, which it lends; its keys are fit, and no mapping has one twice (own).
+pub record IsWholeCollection (d : ℕ) (t : List ℕ) : Type 0 where
+  pub close : ℕ
+  pub gap : List ℕ
+  pub items : Items
+  pub spelled : t ≡ node_text (coll close gap items) []
+  pub valid : IsFlowNode true (Some 0) d (coll close gap items) []
+  pub borrowed : borrows_items items ≡ true
+  pub unique : has_unique_keys (tree_of (coll close gap items)) ≡ true
+  pub fit : each_has_fit_keys items ≡ true
 
 -- a node that is read, with its places in a text so long (own)
 abbrev pub located_or_nothing : ℕ → Option (FlowNode × List ℕ) → Placed

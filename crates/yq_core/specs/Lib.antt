@@ -51,3 +51,4 @@ pub mod Spans
 pub mod FaultPlace
 pub mod Strings
 pub mod OneReading
+pub mod FitKeys

@@ -169,3 +169,6 @@ impl<'n, 't> Entry<'n, 't> {
 
 /// How many collections may be nested.
 pub const DEPTH_LIMIT: usize = 64;
+
+/// How many characters a key may have, and how many its `:` may come after its first one.
+pub const KEY_LIMIT: usize = 1024;

@@ -1,11 +1,10 @@
 -- What is asked of a document, as a test and as a fact.
 use Rattle.std.{proofs.Common.{◌≡◌, List, [], ◌∷◌, true, ◌&&◌, refl, rules}, proofs.lemmas.Bool.{and_parts, and_from, le-leb, not-true}}
-use Rattle.yq_core.specs.Nodes.{Items, none, item}
+use Rattle.yq_core.{specs.Nodes.{Items, none, item}, specs.FitKeys.{has_fit_key, has_fit_keys, each_has_fit_keys}}
+use Rattle.yq_core.proofs.DistinctKeys.{differ, differs}
 use Rattle.yq_row_table.specs.Rows.{Content, Inline, Row}
 use Rattle.yq_documents.specs.Documents.{HasFitKey, HasFitKeys, EachHasFitKeys, ContentHasFitKeys, MarkIsFit, HaveFitKeys, HasShortRoot}
-use Rattle.yq_documents.specs.Reading.{has_fit_key, has_fit_keys, each_has_fit_keys, content_is_fit, mark_is_fit, have_fit_keys}
-use Rattle.yq_documents.specs.Reading.{has_short_root}
-use Rattle.yq_outline.proofs.KeyLaws.{differ, differs}
+use Rattle.yq_documents.specs.Reading.{content_is_fit, mark_is_fit, have_fit_keys, has_short_root}
 use Rattle.yq_core.specs.Nodes as inline
 use Rattle.yq_row_table.specs.Rows as rows
 

@@ -7,7 +7,7 @@ use Rattle.yq_core.specs.Nodes.{Key, bare, keyed, Sep, last, comma, FlowNode, em
 use Rattle.yq_core.specs.Nodes.{key_text, sep_text, node_text, flow_items_text, opening_bracket}
 use Rattle.yq_core.specs.Places.{Placed, placed, sequence, mapping, Parts, holder, key_placed, anchored_node, locate, locate_items}
 use Rattle.yq_core.{proofs.NodesWrittenLaws.node_then, specs.Spans.{HasSpans, PartsHaveSpans}}
-use Rattle.yq_documents.specs.Reading.{has_fit_key, has_fit_keys, each_has_fit_keys}
+use Rattle.yq_core.specs.FitKeys.{has_fit_key, has_fit_keys, each_has_fit_keys}
 use Rattle.yq_documents.specs.KeyReading.{EndsIn, key_place_fits, node_fits, form_fits, parts_fit}
 
 pub past : (whole a t : List ℕ) → EndsIn whole (a ++ t) → EndsIn whole t

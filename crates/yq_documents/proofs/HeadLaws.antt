@@ -11,9 +11,9 @@ use Rattle.yq_core.specs.Places.{placed, Parts, holder, locate, locate_items}
 use Rattle.yq_core.specs.Scalars.{IsScalarAt, is_quoted, scalar_content, scalar_of}
 use Rattle.yq_core.{specs.Trees.{scalar_node, placed_tree, tree_of, node_head}, proofs.NodeAgain.{is_anchored, takes_unanchored}}
 use Rattle.yq_core.{proofs.InlineLaws.inline_again, proofs.NodesPieceLaws.{front_not, scalar_begins, scalar_some}}
-use Rattle.yq_core.{proofs.TreeLaws.node_tree, proofs.NodesWrittenLaws.node_then, proofs.OneLine.one_line}
+use Rattle.yq_core.{proofs.TreeLaws.node_tree, proofs.NodesWrittenLaws.node_then, proofs.OneLine.one_line, specs.FitKeys.has_fit_keys}
 use Rattle.yq_row_table.{specs.Grammar.IsContent, specs.Rows.{Content, Block}, specs.View.{anchor_cut, content_cut}}
-use Rattle.yq_documents.{specs.KeyReading.EndsIn, specs.Reading.{has_fit_keys, content_is_fit}}
+use Rattle.yq_documents.{specs.KeyReading.EndsIn, specs.Reading.content_is_fit}
 use Rattle.yq_documents.specs.RowReading.{placed_head, is_short_plain, is_block_head, string_head, block_head_at, fit_head, node_head_at}
 use Rattle.yq_documents.{specs.RowReading.read_head, proofs.FlowKeyLaws.keys_there}
 use Rattle.yq_outline.specs.Lines.{head_of}

@@ -1,8 +1,9 @@
 -- Reading (own; a reader may skip it): what rows spell, as it is borrowed, or made where the text doesn't lend it.
-use Rattle.std.specs.Prelude.{◌≡◌, ℕ, suc, ◌+◌, ◌-◌, ◌≤◌, ◌==◌, List, [], ◌∷◌, drop, length, take, Option, Some, None, option_and_then}
-use Rattle.std.specs.Prelude.{option_map, string_bytes, if◌then◌else◌, ⊤}
-use Rattle.yq_core.{specs.Scalar.plain_of, specs.Text.is_empty, specs.Tree.Node, specs.Places.{Placed, placed, name}}
-use Rattle.yq_core.{specs.Scalars.{is_quoted, scalar_content}, specs.Trees.{placed_tree, scalar_node}, specs.View.borrowed_view}
+use Rattle.std.specs.Prelude.{◌≡◌, ℕ, suc, ◌+◌, ◌≤◌, ◌==◌, List, [], ◌∷◌, length, Option, Some, None, option_and_then, option_map}
+use Rattle.std.specs.Prelude.{string_bytes, if◌then◌else◌, ⊤}
+use Rattle.yq_core.{specs.Borrowed.borrowed_text, specs.Scalar.plain_of, specs.Text.is_empty, specs.Tree.Node}
+use Rattle.yq_core.{specs.Places.{Placed, placed, name}, specs.Scalars.{is_quoted, scalar_content}, specs.Trees.{placed_tree, scalar_node}}
+use Rattle.yq_core.specs.View.{borrowed_view}
 use Rattle.yq_outline.{specs.View.{head_flow, head_view}, specs.Lines.head_of}
 use Rattle.yq_row_table.{specs.Exchange.behind_row, specs.Rows.{Row, Cut}, specs.View.slices}
 use Rattle.yq_documents.{specs.FlowReading.row_flow, specs.RowReading.string_head, specs.declared.decoded.Decoded.Decoded}
@@ -17,10 +18,6 @@ decoded_at i (m ∷ ms) = if i == m.row then Some m else decoded_at i ms
 abbrev pub Rise : ℕ → List Decoded → Type 0
 Rise n [] = ⊤
 Rise n (m ∷ ms) = (n ≤ m.row) × Rise (suc m.row) ms
-
--- a text as it is written, without its quotes (own)
-abbrev pub borrowed_text : List ℕ → List ℕ
-borrowed_text t = if is_quoted t then take (length t - 2) (drop 1 t) else t
 
 -- what a head spells that is borrowed as it is written (own)
 abbrev pub borrowed_head : List ℕ → Option Node

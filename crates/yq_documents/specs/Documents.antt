@@ -2,10 +2,10 @@
 use Rattle.std.specs.Prelude.{◌≡◌, ◌≢◌, ℕ, ◌≤◌, List, [], ◌∷◌, Bool, true, false, ◌||◌, ◌&&◌, not, codes, length, ⊤}
 use Rattle.std.specs.Str.{is_utf8, chars}
 use Rattle.yq_core.{specs.Plain.holds_break, specs.Tree.Node, specs.Keys.{HasUniqueKeys, depth}, specs.Nodes.{Items, none, item}}
-use Rattle.yq_core.{specs.Inline.depth_limit, specs.Anchors.{names_of, AreBound}}
+use Rattle.yq_core.{specs.Inline.depth_limit, specs.Anchors.{names_of, AreBound}, specs.FitKeys.key_limit}
 use Rattle.yq_outline.{specs.Comments.head_comment, specs.LineAnchors.HaveOneAnchorEach, specs.Grammar.IsNodeOutline}
 use Rattle.yq_outline.{specs.Lines.lines_of_rows, specs.Outline.{Line, null_node}}
-use Rattle.yq_row_table.specs.Grammar.{IsCut, is_plain_content, no_rows, begins_document, key_limit}
+use Rattle.yq_row_table.specs.Grammar.{IsCut, is_plain_content, no_rows, begins_document}
 use Rattle.yq_row_table.{specs.Rows.{Content, Nothing, Inline, Block, Row, Part, Cut, last, marked}, specs.Splices.first_gap}
 use Rattle.yq_core.specs.Nodes as inline
 use Rattle.yq_row_table.specs.Rows as rows

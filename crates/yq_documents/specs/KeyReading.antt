@@ -1,8 +1,7 @@
 -- Reading (own; a reader may skip it: the grammar is what is believed, and the clauses `found` and `only` tie the two): the keys in flow collections, by their places.
 use Rattle.std.specs.Prelude.{◌≡◌, ◌++◌, ◌-◌, Bool, true, ◌&&◌, List, ℕ, take, drop, Option, Some, None}
 use Rattle.yq_core.specs.declared.piece.Piece.{Piece}
-use Rattle.yq_core.specs.Places.{Placed, placed, CoreNode, nothing, name, text, sequence, mapping, Parts, end, part}
-use Rattle.yq_documents.specs.Reading.{is_fit}
+use Rattle.yq_core.{specs.Places.{Placed, placed, CoreNode, nothing, name, text, sequence, mapping, Parts, end, part}, specs.FitKeys.is_fit}
 
 -- the key that is from here to there is fit (own)
 abbrev pub place_fits : List ℕ → Piece → Bool

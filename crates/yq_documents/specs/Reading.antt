@@ -1,12 +1,12 @@
 -- Reading (own; a reader may skip it: the grammar is what is believed, and the clauses `found` and `only` tie the two): bytes read as documents.
-use Rattle.std.specs.Prelude.{ℕ, nat_le, List, [], ◌∷◌, length, map, Bool, true, not, ◌&&◌, codes, Option, Some, None, if◌then◌else◌}
-use Rattle.std.{specs.List.list_all, specs.Str.{bytes_eq, chars, is_utf8}}
-use Rattle.yq_core.{specs.Answers.◌>>=◌, specs.Tree.Node, specs.Nodes.{Items, none, item}, specs.Inline.depth_limit, specs.Anchors.names_of}
-use Rattle.yq_row_table.{specs.Grammar.key_limit, specs.Reading.scan_at, specs.Rows.{Content, Nothing, Inline, Block, Row, Part, Cut, last}}
+use Rattle.std.{specs.Prelude.{ℕ, List, [], ◌∷◌, map, Bool, true, not, ◌&&◌, Option, Some, None, if◌then◌else◌}, specs.List.list_all}
+use Rattle.std.specs.Str.{is_utf8}
+use Rattle.yq_core.{specs.Answers.◌>>=◌, specs.Tree.Node, specs.Inline.depth_limit, specs.Anchors.names_of}
+use Rattle.yq_core.specs.FitKeys.{has_fit_keys, key_fits}
+use Rattle.yq_row_table.{specs.Reading.scan_at, specs.Rows.{Content, Nothing, Inline, Block, Row, Part, Cut, last}}
 use Rattle.yq_documents.specs.Documents.{Document, document_parts, lead_of, is_long_plain}
 use Rattle.yq_outline.{specs.Group.group, specs.Lines.lines_of_rows, specs.LinesReading.{have_one_anchor_each, are_bound}}
 use Rattle.yq_outline.{specs.Outline.{Outline, value}, specs.Sound.is_sound_outline}
-use Rattle.yq_core.specs.Nodes as inline
 use Rattle.yq_row_table.specs.Rows as rows
 
 -- the outline of a part
@@ -21,29 +21,6 @@ root_of p = value (part_outline p)
 abbrev pub part_document : Part → Document
 part_document p = record { lead = lead_of p; root = root_of p }
 
--- whether a key as it is written is fit
-abbrev pub is_fit : List ℕ → Bool
-is_fit key = not (bytes_eq key (codes "<<")) && nat_le (length (chars key)) key_limit
-
--- whether the key of an entry is fit
-abbrev pub has_fit_key : inline.Key → Bool
-has_fit_key inline.bare = true
-has_fit_key (inline.keyed text before gap) = is_fit text
-
-abbrev mutual
-  -- whether each key of an inline node is fit
-  pub has_fit_keys : inline.FlowNode → Bool
-  has_fit_keys inline.empty = true
-  has_fit_keys (inline.alias name) = true
-  has_fit_keys (inline.scalar p) = true
-  has_fit_keys (inline.coll close gap items) = each_has_fit_keys items
-  has_fit_keys (inline.anchored name gap node) = has_fit_keys node
-
-  -- the same of each item or entry
-  pub each_has_fit_keys : Items → Bool
-  each_has_fit_keys none = true
-  each_has_fit_keys (item key node sep items) = has_fit_key key && (has_fit_keys node && each_has_fit_keys items)
-
 -- whether each key in a row's content is fit
 abbrev pub content_is_fit : Content → Bool
 content_is_fit (Nothing tail) = true
@@ -54,7 +31,7 @@ content_is_fit (Block space anchor block) = true
 abbrev pub mark_is_fit : rows.RowMark → Bool
 mark_is_fit rows.Bare = true
 mark_is_fit rows.Dash = true
-mark_is_fit (rows.Key key colon) = not (bytes_eq key (codes "<<"))
+mark_is_fit (rows.Key key colon) = key_fits key
 
 -- whether each key in rows is fit
 abbrev pub have_fit_keys : List Row → Bool

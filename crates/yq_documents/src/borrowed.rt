@@ -4,19 +4,7 @@ ghost use Rattle.yq_core.{specs.Scalars.is_quoted, specs.Quoted.IsQuotedText};
 ghost use Rattle.yq_documents.specs.Decoded as spec;
 
 use crate::decoded::Decoded;
-use yq_core::{between_quotes, is_quoted};
-
-/// A text as it is written, without its quotes.
-pub fn borrowed_text(piece: &str) -> &str
-    requires { is_quoted piece.now ≡ true → IsQuotedText piece.now }
-    ensures { result.now ≡ spec.borrowed_text piece.now }
-{
-    if is_quoted(piece.as_bytes()) {
-        between_quotes(piece)
-    } else {
-        piece
-    }
-}
+use yq_core::borrowed_text;
 
 /// The text of a row's key, by what is made of the row and by its key as it is written.
 pub fn decoded_key<'d>(decoded: Option<&'d Decoded<'_>>, piece: &'d str) -> &'d str

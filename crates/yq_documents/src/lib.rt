@@ -11,7 +11,7 @@ mod parts;
 mod path;
 mod references;
 
-pub use borrowed::{borrowed_text, decoded_key};
+pub use borrowed::decoded_key;
 pub use comment::{Comments, comment_text, is_comment, last_run};
 pub use decoded::{Decoded, DecodedHead};
 pub use documents::{DocumentRows, Documents};

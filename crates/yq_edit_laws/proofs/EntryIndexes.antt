@@ -6,8 +6,7 @@ use Rattle.yq_core.{specs.declared.inline.Inline.Inline, specs.declared.inline.F
 use Rattle.yq_core.{specs.Keys.{AreDistinct, HasUniqueKeys, keys_of}, specs.Entries.{PlacedEntry, flow_part_at, tree_step}}
 use Rattle.yq_core.{specs.Paths.{Step, Nth, To, further}, specs.Tree.Children, specs.Places.{CoreNode, mapping, placed}}
 use Rattle.yq_core.specs.Trees.{content_tree, parts_tree, placed_tree, with_anchor_name}
-use Rattle.yq_core.specs.View.{anchor_name, entries_end, form_view, inline_view, items_end}
-use Rattle.yq_outline.proofs.KeyLaws.{differs}
+use Rattle.yq_core.{specs.View.{anchor_name, entries_end, form_view, inline_view, items_end}, proofs.DistinctKeys.differs}
 use Rattle.yq_edit_laws.specs.NearParts.{Field, HasKeyAt, HaveDistinctKeys, LeadsToPart}
 use Rattle.yq_core.specs.declared.path.Step as declared
 use Rattle.yq_core.specs.Tree as tree

@@ -7,7 +7,8 @@ use Rattle.yq_core.specs.Keys.{AreDistinct, keys_of, HasUniqueKeys, EachHasUniqu
 use Rattle.yq_core.specs.Paths.{Step, is_here, further, append_child, changed_at, child_at, node_at, within}
 use Rattle.yq_core.{specs.Tree.{Label, Node, Children, none, child, children_of, anchor_of}, specs.Inline.depth_limit}
 use Rattle.yq_core.{specs.Anchors.{Name, anchor_names, names_of, names_in, IsAmong}, specs.Text.with_first}
-use Rattle.yq_outline.{specs.Outline.anchored, proofs.KeyLaws.{differs, distinct_is, is_distinct}, proofs.SoundLaws.depth-anchored}
+use Rattle.yq_core.proofs.DistinctKeys.{differs, distinct_is, is_distinct}
+use Rattle.yq_outline.{specs.Outline.anchored, proofs.SoundLaws.depth-anchored}
 use Rattle.yq_edit_rules.specs.Conditions.{aliases_in, AreSpared}
 use Rattle.yq_edit_rules.specs.SoundRoots.{IsSoundRoot, IsNewKey, inner_names, ReplaceKeeps, AppendKeeps}
 use Rattle.yq_edit_rules.proofs.BoundLaws.{bound_changed, anchor_front}

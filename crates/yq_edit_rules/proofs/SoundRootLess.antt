@@ -7,7 +7,7 @@ use Rattle.yq_core.specs.Keys.{AreDistinct, keys_of, HasUniqueKeys, EachHasUniqu
 use Rattle.yq_core.specs.Paths.{Step, is_here, further, child_at, relabel_child, remove_child, within}
 use Rattle.yq_core.specs.Tree.{Label, Node, alias, scalar, list, map, Children, none, child, children_of}
 use Rattle.yq_core.{specs.Anchors.{Name, anchor_names, names_of, names_in}, specs.Text.with_first}
-use Rattle.yq_outline.proofs.KeyLaws.{distinct_is, is_distinct}
+use Rattle.yq_core.proofs.DistinctKeys.{distinct_is, is_distinct}
 use Rattle.yq_edit_rules.{specs.SoundRoots.{RemoveKeeps, RelabelKeeps}, proofs.BoundLaws.anchor_front}
 use Rattle.yq_edit_rules.{proofs.TreeLaws.{max_least, max_left, max_right}, proofs.SoundRootLaws.{unique_at, depth_at, sound, same_names}}
 

@@ -3,11 +3,11 @@ use Rattle.std.specs.Prelude.{◌≡◌, ℕ, ◌<◌, ◌≤◌, ℤ, Option, S
 use Rattle.std.specs.Str.{IsUtf8, chars}
 use Rattle.yq_core.{specs.declared.style.Place.TheVariants.{Block, FlowKey}, specs.BlockWritten.break_text, specs.Characters.is_text}
 use Rattle.yq_core.{specs.Piece.deeper, specs.Plain.ends_plain, specs.Scalar.string_of, specs.Inline.IsInline}
-use Rattle.yq_core.{specs.NodesWritten.scalar_text, specs.Trees.{node_anchor, node_head}}
+use Rattle.yq_core.{specs.NodesWritten.scalar_text, specs.Trees.{node_anchor, node_head}, specs.FitKeys.key_limit}
 use Rattle.yq_text.specs.Limit.{text_limit}
 use Rattle.yq_flow_edits.specs.Valued.{IsValueTree}
 use Rattle.yq_outline.{specs.Comments.line_comment, specs.LineAnchors.HaveOneAnchorEach, specs.Lines.lines_of_rows, specs.Outline.Stands}
-use Rattle.yq_row_table.{specs.Exchange.asked_behind, specs.Grammar.{is_more, Limit, allows, AreRows, key_limit}, specs.Rows.rows_text}
+use Rattle.yq_row_table.{specs.Exchange.asked_behind, specs.Grammar.{is_more, Limit, allows, AreRows}, specs.Rows.rows_text}
 use Rattle.yq_documents.specs.Documents.{HasFitKeys, HaveFitKeys, ReadsDocuments}
 use Rattle.yq_edit_rules.{specs.declared.layout.Layout.Layout, specs.BlockRows.{inline_of, column_below, node_rows}}
 use Rattle.yq_edit_rules.specs.BlockText.{block_value}

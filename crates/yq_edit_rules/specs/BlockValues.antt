@@ -1,8 +1,9 @@
 -- What is asked of a value and of its place, so that it can be written in block style.
 use Rattle.std.{specs.Prelude.{◌≡◌, ℕ, suc, ◌+◌, ◌*◌, ◌≤◌, List, ◌++◌, true, false, Option, Some, None, ⊤, length}, specs.Str.chars}
 use Rattle.yq_core.{specs.Keys.{HasUniqueKeys, depth}, specs.Plain.ends_plain, specs.Tree.Children, specs.Inline.depth_limit}
+use Rattle.yq_core.specs.FitKeys.{key_limit}
 use Rattle.yq_flow_edits.specs.Valued.{IsValueTree}
-use Rattle.yq_row_table.specs.Grammar.{IsTail, key_limit}
+use Rattle.yq_row_table.specs.Grammar.{IsTail}
 use Rattle.yq_edit_rules.specs.BlockRows.{block_key}
 use Rattle.yq_core.specs.Tree as tree
 

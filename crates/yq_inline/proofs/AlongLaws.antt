@@ -11,7 +11,7 @@ use Rattle.yq_inline.{specs.Measured.closing_byte, specs.declared.in_front.Parts
 use Rattle.yq_inline.specs.Neighbours.{IsCollectionOf, IsFirstInFront, IsStepPart, IsPassed, PartTexts, PartsAround, around_part}
 use Rattle.yq_inline.specs.Neighbours.{coll_around, coll_end, coll_read, first_ends, first_read, first_text, from_read, last_ends}
 use Rattle.yq_inline.specs.Neighbours.{last_read, rest_from, passed_view, past_last, past_passed}
-use Rattle.yq_inline.{specs.declared.passing.PassedPart.PassedPart, proofs.FirstParts.behind_is}
+use Rattle.yq_inline.{specs.declared.passing.FoundPart.FoundPart, specs.declared.passing.PassedPart.PassedPart, proofs.FirstParts.behind_is}
 use denote.Bor.{Bor}
 
 -- ---- steps
@@ -123,22 +123,22 @@ module _ (s : Step) (w : CollPieces) (x : Bor (List ℕ) × PartsInFront) (h : I
   pub no_node : (o : Option (FlowNode × List ℕ)) → coll_read [] o ≡ Some w → from_read s None x.1 ≡ None → one_in s o ≡ None
   no_node o there absent = node_is o there ∙ ap (λ c. option_map node_and_rest (c >>= first_item k)) absent
 
-  module _ (y : Option PassedPart × PartsInFront × Bor (List ℕ)) (f : IsStepPart s x.1 y) where
-    pub node_found : (o : Option (FlowNode × List ℕ)) → coll_read [] o ≡ Some w → all_node true (Some 0) y.1.depth y.2.now ≡ one_in s o
+  module _ (y : FoundPart) (f : IsStepPart s x.1 y) where
+    pub node_found : (o : Option (FlowNode × List ℕ)) → coll_read [] o ≡ Some w → all_node true (Some 0) y.parts.depth y.node.now ≡ one_in s o
     node_found o there =
         f.first.read
-        ∙ ((λ i. Some (f.first.node, (behind_is y.1 y.2.now f.first ∙ ap (λ (b : Bool). sep_text f.first.sep (flow_items_text (closing_byte b) f.first.items f.first.rest)) f.keyed) i))
+        ∙ ((λ i. Some (f.first.node, (behind_is y.parts y.node.now f.first ∙ ap (λ (b : Bool). sep_text f.first.sep (flow_items_text (closing_byte b) f.first.items f.first.rest)) f.keyed) i))
         ∙ sym (node_is o there ∙ ap (λ c. option_map node_and_rest (c >>= first_item k)) f.found))
 
     -- what is next to it
-    pub around_found : (z : PassedPart × PartsInFront) → IsPassed y.1 y.2.now f.first z → (next : Option (List ℕ)) → next ≡ first_read z.1 →
-        Some (record { before = option_map passed_view y.0; here = passed_view z.0; next = next }) ≡ coll_around s w
+    pub around_found : (z : PassedPart × PartsInFront) → IsPassed y.parts y.node.now f.first z → (next : Option (List ℕ)) → next ≡ first_read z.1 →
+        Some (record { before = option_map passed_view y.before; here = passed_view z.0; next = next }) ≡ coll_around s w
     around_found z p next is =
-        let from : from_read s None x.1 ≡ Some (option_map passed_view y.0, item f.first.key f.first.node f.first.sep f.first.items, f.first.rest) = f.found in
+        let from : from_read s None x.1 ≡ Some (option_map passed_view y.before, item f.first.key f.first.node f.first.sep f.first.items, f.first.rest) = f.found in
         let others : first_read z.1 ≡ first_text k f.first.items f.first.rest =
         ap (λ (o : Option (Items × List ℕ)). o >>= λ v. first_text (closing_byte z.1.keyed) v.0 v.1) p.others ∙ ap (λ (b : Bool). first_text (closing_byte b) f.first.items f.first.rest) (p.keyed ∙ f.keyed) in
         let here = p.ends ∙ ap (λ (b : Bool). first_ends (closing_byte b) f.first.key f.first.node f.first.sep f.first.items f.first.rest) f.keyed in
-        (λ i. Some (record { before = option_map passed_view y.0; here = here i; next = (is ∙ others) i })) ∙ sym (around_is ∙ ap (λ c. c >>= first_around k) from)
+        (λ i. Some (record { before = option_map passed_view y.before; here = here i; next = (is ∙ others) i })) ∙ sym (around_is ∙ ap (λ c. c >>= first_around k) from)
 
 -- ---- the end of a collection
 

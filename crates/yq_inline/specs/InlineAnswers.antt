@@ -5,6 +5,7 @@ use Rattle.yq_core.{specs.Answers.{Gives, ReadsAs, ReadError}, specs.Places.{Cor
 use Rattle.yq_core.{specs.PlacedReading.then_anchored, specs.View.{entries_end, form_view, inline_view, items_end}}
 use Rattle.yq_core.{specs.declared.inline.Form.Form, specs.declared.inline.Inline.Inline, specs.declared.piece.Piece.Piece}
 use Rattle.yq_inline.{specs.Measured.{measured, measured_view, past_node}, specs.declared.measuring.Measured.Measured}
+use Rattle.yq_inline.specs.declared.heads.MeasuredHead.{MeasuredHead}
 
 -- the answer is the node that reading gives and what comes after it, unless memory ran out
 abbrev pub GivesNode : Result (Inline × Bor (List ℕ)) ReadError → Option (Placed × List ℕ) → Type 0
@@ -49,6 +50,10 @@ GivesAnchored whole text name gap node rest r = GivesNode r (then_anchored (leng
 -- the answer is what is known of the node that reading gives, and what comes after it
 abbrev pub MeasuresNode : {E : Type 0} → Result Measured E → Option (Placed × List ℕ) → Type 0
 MeasuresNode r read = ReadsAs measured_view r (measured read)
+
+-- the same of a node outside flow collections
+abbrev pub MeasuresHead : {E : Type 0} → Result MeasuredHead E → Option (Placed × List ℕ) → Type 0
+MeasuresHead r read = ReadsAs (λ x. measured_view x.node) r (measured read)
 
 -- the answer is what comes after the node that reading gives
 abbrev pub PassesNode : {A E : Type 0} → Result (Bor (List ℕ)) E → Option (A × List ℕ) → Type 0

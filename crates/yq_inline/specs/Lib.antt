@@ -17,3 +17,5 @@ pub mod BorrowedForms
 pub mod InlineAnswers
 pub mod Along
 pub mod Neighbours
+pub mod KeyTexts
+pub mod Passed

@@ -6,8 +6,9 @@ use Rattle.yq_core.specs.Nodes.{FlowNode, Items, Key, Sep, flow_items_text, item
 use Rattle.yq_core.{specs.Reading.{all_items, all_node, sep_at}, specs.Quoted.IsQuotedText, specs.Scalars.{is_quoted, scalar_content}}
 use Rattle.yq_core.{specs.Tree.key_label, specs.Trees.key_content}
 use Rattle.yq_inline.{specs.Along.{front_read, parts_read}, specs.Measured.closing_byte, specs.declared.in_front.NodeInFront.NodeInFront}
-use Rattle.yq_inline.{specs.declared.in_front.PartsInFront.PartsInFront, specs.declared.passing.PassedPart.PassedPart}
-use Rattle.yq_inline.{specs.declared.neighbours.CollectionEnd.CollectionEnd, specs.declared.neighbours.Neighbours.Neighbours}
+use Rattle.yq_inline.{specs.declared.in_front.PartsInFront.PartsInFront, specs.declared.passing.FoundPart.FoundPart}
+use Rattle.yq_inline.{specs.declared.passing.PassedPart.PassedPart, specs.declared.neighbours.CollectionEnd.CollectionEnd}
+use Rattle.yq_inline.specs.declared.neighbours.Neighbours.{Neighbours}
 use denote.Bor.{Bor}
 
 -- ---- what items and entries are next to each other
@@ -141,13 +142,13 @@ abbrev pub from_read : Step → Option PartTexts → PartsInFront → Option (Op
 from_read s o p = parts_read p >>= λ x. rest_from (closing_byte p.keyed) s o x.0 x.1
 
 -- A step leads to the first one of others, of which one is before these, if any, and whose node begins this text.
-pub record IsStepPart (s : Step) (p : PartsInFront) (x : Option PassedPart × PartsInFront × Bor (List ℕ)) : Type 0 where
-  pub keyed : x.1.keyed ≡ p.keyed
-  pub first : IsFirstInFront x.1 x.2.now
-  pub found : from_read s None p ≡ Some (option_map passed_view x.0, item first.key first.node first.sep first.items, first.rest)
+pub record IsStepPart (s : Step) (p : PartsInFront) (x : FoundPart) : Type 0 where
+  pub keyed : x.parts.keyed ≡ p.keyed
+  pub first : IsFirstInFront x.parts x.node.now
+  pub found : from_read s None p ≡ Some (option_map passed_view x.before, item first.key first.node first.sep first.items, first.rest)
 
 -- what the code finds is where a step leads; nothing, where it leads to none
-abbrev pub FindsStep : Step → PartsInFront → Option (Option PassedPart × PartsInFront × Bor (List ℕ)) → Type 0
+abbrev pub FindsStep : Step → PartsInFront → Option FoundPart → Type 0
 FindsStep s p None = from_read s None p ≡ None
 FindsStep s p (Some x) = IsStepPart s p x
 

@@ -24,14 +24,14 @@ fn part_along<'t>(node: NodeInFront<'t>, step: &Step) -> Option<NodeInFront<'t>>
     let Some((_, parts)) = parts_in_front(node) else {
         return None;
     };
-    let Some((_, from, text)) = find_part(parts, step) else {
+    let Some(found) = find_part(parts, step) else {
         return None;
     };
     Some(NodeInFront {
         flow: true,
         spaces: Some(0),
-        depth: from.depth,
-        text,
+        depth: found.parts.depth,
+        text: found.node,
     })
 }
 

@@ -79,10 +79,14 @@ pub fn part_neighbours<'t>(
     let Some((_, parts)) = collection_along(node, steps) else {
         return None;
     };
-    let Some((before, from, text)) = find_part(parts, last) else {
+    let Some(found) = find_part(parts, last) else {
         return None;
     };
-    let (here, others) = pass(from, text);
+    let (here, others) = pass(found.parts, found.node);
     let next = first_text(others);
-    Some(Neighbours { before, here, next })
+    Some(Neighbours {
+        before: found.before,
+        here,
+        next,
+    })
 }

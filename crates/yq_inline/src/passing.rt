@@ -22,6 +22,17 @@ pub struct PassedPart<'t> {
     pub rest: &'t str,
 }
 
+/// The place among items or entries to which a step leads.
+#[derive(Clone, Copy)]
+pub(crate) struct FoundPart<'t> {
+    /// The item or entry before it.
+    pub(crate) before: Option<PassedPart<'t>>,
+    /// Those from it on.
+    pub(crate) parts: PartsInFront<'t>,
+    /// The text from its node on.
+    pub(crate) node: &'t str,
+}
+
 /// Whether no item or entry is in front.
 fn are_none(parts: PartsInFront<'_>) -> bool
     ensures { result ≡ begins_with (closing_byte parts.entry.keyed) parts.entry.text.now }
@@ -132,11 +143,8 @@ fn is_here(step: &Step, left: usize, key: Option<&str>) -> bool
     }
 }
 
-/// Where a step leads among items or entries: the one before that place, those from it on, and the text from its node on.
-pub(crate) fn find_part<'t>(
-    parts: PartsInFront<'t>,
-    step: &Step,
-) -> Option<(Option<PassedPart<'t>>, PartsInFront<'t>, &'t str)>
+/// Where a step leads among items or entries.
+pub(crate) fn find_part<'t>(parts: PartsInFront<'t>, step: &Step) -> Option<FoundPart<'t>>
     ensures { spec.FindsStep (tree_step step.now) parts.entry result }
 {
     let mut rest = parts;
@@ -145,7 +153,11 @@ pub(crate) fn find_part<'t>(
     'each: while !are_none(rest) {
         let (key, node) = key_in_front(rest);
         if is_here(step, left, key) {
-            return Some((before, rest, node));
+            return Some(FoundPart {
+                before,
+                parts: rest,
+                node,
+            });
         }
         let (passed, others) = pass(rest, node);
         left = left.saturating_sub(1);

@@ -4,10 +4,11 @@ use Rattle.std.proofs.Common.{None, bytes_eq, refl, sym, ap, ◌∙◌, subst, a
 use Rattle.std.proofs.lemmas.Bool.{and_parts, or_parts, not-true, ltb-true, eqb-true, le-leb, cond-false, false≢true}
 use Rattle.std.{proofs.lemmas.Option.{same_Some, none-some}, specs.List.{slice_get, list_any}}
 use Rattle.yq_core.{specs.Keys.{keys_of, are_distinct}, specs.Paths.{To, is_here}, specs.Text.with_first}
+use Rattle.yq_core.proofs.DistinctKeys.{differ, differs}
 use Rattle.yq_outline.{specs.Ends.{part, has_no_lines, IsEndOf}, specs.Group.{deeper_lines, shallow, group}}
 use Rattle.yq_outline.{specs.Outline.{LineMark, Bare, Line, level, Outline, end, row, children, key_of, label}, specs.Places.find_row}
 use Rattle.yq_outline.{specs.Sound.{is_sound_outline, is_entry_line}, specs.Positions.position}
-use Rattle.yq_outline.{proofs.EndsLaws.{deeper_line, not_end, row_parts}, proofs.KeyLaws.{differ, differs}, proofs.NameLaws.part-all}
+use Rattle.yq_outline.{proofs.EndsLaws.{deeper_line, not_end, row_parts}, proofs.NameLaws.part-all}
 use Rattle.yq_outline.proofs.SoundLaws.{asked, keys_with, IsEntryLevel, asked_line, entry_level, sound_entries, too_deep, sound_bare}
 
 -- An outline is that of a node, or the rest of a collection's.

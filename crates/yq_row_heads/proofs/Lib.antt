@@ -1,2 +1,1 @@
-pub mod ShortKeys
 pub mod HeadCases

@@ -1,18 +1,16 @@
 //! The keys in flow collections, as they are written.
 ghost use Rattle.std.{specs.Prelude.{◌≡◌, ◌≢◌, is_none, length, nat_le, IfSome}, specs.Str.chars};
 ghost use Rattle.yq_core.{specs.Spans.{HasSpans, IsSpan, PartsHaveSpans}, specs.View.{entries_end, items_end, inline_view as node_view}};
-ghost use Rattle.yq_core.specs.declared.fault.FaultKind.TheVariants.{NotUtf8};
-ghost use Rattle.yq_row_table.specs.Grammar.{key_limit};
+ghost use Rattle.yq_core.{specs.declared.fault.FaultKind.TheVariants.NotUtf8, specs.FitKeys.key_limit};
 ghost use Rattle.yq_documents.specs.KeyReading as spec;
 
 use yq_core::characters::char_count;
 use yq_core::fault_place::fault_at;
-use yq_core::{FaultKind, Form, Inline, Piece, ReadFault};
-use yq_row_table::KEY_LIMIT;
+use yq_core::{FaultKind, Form, Inline, KEY_LIMIT, Piece, ReadFault};
 
 /// Whether a key is as short as it has to be. Characters are counted where there are more bytes than
 /// that.
-#[tactic(auto, using(crate::proofs::ShortKeys::short_by_bytes))]
+#[tactic(auto, using(yq_core::proofs::ShortKeys::short_by_bytes))]
 fn is_short(key: &str) -> bool
     ensures { result ≡ nat_le (length (chars key.now)) key_limit }
 {

@@ -6,9 +6,8 @@ use Rattle.std.{proofs.lemmas.List.take-append-drop, proofs.Math.Seq.{take-appen
 use Rattle.std.specs.Str.{chars}
 use Rattle.yq_core.{specs.Text.{cut, no_white, ends_line, separates, is_empty, cut_line}, proofs.Bools.bind_some, proofs.Upto.upto-append}
 use Rattle.yq_core.{specs.Lines.is_hash, specs.Reading.read_scalar, specs.Scalars.IsScalarAt}
-use Rattle.yq_core.proofs.NodesPieceLaws.{scalar_takes, scalar_again}
-use Rattle.yq_row_table.{specs.Gap.IsWhite, specs.Grammar.{IsColon, IsKey, IsTail, key_limit}}
-use Rattle.yq_row_table.specs.Reading.{read_colon, read_row_key, read_tail}
+use Rattle.yq_core.{proofs.NodesPieceLaws.{scalar_takes, scalar_again}, specs.FitKeys.key_limit}
+use Rattle.yq_row_table.{specs.Gap.IsWhite, specs.Grammar.{IsColon, IsKey, IsTail}, specs.Reading.{read_colon, read_row_key, read_tail}}
 use Rattle.yq_row_table.proofs.LineEnds.{none_in_white, white_cut, white_again, line_end_takes, line_end_behind, line_end_line, line_again}
 
 -- the `:` of a key

@@ -2,7 +2,7 @@
 use Rattle.std.specs.Prelude.{◌≡◌, ℕ, ◌+◌, ◌≤◌, ℤ, Bool, true, false, nat_lt, ◌==◌, ◌&&◌, ◌||◌, not, List, [], ◌∷◌, ◌++◌, length, drop}
 use Rattle.std.{specs.Prelude.{Option, Some, None, if◌then◌else◌}, specs.Str.chars}
 use Rattle.yq_core.{specs.declared.style.Place.TheVariants.Block, specs.Block.{IsBlock, block_text}, specs.Characters.is_text}
-use Rattle.yq_core.{specs.Piece.deeper, specs.Text.{is_empty, separates, front, is_marker}, specs.Inline.IsInline}
+use Rattle.yq_core.{specs.FitKeys.key_limit, specs.Piece.deeper, specs.Text.{is_empty, separates, front, is_marker}, specs.Inline.IsInline}
 use Rattle.yq_core.specs.Nodes.{FlowNode, empty, alias, scalar, coll, anchored, is_empty_node, IsName}
 use Rattle.yq_core.specs.Scalars.{IsScalarAt, is_quoted}
 use Rattle.yq_text.specs.Limit.{text_limit}
@@ -17,10 +17,6 @@ pub record IsColon (p rest : List ℕ) : Type 0 where
   pub spelled : p ≡ white ++ 58 ∷ []
   pub blank : IsWhite white
   pub separated : separates rest ≡ true
-
--- how many characters a key's `:` may come after the key's first one (YAML 1.2.2, section 8.2.2)
-abbrev pub key_limit : ℕ
-key_limit = 1024
 
 -- A key and its `:`, before a rest: a plain or quoted scalar on one line, and the `:` not too far after its beginning (YAML 1.2.2, section 8.2.2).
 pub record IsKey (key colon rest : List ℕ) : Type 0 where

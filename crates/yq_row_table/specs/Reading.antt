@@ -5,9 +5,9 @@ use Rattle.yq_core.{specs.Answers.◌>>=◌, specs.BlockReading.block_at, specs.
 use Rattle.yq_core.specs.Text.{cut, upto, front, is_empty, unless, no_space, no_white, past_white, ends_line, separates, is_marker}
 use Rattle.yq_core.{specs.Text.{line_len, cut_line}, specs.Lines.is_hash, specs.Inline.depth_limit}
 use Rattle.yq_core.{specs.Nodes.{begins_with, in_name, begins_node}, specs.Reading.{read_scalar, name_at, all_node}}
+use Rattle.yq_core.specs.FitKeys.{key_limit}
 use Rattle.yq_text.specs.Limit.{text_limit}
-use Rattle.yq_row_table.specs.Grammar.{is_entry, may_be_alone, Limit, unlimited, allows, limit_after, key_limit, no_rows, begins_document}
-use Rattle.yq_row_table.specs.Grammar.{ends_part}
+use Rattle.yq_row_table.specs.Grammar.{is_entry, may_be_alone, Limit, unlimited, allows, limit_after, no_rows, begins_document, ends_part}
 use Rattle.yq_row_table.specs.Rows.{RowMark, Bare, Dash, Key, Anchor, Content, Nothing, Inline, Block, Row, behind_columns, parent_of, Part}
 use Rattle.yq_row_table.specs.Rows.{Cut, last, marked}
 

@@ -2,9 +2,6 @@
 ghost use Rattle.std.specs.Prelude.{◌≡◌, ◌≤◌, ◌==◌};
 ghost use Rattle.yq_row_table.specs.Rows as rows;
 
-/// How many characters a key may have, and how many its `:` may come after its first one.
-pub const KEY_LIMIT: usize = 1024;
-
 /// One column less, from -1 on.
 pub fn before_column(column: usize) -> i64
     requires { column ≤ 8589934591 }

@@ -11,10 +11,10 @@ mod row;
 mod row_pieces;
 mod rows;
 
-pub use bounds::{KEY_LIMIT, before_column};
+pub use bounds::before_column;
 pub use ends::{Bound, EndPlace, Measure, Shift, end_of};
 pub use offsets::Offsets;
 pub use part_ends::PartEnds;
 pub use places::Places;
 pub use row::Row;
-pub use rows::{Rows, begins_document};
+pub use rows::{Other, Rows, begins_document};

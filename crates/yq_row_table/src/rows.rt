@@ -16,6 +16,16 @@ use crate::row::Row;
 use std::marker::Model;
 use yq_text::Halves;
 
+/// A row that is no word row.
+#[derive(Clone, Copy)]
+pub struct Other {
+    /// Its number, counted from 0.
+    pub row: usize,
+    /// How many collections are nested at most in its head, where this is known to be a flow collection that
+    /// the text lends; else 0.
+    pub depth: usize,
+}
+
 /// The rows of a text in two halves, and the gaps and markers that belong to no row. A row is kept by
 /// where it is in one of the halves, and made anew each time.
 #[derive(Drop)]
@@ -23,7 +33,7 @@ pub struct Rows<'t> {
     pub(crate) text: Halves<'t>,
     pub(crate) places: Places,
     /// The rows that are no word rows, in order, where they are known.
-    pub(crate) others: Option<Vec<usize>>,
+    pub(crate) others: Option<Vec<Other>>,
 }
 
 impl<'t> Model for Rows<'t> {
@@ -48,7 +58,7 @@ impl<'t> Rows<'t> {
     }
 
     /// The same where it is known which of them are no word rows.
-    pub fn with_others(text: Halves<'t>, places: Places, others: Vec<usize>) -> Rows<'t>
+    pub fn with_others(text: Halves<'t>, places: Places, others: Vec<Other>) -> Rows<'t>
         requires places { HavePlaces text places }
         requires others { AreOtherRows (halves_view text places).rows 0 others.items }
         ensures { result ≡ halves_view text.entry places }
@@ -62,7 +72,7 @@ impl<'t> Rows<'t> {
 
     /// The rows that are no word rows, in order, if they are known: the text of each other one lends what
     /// it spells.
-    pub fn others(&self) -> Option<&[usize]>
+    pub fn others(&self) -> Option<&[Other]>
         ensures { IfSome result (λ ns. AreOtherRows self.now.rows 0 ns.now) }
     {
         match &self.others {

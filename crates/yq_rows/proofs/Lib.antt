@@ -26,3 +26,4 @@ pub mod DoneLaws
 pub mod DropLaws
 pub mod WordRows
 pub mod QuotedFronts
+pub mod KnownHeads

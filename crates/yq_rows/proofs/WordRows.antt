@@ -7,8 +7,8 @@ use Rattle.yq_core.{specs.Text.{cut, front, is_empty, is_space, is_white, no_spa
 use Rattle.yq_core.{specs.Plain.{begins_deep, ends_plain, ends_text, holds_break}, specs.PlainReading.across, specs.Answers.more}
 use Rattle.yq_core.{specs.Runs.{is_word_byte, run_goes_on}, specs.declared.runs.Run.TheVariants.Plain, specs.Reading.read_scalar}
 use Rattle.yq_core.{proofs.Across.{across_here, across_line, go_run, plain_colon, plain_stop, spaces_white}, proofs.Bools.at_byte}
-use Rattle.yq_core.{proofs.PlainRuns.run_behind, proofs.SpaceLaws.prefix_drop}
-use Rattle.yq_row_table.{specs.Grammar.{is_entry, key_limit}, specs.Rows.{Dash, Key, parent_of}}
+use Rattle.yq_core.{proofs.PlainRuns.run_behind, proofs.SpaceLaws.prefix_drop, specs.FitKeys.key_limit}
+use Rattle.yq_row_table.{specs.Grammar.is_entry, specs.Rows.{Dash, Key, parent_of}}
 use Rattle.yq_row_table.specs.Slicing.{Begun, Filled, begun, filled_at, marked_sliced, row_of}
 use Rattle.yq_row_table.specs.Reading.{begins_entry, holds_colon, is_colon, is_dash, key_mark, read_marks, read_row_key, undashed}
 use Rattle.yq_row_table.{proofs.KeyLines.no_key_line, proofs.MarkAgain.scalar_no_dash, proofs.MarkLaws.{dash_is, marks_dash, marks_none}}

@@ -7,15 +7,16 @@ use Rattle.yq_core.specs.Scalars.{begins_scalar}
 use Rattle.yq_row_table.{specs.Grammar.allows, specs.Items.{Item, items_text, view_of_items}, specs.Kept.{kept_rows, rows_placed}}
 use Rattle.yq_row_table.{specs.Meter.{begins_line, count_after, line_count}, specs.Offsets.{offsets_of, rows_in, slices_in}}
 use Rattle.yq_row_table.{specs.Reading.{begins_block, read_row_key}, specs.Regions.{IsReadAlone, region_items}, specs.Rows.{Part, RowMark}}
-use Rattle.yq_row_table.specs.Slicing.{SlicedRow, begins_other, inline_sliced, marked_sliced, row_of, rows_sliced}
-use Rattle.yq_row_table.specs.WordRows.{AreOtherRows, is_word_head, is_word_key, is_word_row}
+use Rattle.yq_row_table.specs.Slicing.{SlicedRow, begins_other, inline_sliced, marked_sliced, row_of, row_sliced, rows_sliced}
+use Rattle.yq_row_table.specs.WordRows.{AreOtherRows, KnowsHead, is_word_head, is_word_key, is_word_row}
 use Rattle.yq_row_table.{specs.View.{RowsView, Slices, colon_of, key_of_mark}, specs.declared.offsets.Offsets.Offsets}
 use Rattle.yq_row_table.specs.declared.places.Places.{Places}
 use Rattle.yq_text.specs.TextGapBuffer.{TextGapView, buffer_text}
 use Rattle.yq_rows.{specs.Exchanging.TextChange, specs.Following.{CountsWritten, Follows, exchanged}}
 use Rattle.yq_rows.{specs.ReadPieces.{begin_view, filling_view, limit_view, read_slices}, specs.Sides.both_sides}
 use Rattle.yq_rows.{specs.declared.content.Filling.Filling, specs.declared.kept.Kept.Kept, specs.declared.marks.Begin.Begin}
-use Rattle.yq_rows.{specs.declared.sides.Side.Side, specs.declared.touched.Touched.Touched}
+use Rattle.yq_rows.{specs.declared.sides.Side.Side, specs.declared.touched.Touched.Touched, specs.declared.reading.Notes.Notes}
+use Rattle.yq_rows.specs.declared.reading.RowFront.{RowFront}
 use Rattle.yq_rows.specs.declared.limit.Limit as asked
 
 -- ---- rows
@@ -28,17 +29,41 @@ ReadsMarked column b r = (gap : List ℕ) → Gives (λ f. row_of gap column (be
 abbrev pub may_be_at : asked.Limit → ℕ → List ℕ → Bool
 may_be_at limit column text = allows (limit_view limit) column && not (column == 0 && is_marker text)
 
+-- a row, what it asks of the next one, what comes after it, whether it is a word row for sure, and how deep its head is known to be
+abbrev pub RowRead : Type 0
+RowRead = Offsets × asked.Limit × Bor (List ℕ) × Bool × ℕ
+
 -- the answer is the row that reading gives, what it asks of the next one, and what comes after it
-abbrev pub GivesRow : List ℕ → Result (Offsets × asked.Limit × Bor (List ℕ) × Bool) ReadError → Option SlicedRow → Type 0
+abbrev pub GivesRow : List ℕ → Result RowRead ReadError → Option SlicedRow → Type 0
 GivesRow whole r read = Gives (λ x. (slices_in whole x.0, limit_view x.1, x.2.now)) r read
 
 -- a row that is found is that which reading gives, with what it asks of the next one, and what comes after it
-abbrev pub FindsRow : List ℕ → Option (Offsets × asked.Limit × Bor (List ℕ) × Bool) → Option SlicedRow → Type 0
+abbrev pub FindsRow : List ℕ → Option RowRead → Option SlicedRow → Type 0
 FindsRow whole found read = IfSome found (λ x. read ≡ Some (slices_in whole x.0, limit_view x.1, x.2.now))
 
+-- where a row is that begins where this end of the whole text does, and how long its pieces are
+abbrev pub offsets_from : (whole text : List ℕ) → Slices → Offsets
+offsets_from whole text s = offsets_of (length whole - length text) s
+
+-- the row that reading gives of what is in front
+abbrev pub row_in_front : asked.Limit → RowFront → Option SlicedRow
+row_in_front limit f = row_sliced (limit_view limit) f.gap.now f.text.now
+
+-- the row begins where what is in front does
+abbrev pub BeginsInFront : List ℕ → RowFront → RowRead → Type 0
+BeginsInFront whole f x = x.0 ≡ offsets_from whole f.at.now (slices_in whole x.0)
+
 -- the row is a word row, where the answer says so
-abbrev pub MayBeWordRow : List ℕ → Offsets × asked.Limit × Bor (List ℕ) × Bool → Type 0
+abbrev pub MayBeWordRow : List ℕ → RowRead → Type 0
 MayBeWordRow whole x = x.3 ≡ true → is_word_row (slices_in whole x.0) ≡ true
+
+-- what the answer says of the row's head is so
+abbrev pub KnowsRowHead : List ℕ → RowRead → Type 0
+KnowsRowHead whole x = KnowsHead x.4 (slices_in whole x.0).head
+
+-- the same of what comes after a mark
+abbrev pub KnowsFilling : Filling → Type 0
+KnowsFilling f = KnowsHead f.depth f.head.now
 
 -- the key of a mark, if it has one, begins with a letter, a digit or no ASCII
 abbrev pub is_word_mark : RowMark → Bool
@@ -57,13 +82,9 @@ abbrev pub FindsScalar : (space head behind : List ℕ) → Option Filling → T
 FindsScalar space head behind found =
     IfSome found (λ f. (n : ℤ) (t : List ℕ) → begins_other t ≡ false → begins_scalar false t ≡ true → read_scalar false (Some (deeper n)) t ≡ Some (head, behind) → inline_sliced n space t ≡ Some (filling_view f))
 
--- where a row is that begins where this end of the whole text does, and how long its pieces are
-abbrev pub offsets_from : (whole text : List ℕ) → Slices → Offsets
-offsets_from whole text s = offsets_of (length whole - length text) s
-
 -- the same of pieces as the code read them
-abbrev pub offsets_found : (whole text gap : List ℕ) → ℕ → Begin → Filling → Offsets
-offsets_found whole text gap column b f = offsets_from whole text (read_slices gap column b f)
+abbrev pub offsets_found : List ℕ → RowFront → ℕ → Begin → Filling → Offsets
+offsets_found whole x column b f = offsets_from whole x.at.now (read_slices x.gap.now column b f)
 
 -- the same of a row that begins at an offset
 abbrev pub offsets_read : ℕ → List ℕ → ℕ → Begin → Filling → Offsets
@@ -82,8 +103,8 @@ abbrev pub PlacesRows : (whole text : List ℕ) → Vec Offsets Global → Resul
 PlacesRows whole text rows r read = Gives (λ x. x.0.items) r (rows_placed rows.items (length whole - length text) read)
 
 -- where all rows that are no word rows are known before, they are known after
-abbrev pub KeepOthers : List ℕ → Vec Offsets Global → List ℕ → Result RowsRead ReadError → List ℕ → Type 0
-KeepOthers whole rows before r after = AreOtherRows (rows_in whole rows.items) 0 before → IfOk r (λ x. AreOtherRows (rows_in whole x.0.items) 0 after)
+abbrev pub KeepOthers : List ℕ → Vec Offsets Global → Notes → Result RowsRead ReadError → Notes → Type 0
+KeepOthers whole rows before r after = AreOtherRows (rows_in whole rows.items) 0 before.others.items → IfOk r (λ x. AreOtherRows (rows_in whole x.0.items) 0 after.others.items)
 
 -- the key after a dash and these spaces, with what comes after it up to its `:`, and what follows; a key needs spaces
 abbrev pub key_after : (spaces next : List ℕ) → Option (List ℕ × List ℕ × List ℕ)

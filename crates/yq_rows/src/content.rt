@@ -1,7 +1,7 @@
 //! What comes after a row's mark.
-ghost use Rattle.std.{specs.Option.option_map, specs.Prelude.{◌≡◌, ◌≤◌, ◌==◌, ◌||◌, ◌&&◌, not, length, true, false, IfErr}};
+ghost use Rattle.std.{specs.Option.option_map, specs.Prelude.{◌≡◌, ◌≤◌, ◌==◌, ◌||◌, ◌&&◌, not, length, true, false, IfErr, IfOk}};
 ghost use Rattle.yq_core.{specs.Answers.{Gives, IsOfText}, specs.Text.{front, is_empty}};
-ghost use Rattle.yq_rows.specs.ReadPieces.{is_plain_kind, filling_view};
+ghost use Rattle.yq_rows.{specs.ReadPieces.{is_plain_kind, filling_view}, specs.RowAnswers.KnowsFilling};
 ghost use Rattle.yq_row_table.specs.Slicing.{filled_at};
 ghost use Rattle.yq_inline.specs.Measured as measured;
 ghost use Rattle.yq_core.specs.Scalars as scalars;
@@ -16,11 +16,10 @@ use crate::words::{begins_word, read_front};
 use yq_core::fault_place::fault;
 use yq_core::lines::split_line;
 use yq_core::text::{ends_line, split_white};
-use yq_core::{
-    DEPTH_LIMIT, FaultKind, Place, ReadError, first_is, further_spaces, is_quoted, strip,
-};
-use yq_inline::measuring::{Measured, MeasuredKind, measure_node};
+use yq_core::{FaultKind, Place, ReadError, first_is, further_spaces, is_quoted, strip};
+use yq_inline::measuring::{Measured, MeasuredKind};
 use yq_inline::pieces::{begins_scalar, name_len};
+use yq_inline::{Keys, measure_head};
 use yq_scalar::read_block;
 
 /// What comes after a mark, by its pieces.
@@ -38,6 +37,9 @@ pub struct Filling<'t> {
     pub plain: bool,
     /// Whether it may be on a line of its own.
     pub alone: bool,
+    /// How many collections are nested at most in the head, where this is a flow collection that the text
+    /// lends; else 0.
+    pub depth: usize,
     /// What follows it.
     pub rest: &'t str,
 }
@@ -111,6 +113,7 @@ fn read_block_content<'t>(
     text: &'t str,
 ) -> Result<Filling<'t>, ReadError>
     ensures read { Gives filling_view result (slicing.block_sliced parent space.now text.now) }
+    ensures known { IfOk result KnowsFilling }
     ensures fault { IfErr result IsOfText }
 {
     let (anchor, apart, rest) = split_apart(text);
@@ -133,6 +136,7 @@ fn read_block_content<'t>(
         raw,
         plain: false,
         alone: false,
+        depth: 0,
         rest,
     })
 }
@@ -171,6 +175,7 @@ pub(crate) fn may_be_alone(space: &str, nothing: bool) -> bool
 
 /// A node that an anchor, an alias or a flow collection begins, after white space, and its tail.
 fn read_inline_content<'t>(
+    keys: &mut Keys<'t>,
     whole: &str,
     mark: RowMark<'t>,
     parent: i64,
@@ -178,13 +183,15 @@ fn read_inline_content<'t>(
     text: &'t str,
 ) -> Result<Filling<'t>, ReadError>
     ensures read { Gives filling_view result (slicing.inline_sliced parent space.now text.now) }
+    ensures known { IfOk result KnowsFilling }
     ensures fault { IfErr result IsOfText }
 {
     let spaces = further_spaces(Place::Block, parent);
-    let node = match measure_node(false, spaces, whole, DEPTH_LIMIT, text) {
-        Ok(node) => node,
+    let found = match measure_head(keys, spaces, whole, text) {
+        Ok(found) => found,
         Err(e) => return Err(ReadError::Fault(e)),
     };
+    let node = found.node;
     let behind = node.rest;
     let (anchor, rest) = split_anchor(text);
     let nothing = is_nothing(node);
@@ -200,6 +207,7 @@ fn read_inline_content<'t>(
             raw: "",
             plain: is_plain(node),
             alone: may_be_alone(space, nothing),
+            depth: found.depth,
             rest,
         }),
         None => Err(ReadError::Fault(match no_further_line(mark, spaces, head, behind) {
@@ -221,6 +229,7 @@ fn read_scalar_content<'t>(
     requires { (slicing.begins_other text.now ≡ false) ×
         (scalars.begins_scalar false text.now ≡ true) }
     ensures read { Gives filling_view result (slicing.inline_sliced parent space.now text.now) }
+    ensures known { IfOk result KnowsFilling }
     ensures fault { IfErr result IsOfText }
 {
     let spaces = further_spaces(Place::Block, parent);
@@ -238,6 +247,7 @@ fn read_scalar_content<'t>(
             raw: "",
             plain: !is_quoted(head.as_bytes()),
             alone: may_be_alone(space, false),
+            depth: 0,
             rest,
         }),
         None => Err(ReadError::Fault(match no_further_line(mark, spaces, head, behind) {
@@ -249,12 +259,14 @@ fn read_scalar_content<'t>(
 
 /// What comes after a mark, below a parent of this indentation.
 pub(crate) fn read_content<'t>(
+    keys: &mut Keys<'t>,
     whole: &str,
     mark: RowMark<'t>,
     parent: i64,
     text: &'t str,
 ) -> Result<Filling<'t>, ReadError>
     ensures read { Gives filling_view result (filled_at parent text.now) }
+    ensures known { IfOk result KnowsFilling }
     ensures fault { IfErr result IsOfText }
 {
     let (space, rest) = split_white(text);
@@ -265,7 +277,7 @@ pub(crate) fn read_content<'t>(
         return read_block_content(whole, parent, space, rest);
     }
     if begins_other(rest.as_bytes()) {
-        return read_inline_content(whole, mark, parent, space, rest);
+        return read_inline_content(keys, whole, mark, parent, space, rest);
     }
     if begins_scalar(false, rest.as_bytes()) {
         return read_scalar_content(whole, mark, parent, space, rest);
@@ -280,6 +292,7 @@ pub(crate) fn read_content<'t>(
             raw: "",
             plain: false,
             alone: false,
+            depth: 0,
             rest,
         }),
         None => Err(ReadError::Fault(fault(no_content(mark, parent, space, rest), whole, rest))),

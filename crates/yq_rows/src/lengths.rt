@@ -5,6 +5,7 @@ ghost use Rattle.yq_row_table.specs.Offsets as spec;
 
 use crate::content::Filling;
 use crate::marks::{Begin, key_of};
+use crate::reading::RowFront;
 use yq_row_table::Offsets;
 
 /// How long a piece is.
@@ -53,19 +54,24 @@ fn measure(
 #[inline]
 pub(crate) fn offsets_of(
     whole: &str,
-    text: &str,
-    gap: &str,
+    front: RowFront<'_>,
     column: usize,
     begin: &Begin<'_>,
     content: &Filling<'_>,
 ) -> Offsets
     requires small { length whole.now < 2 ^ 32 }
-    requires ends { spec.Ends text.now whole.now }
-    requires read { IsSliced text.now gap.now column begin.now content.now }
+    requires ends { spec.Ends front.at.now whole.now }
+    requires read { IsSliced front.at.now front.gap.now column begin.now content.now }
     ensures stands { spec.IsCutIn whole.now result }
     ensures same { spec.slices_in whole.now result ≡
-        read_slices gap.now column begin.now content.now }
-    ensures place { result ≡ offsets_found whole.now text.now gap.now column begin.now content.now }
+        read_slices front.entry.gap.now column begin.now content.now }
+    ensures place { result ≡ offsets_found whole.now front.entry column begin.now content.now }
 {
-    measure(whole.len() - text.len(), gap, column, begin, content)
+    measure(
+        whole.len() - front.at.len(),
+        front.gap,
+        column,
+        begin,
+        content,
+    )
 }

@@ -1,8 +1,8 @@
 //! Dashes and keys.
 ghost use Rattle.std.{specs.List.prefix_len, specs.Option.option_map, specs.Prelude.{◌≡◌, ◌≤◌, ◌==◌, ◌&&◌, ◌+◌, length, nat_le, not}};
 ghost use Rattle.std.specs.Str.{chars};
-ghost use Rattle.yq_core.specs.Text.{is_empty};
-ghost use Rattle.yq_row_table.{specs.Grammar.key_limit, specs.Slicing.begun};
+ghost use Rattle.yq_core.{specs.Text.is_empty, specs.FitKeys.key_limit};
+ghost use Rattle.yq_row_table.specs.Slicing.{begun};
 ghost use Rattle.yq_rows.{specs.ReadPieces.{begin_view, mark_view}, specs.RowAnswers.{key_after, FindsSlices}};
 ghost use Rattle.yq_row_table.specs.Grammar as grammar;
 ghost use Rattle.yq_row_table.specs.Reading as spec;
@@ -11,9 +11,9 @@ ghost use Rattle.yq_row_table.specs.View as view;
 
 use crate::words::read_front;
 use yq_core::characters::char_count;
-use yq_core::first_is;
 use yq_core::text::{separates, split_spaces, split_white};
-use yq_row_table::{KEY_LIMIT, before_column};
+use yq_core::{KEY_LIMIT, first_is};
+use yq_row_table::before_column;
 
 /// What a row begins with after the dashes before it.
 #[derive(Clone, Copy)]

@@ -1,10 +1,9 @@
 //! Rows, read one after the other.
 ghost use Rattle.std.specs.Prelude.{◌≡◌, ◌≢◌, ◌<◌, ◌≤◌, ◌+◌, ◌++◌, ◌^◌, ◌||◌, [], ◌∷◌, if◌then◌else◌, length, true, IfErr, IfOk, OnOk};
 ghost use Rattle.yq_core.{specs.Answers.{IsOfText, ReadsAs}, specs.declared.fault.FaultKind.TheVariants.NotUtf8};
-ghost use Rattle.yq_row_table.{specs.Grammar.{unlimited, ends_part}, specs.Slicing.row_sliced};
-ghost use Rattle.yq_row_table.specs.Offsets.{Ends, Stand, IsCutIn, slices_in};
-ghost use Rattle.yq_rows.specs.ReadPieces.{limit_view};
-ghost use Rattle.yq_rows.specs.RowAnswers.{ReadsMarked, may_be_at, GivesRow, GivesRows, KeepOthers, MayBeWordRow, PlacesRows, offsets_from};
+ghost use Rattle.yq_row_table.{specs.Grammar.{unlimited, ends_part}, specs.Offsets.{Ends, Stand, IsCutIn}};
+ghost use Rattle.yq_rows.specs.RowAnswers.{BeginsInFront, ReadsMarked, may_be_at, GivesRow, GivesRows, KeepOthers, KnowsFilling};
+ghost use Rattle.yq_rows.specs.RowAnswers.{KnowsRowHead, MayBeWordRow, PlacesRows, row_in_front};
 ghost use Rattle.yq_core.specs.Text;
 ghost use Rattle.yq_row_table.specs.Reading as spec;
 
@@ -19,21 +18,43 @@ use std::alloc::AllocError;
 use yq_core::fault_place::fault;
 use yq_core::text::{is_marker, split_spaces};
 use yq_core::{FaultKind, ReadError, ReadFault};
-use yq_row_table::Offsets;
+use yq_inline::Keys;
+use yq_row_table::{Offsets, Other};
+
+/// What is in front of a row that is read.
+#[derive(Clone, Copy)]
+pub(crate) struct RowFront<'t> {
+    /// The text from its gap on.
+    pub(crate) at: &'t str,
+    pub(crate) gap: &'t str,
+    /// The text after the gap.
+    pub(crate) text: &'t str,
+}
+
+/// What is noted of rows while they are read.
+#[derive(Drop)]
+pub(crate) struct Notes<'t> {
+    /// Those that are no word rows, in order.
+    pub(crate) others: Vec<Other>,
+    /// Room for the keys of a head that is passed.
+    pub(crate) keys: Keys<'t>,
+}
 
 /// What comes after the marks of a row that are read already, below a parent of this indentation.
 #[inline]
 fn read_marked<'t>(
+    keys: &mut Keys<'t>,
     whole: &'t str,
     column: usize,
     begin: &Begin<'t>,
 ) -> Result<Filling<'t>, ReadError>
     requires columns { column + begin.now.columns < 2 ^ 32 }
     ensures read { ReadsMarked column begin.now result }
+    ensures known { IfOk result KnowsFilling }
     ensures fault { IfErr result IsOfText }
 {
     let parent = parent_of(begin.mark, column + begin.columns);
-    let content = read_content(whole, begin.mark, parent, begin.rest)?;
+    let content = read_content(keys, whole, begin.mark, parent, begin.rest)?;
     if !(is_entry(begin.mark) || content.alone) {
         let kind = not_alone(content.space, content.head);
         return Err(ReadError::Fault(fault(kind, whole, begin.rest)));
@@ -53,39 +74,39 @@ pub(crate) fn may_stand(limit: Limit, column: usize, text: &[u8]) -> bool
 #[tactic(auto, unfolding(yq_row_table::specs::Reading::row_at))]
 #[inline]
 fn read_row<'t>(
+    keys: &mut Keys<'t>,
     whole: &'t str,
     limit: Limit,
-    at: &'t str,
-    gap: &'t str,
-    text: &'t str,
-) -> Result<(Offsets, Limit, &'t str, bool), ReadError>
-    requires ends { Ends at.now whole.now }
-    requires cut { at.now ≡ gap.now ++ text.now }
-    requires short { length text.now ≤ length whole.now }
+    front: RowFront<'t>,
+) -> Result<(Offsets, Limit, &'t str, bool, usize), ReadError>
+    requires ends { Ends front.at.now whole.now }
+    requires cut { front.at.now ≡ front.gap.now ++ front.text.now }
+    requires short { length front.text.now ≤ length whole.now }
     requires small { length whole.now < 2 ^ 32 }
-    ensures read { GivesRow whole.now result (row_sliced (limit_view limit) gap.now text.now) }
+    ensures read { GivesRow whole.now result (row_in_front limit front.entry) }
     ensures stands { IfOk result (λ x. IsCutIn whole.now x.0) }
-    ensures place { IfOk result (λ x. x.0 ≡ offsets_from whole.now at.now (slices_in whole.now x.0)) }
+    ensures place { IfOk result (BeginsInFront whole.now front.entry) }
     ensures word { IfOk result (MayBeWordRow whole.now) }
+    ensures known { IfOk result (KnowsRowHead whole.now) }
     ensures fault { IfErr result IsOfText }
 {
-    if let Some(found) = find_row(whole, limit, at, gap, text) {
+    if let Some(found) = find_row(whole, limit, front) {
         return Ok(found);
     }
-    let (indent, rest) = split_spaces(text);
+    let (indent, rest) = split_spaces(front.text);
     let column = indent.len();
     if !may_stand(limit, column, rest.as_bytes()) {
-        return Err(ReadError::Fault(fault(FaultKind::BadIndent, whole, text)));
+        return Err(ReadError::Fault(fault(FaultKind::BadIndent, whole, front.text)));
     }
     let begin = read_begin(rest);
-    let content = match read_marked(whole, column, &begin) {
+    let content = match read_marked(keys, whole, column, &begin) {
         Ok(content) => content,
         Err(e) => return Err(e),
     };
-    let place = offsets_of(whole, at, gap, column, &begin, &content);
+    let place = offsets_of(whole, front, column, &begin, &content);
     let parent = parent_of(begin.mark, column + begin.columns);
     let limit = Limit::behind(parent, content.plain);
-    Ok((place, limit, content.rest, false))
+    Ok((place, limit, content.rest, false, content.depth))
 }
 
 /// Whether no row follows: the end is in front, or a marker.
@@ -95,9 +116,9 @@ fn ends_part(text: &[u8]) -> bool
     text.is_empty() || is_marker(text)
 }
 
-/// Adds the number of a row to those of other rows, if it is one.
+/// Notes a row among other rows, if it is one.
 #[inline(always)]
-fn push_other(others: &mut Vec<usize>, row: usize, is_word: bool) -> Result<(), AllocError>
+fn push_other(others: &mut Vec<Other>, row: Other, is_word: bool) -> Result<(), AllocError>
     ensures { OnOk result (others.new.items ≡ others.old.items ++
         (if is_word then [] else row ∷ [])) }
 {
@@ -112,7 +133,7 @@ fn push_other(others: &mut Vec<usize>, row: usize, is_word: bool) -> Result<(), 
 /// rows; gives the gap after them, and what follows.
 fn read_rows<'t>(
     rows: Vec<Offsets>,
-    others: &mut Vec<usize>,
+    notes: &mut Notes<'t>,
     whole: &'t str,
     text: &'t str,
 ) -> Result<(Vec<Offsets>, &'t str, &'t str), ReadError>
@@ -123,7 +144,7 @@ fn read_rows<'t>(
     ensures placed { PlacesRows whole.now text.now rows result (spec.all_rows unlimited text.now) }
     ensures kept { IfOk result (λ x. Stand whole.now x.0.items) }
     ensures behind { IfOk result (λ x. Ends x.2.now whole.now) }
-    ensures others { KeepOthers whole.now rows others.old.items result others.new.items }
+    ensures others { KeepOthers whole.now rows notes.old result notes.new }
     ensures fault { IfErr result IsOfText }
 {
     let mut rows = rows;
@@ -134,11 +155,25 @@ fn read_rows<'t>(
         if ends_part(rest.as_bytes()) {
             return Ok((rows, gap, rest));
         }
-        let (row, next, after, is_word) = match read_row(whole, limit, at, gap, rest) {
+        let front = RowFront {
+            at,
+            gap,
+            text: rest,
+        };
+        let (row, next, after, is_word, depth) = match read_row(
+            &mut notes.keys,
+            whole,
+            limit,
+            front,
+        ) {
             Ok(found) => found,
             Err(e) => return Err(e),
         };
-        push_other(others, rows.len(), is_word)?;
+        let other = Other {
+            row: rows.len(),
+            depth,
+        };
+        push_other(&mut notes.others, other, is_word)?;
         rows.push(row)?;
         limit = next;
         at = after;
@@ -167,7 +202,7 @@ fn may_begin(is_open: bool, text: &[u8]) -> bool
 #[tactic(auto, unfolding(yq_row_table::specs::Reading::read_cut_part))]
 pub(crate) fn read_part<'t>(
     rows: Vec<Offsets>,
-    others: &mut Vec<usize>,
+    notes: &mut Notes<'t>,
     is_open: bool,
     whole: &'t str,
     text: &'t str,
@@ -179,7 +214,7 @@ pub(crate) fn read_part<'t>(
     ensures placed { PlacesRows whole.now text.now rows result (spec.read_cut_part is_open text.now) }
     ensures kept { IfOk result (λ x. Stand whole.now x.0.items) }
     ensures behind { IfOk result (λ x. Ends x.2.now whole.now) }
-    ensures others { KeepOthers whole.now rows others.old.items result others.new.items }
+    ensures others { KeepOthers whole.now rows notes.old result notes.new }
     ensures fault { IfErr result IsOfText }
 {
     let first = split_gap(text).1;
@@ -187,7 +222,7 @@ pub(crate) fn read_part<'t>(
         let kind = no_document(first.as_bytes());
         return Err(ReadError::Fault(fault(kind, whole, first)));
     }
-    read_rows(rows, others, whole, text)
+    read_rows(rows, notes, whole, text)
 }
 
 /// The line of the marker in front, and what follows.

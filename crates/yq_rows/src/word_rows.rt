@@ -1,16 +1,16 @@
 //! Most rows: a key, or one dash before a word, and a scalar without an anchor or nothing.
 ghost use Rattle.std.specs.Prelude.{◌≡◌, ◌<◌, ◌≤◌, ◌++◌, ◌^◌, length, false, true, IfSome, IsTrue, Some};
 ghost use Rattle.yq_core.{specs.Plain.{ends_plain, holds_break}, specs.Text.{cut, upto}};
-ghost use Rattle.yq_row_table.{specs.Offsets.{Ends, IsCutIn, slices_in}, specs.Slicing.{filled_at, row_sliced}};
-ghost use Rattle.yq_row_table.specs.WordRows.{is_word_head};
-ghost use Rattle.yq_rows.specs.ReadPieces.{filling_view, limit_view, mark_view};
-ghost use Rattle.yq_rows.specs.RowAnswers.{FindsRow, FindsScalar, IsFrontScalar, MayBeWordRow, is_word_mark, offsets_from};
+ghost use Rattle.yq_row_table.{specs.Offsets.{Ends, IsCutIn}, specs.Slicing.filled_at, specs.WordRows.is_word_head};
+ghost use Rattle.yq_rows.specs.ReadPieces.{filling_view, mark_view};
+ghost use Rattle.yq_rows.specs.RowAnswers.{BeginsInFront, FindsRow, FindsScalar, IsFrontScalar, KnowsRowHead, MayBeWordRow, is_word_mark};
+ghost use Rattle.yq_rows.specs.RowAnswers.{row_in_front};
 
 use crate::content::{Filling, begins_block, begins_other, find_tail, may_be_alone};
 use crate::lengths::offsets_of;
 use crate::limit::Limit;
 use crate::marks::{RowMark, parent_of};
-use crate::reading::may_stand;
+use crate::reading::{RowFront, may_stand};
 use crate::word_keys::find_begin;
 use crate::words::{begins_word, borrows_quoted};
 use yq_core::text::{is_space, spaces_len, split_spaces, split_white};
@@ -92,6 +92,7 @@ fn find_line<'t>(space: &'t str, head: &'t str, behind: &'t str) -> Option<Filli
         raw: "",
         plain: !is_quoted(head.as_bytes()),
         alone: may_be_alone(space, false),
+        depth: 0,
         rest,
     })
 }
@@ -113,6 +114,7 @@ fn find_content(parent: i64, text: &str) -> Option<(Filling<'_>, bool)>
             raw: "",
             plain: false,
             alone: false,
+            depth: 0,
             rest,
         };
         return Some((content, true));
@@ -158,20 +160,19 @@ fn is_word_row(mark: RowMark<'_>, is_head: bool) -> bool
 pub(crate) fn find_row<'t>(
     whole: &'t str,
     limit: Limit,
-    at: &'t str,
-    gap: &'t str,
-    text: &'t str,
-) -> Option<(Offsets, Limit, &'t str, bool)>
-    requires ends { Ends at.now whole.now }
-    requires cut { at.now ≡ gap.now ++ text.now }
-    requires short { length text.now ≤ length whole.now }
+    front: RowFront<'t>,
+) -> Option<(Offsets, Limit, &'t str, bool, usize)>
+    requires ends { Ends front.at.now whole.now }
+    requires cut { front.at.now ≡ front.gap.now ++ front.text.now }
+    requires short { length front.text.now ≤ length whole.now }
     requires small { length whole.now < 2 ^ 32 }
-    ensures read { FindsRow whole.now result (row_sliced (limit_view limit) gap.now text.now) }
+    ensures read { FindsRow whole.now result (row_in_front limit front.entry) }
     ensures stands { IfSome result (λ x. IsCutIn whole.now x.0) }
-    ensures place { IfSome result (λ x. x.0 ≡ offsets_from whole.now at.now (slices_in whole.now x.0)) }
+    ensures place { IfSome result (BeginsInFront whole.now front.entry) }
     ensures word { IfSome result (MayBeWordRow whole.now) }
+    ensures known { IfSome result (KnowsRowHead whole.now) }
 {
-    let (indent, rest) = split_spaces(text);
+    let (indent, rest) = split_spaces(front.text);
     let column = indent.len();
     if !may_stand(limit, column, rest.as_bytes()) {
         return None;
@@ -179,8 +180,8 @@ pub(crate) fn find_row<'t>(
     let begin = find_begin(rest)?;
     let parent = parent_of(begin.mark, column + begin.columns);
     let (content, is_head) = find_content(parent, begin.rest)?;
-    let place = offsets_of(whole, at, gap, column, &begin, &content);
+    let place = offsets_of(whole, front, column, &begin, &content);
     let limit = Limit::behind(parent, content.plain);
     let is_word = is_word_row(begin.mark, is_head);
-    Some((place, limit, content.rest, is_word))
+    Some((place, limit, content.rest, is_word, 0))
 }

@@ -4,8 +4,7 @@ use Rattle.std.{specs.Prelude.{None, is_some, if◌then◌else◌}, specs.List.{
 use Rattle.yq_core.{specs.Characters.is_text_char, specs.Keys.depth, specs.declared.style.Place.TheVariants.FlowKey}
 use Rattle.yq_core.{specs.Paths.{To, child_at, node_at}, specs.Scalar.string_of}
 use Rattle.yq_core.{specs.Tree.{Node, alias, scalar, list, Children, none, child, children_of, key_label}, specs.Inline.depth_limit}
-use Rattle.yq_core.{specs.NodesWritten.scalar_text, specs.Anchors.{Name, Anchors, Refers, names_of, names_in}}
-use Rattle.yq_row_table.specs.Grammar.{key_limit}
+use Rattle.yq_core.{specs.NodesWritten.scalar_text, specs.Anchors.{Name, Anchors, Refers, names_of, names_in}, specs.FitKeys.key_limit}
 use Rattle.yq_semantics.specs.declared.program.CommentPlace.{CommentPlace}
 use Rattle.yq_semantics.specs.declared.refusal.Refusal.TheVariants.{IndexOutOfRange, ThroughAlias, AnchorInUse, KindMismatch}
 use Rattle.yq_semantics.specs.declared.refusal.Refusal.TheVariants.{NoPlaceForComment, BadCommentText, RootDelete, TooDeep, KeyTooLong}

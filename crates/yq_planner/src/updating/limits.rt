@@ -6,8 +6,7 @@ ghost use Rattle.yq_semantics.specs.Changes as spec;
 
 use std::alloc::{AllocError, Global};
 use yq_core::characters::char_count;
-use yq_core::{DEPTH_LIMIT, Place, Scalar, Value};
-use yq_row_table::KEY_LIMIT;
+use yq_core::{DEPTH_LIMIT, KEY_LIMIT, Place, Scalar, Value};
 use yq_scalar::write_scalar;
 use yq_scalar_reader::written_style;
 

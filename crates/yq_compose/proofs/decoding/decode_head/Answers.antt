@@ -4,7 +4,7 @@ use Rattle.yq_core.specs.Text.{is_empty}
 use Rattle.yq_row_table.{specs.Rows.parent_indent, specs.View.{Slices, slices}}
 use Rattle.yq_documents.specs.Reading.{cut_of}
 use Rattle.yq_compose.proofs.RowsRead.{alias_fit, alias_flow, alias_view, fit_agrees, head_quoted, head_read, borrowed_fit, none_decoded}
-use Rattle.yq_compose.proofs.RowsRead.{no_head, pieces_there, place_whole, read_decoded, row_at, text_ends, unfit_agrees}
+use Rattle.yq_compose.proofs.RowsRead.{no_head, passed_there, pieces_there, place_whole, read_decoded, row_at, text_ends, unfit_agrees}
 use Rattle.yq_compose.proofs.DocumentsRead.{cut_view}
 use Rattle.yq_documents.specs.declared.decoded.DecodedHead as kept
 use Rattle.yq_compose.proofs.decoding.decode_head.Goals as goal
@@ -12,104 +12,106 @@ use Rattle.yq_compose.proofs.decoding.decode_head.Goals as goal
 pub returns-then-not-has_head-clause-fits : goal.returns-then-not-has_head-clause-fits
 returns-then-not-has_head-clause-fits c = λ r is.
     let k = c.requires.cut in
-    let none = not-false (is_empty (slices r).head) (sym (c.has_head.ensures (slices r) (pieces_there c.args.text.now c.args.rows.now k c.args.i r is)) ∙ c.if-not-has_head.true) in
-    borrowed_fit c.args.text.now c.args.rows.now k c.args.i r is (slices r).head refl (no_head (slices r).head none)
+    let none = not-false (is_empty (slices r).head) (sym (c.has_head.ensures (slices r) (pieces_there c.args.text.now c.args.rows.now k c.args.other.row r is)) ∙ c.if-not-has_head.true) in
+    borrowed_fit c.args.text.now c.args.rows.now k c.args.other.row r is (slices r).head refl (no_head (slices r).head none)
 
 pub returns-then-not-has_head-clause-agrees : goal.returns-then-not-has_head-clause-agrees
 returns-then-not-has_head-clause-agrees c = λ r is.
     let k = c.requires.cut in
-    let none = not-false (is_empty (slices r).head) (sym (c.has_head.ensures (slices r) (pieces_there c.args.text.now c.args.rows.now k c.args.i r is)) ∙ c.if-not-has_head.true) in
-    none_decoded c.args.text.now c.args.rows.now k c.args.i r is (slices r).head refl (no_head (slices r).head none)
+    let none = not-false (is_empty (slices r).head) (sym (c.has_head.ensures (slices r) (pieces_there c.args.text.now c.args.rows.now k c.args.other.row r is)) ∙ c.if-not-has_head.true) in
+    none_decoded c.args.text.now c.args.rows.now k c.args.other.row r is (slices r).head refl (no_head (slices r).head none)
 
 pub is_word_head-requires : goal.is_word_head-requires
 is_word_head-requires c =
     let k = c.requires.cut in
-    let r = row_at c.args.text.now c.args.rows.now k c.args.i c.requires.within in
-    let pieces = pieces_there c.args.text.now c.args.rows.now k c.args.i r.0 r.1 in
+    let r = row_at c.args.text.now c.args.rows.now k c.args.other.row c.requires.within in
+    let pieces = pieces_there c.args.text.now c.args.rows.now k c.args.other.row r.0 r.1 in
     let s : Slices = slices r.0 in
     (s.tail ++ s.raw, c.from_head.ensures s pieces ∙ ap (λ (h : List ℕ). h ++ (s.tail ++ s.raw)) (sym (c.head-head.ensures s pieces)))
 
 pub returns-then-is_word_head-clause-fits : goal.returns-then-is_word_head-clause-fits
 returns-then-is_word_head-clause-fits c = λ r is.
     let k = c.requires.cut in
-    let head = c.head-head.ensures (slices r) (pieces_there c.args.text.now c.args.rows.now k c.args.i r is) in
-    borrowed_fit c.args.text.now c.args.rows.now k c.args.i r is c.head-head.result.now head (c.if-is_word_head.ensures refl)
+    let head = c.head-head.ensures (slices r) (pieces_there c.args.text.now c.args.rows.now k c.args.other.row r is) in
+    borrowed_fit c.args.text.now c.args.rows.now k c.args.other.row r is c.head-head.result.now head (c.if-is_word_head.ensures refl)
 
 pub returns-then-is_word_head-clause-agrees : goal.returns-then-is_word_head-clause-agrees
 returns-then-is_word_head-clause-agrees c = λ r is.
     let k = c.requires.cut in
-    let head = c.head-head.ensures (slices r) (pieces_there c.args.text.now c.args.rows.now k c.args.i r is) in
-    none_decoded c.args.text.now c.args.rows.now k c.args.i r is c.head-head.result.now head (c.if-is_word_head.ensures refl)
+    let head = c.head-head.ensures (slices r) (pieces_there c.args.text.now c.args.rows.now k c.args.other.row r is) in
+    none_decoded c.args.text.now c.args.rows.now k c.args.other.row r is c.head-head.result.now head (c.if-is_word_head.ensures refl)
 
 pub borrows_head-requires : goal.borrows_head-requires
 borrows_head-requires c =
     let k = c.requires.cut in
-    let r = row_at c.args.text.now c.args.rows.now k c.args.i c.requires.within in
-    head_quoted c.args.text.now c.args.rows.now k c.args.i r.0 r.1 c.head-head.result.now (c.head-head.ensures (slices r.0) (pieces_there c.args.text.now c.args.rows.now k c.args.i r.0 r.1))
+    let r = row_at c.args.text.now c.args.rows.now k c.args.other.row c.requires.within in
+    head_quoted c.args.text.now c.args.rows.now k c.args.other.row r.0 r.1 c.head-head.result.now (c.head-head.ensures (slices r.0) (pieces_there c.args.text.now c.args.rows.now k c.args.other.row r.0 r.1))
 
 pub returns-then-borrows_head-clause-fits : goal.returns-then-borrows_head-clause-fits
 returns-then-borrows_head-clause-fits c = λ r is.
     let k = c.requires.cut in
-    let head = c.head-head.ensures (slices r) (pieces_there c.args.text.now c.args.rows.now k c.args.i r is) in
-    borrowed_fit c.args.text.now c.args.rows.now k c.args.i r is c.head-head.result.now head (sym c.borrows_head.ensures ∙ c.if-borrows_head.true)
+    let head = c.head-head.ensures (slices r) (pieces_there c.args.text.now c.args.rows.now k c.args.other.row r is) in
+    borrowed_fit c.args.text.now c.args.rows.now k c.args.other.row r is c.head-head.result.now head (sym c.borrows_head.ensures ∙ c.if-borrows_head.true)
 
 pub returns-then-borrows_head-clause-agrees : goal.returns-then-borrows_head-clause-agrees
 returns-then-borrows_head-clause-agrees c = λ r is.
     let k = c.requires.cut in
-    let head = c.head-head.ensures (slices r) (pieces_there c.args.text.now c.args.rows.now k c.args.i r is) in
-    none_decoded c.args.text.now c.args.rows.now k c.args.i r is c.head-head.result.now head (sym c.borrows_head.ensures ∙ c.if-borrows_head.true)
+    let head = c.head-head.ensures (slices r) (pieces_there c.args.text.now c.args.rows.now k c.args.other.row r is) in
+    none_decoded c.args.text.now c.args.rows.now k c.args.other.row r is c.head-head.result.now head (sym c.borrows_head.ensures ∙ c.if-borrows_head.true)
 
 pub split_at-requires : goal.split_at-requires
 split_at-requires c =
     let k = c.requires.cut in
-    let r = row_at c.args.text.now c.args.rows.now k c.args.i c.requires.within in
-    let head = c.head-head.ensures (slices r.0) (pieces_there c.args.text.now c.args.rows.now k c.args.i r.0 r.1) in
+    let r = row_at c.args.text.now c.args.rows.now k c.args.other.row c.requires.within in
+    let head = c.head-head.ensures (slices r.0) (pieces_there c.args.text.now c.args.rows.now k c.args.other.row r.0 r.1) in
     let start = ap (λ (x : ℕ × ℕ). x.0) (c.head_place-start.ensures (cut_of c.args.text.now) k.rows r.0 r.1) in
-    place_whole c.args.text.now c.args.rows.now k c.args.i r.0 r.1 c.head-head.result.now c.head_place-start.result.0 head (sym c.borrows_head.ensures ∙ c.if-borrows_head.false) c.head-head.utf8 start
+    place_whole c.args.text.now c.args.rows.now k c.args.other.row r.0 r.1 c.head-head.result.now c.head_place-start.result.0 head (sym c.borrows_head.ensures ∙ c.if-borrows_head.false) c.head-head.utf8 start
 
 pub read_head-requires-clause-quoted : goal.read_head-requires-clause-quoted
 read_head-requires-clause-quoted c =
     let k = c.requires.cut in
-    let r = row_at c.args.text.now c.args.rows.now k c.args.i c.requires.within in
-    head_quoted c.args.text.now c.args.rows.now k c.args.i r.0 r.1 c.head-head.result.now (c.head-head.ensures (slices r.0) (pieces_there c.args.text.now c.args.rows.now k c.args.i r.0 r.1))
+    let r = row_at c.args.text.now c.args.rows.now k c.args.other.row c.requires.within in
+    head_quoted c.args.text.now c.args.rows.now k c.args.other.row r.0 r.1 c.head-head.result.now (c.head-head.ensures (slices r.0) (pieces_there c.args.text.now c.args.rows.now k c.args.other.row r.0 r.1))
 
 pub read_head-requires-clause-ends : goal.read_head-requires-clause-ends
 read_head-requires-clause-ends c =
     let k = c.requires.cut in
-    let r = row_at c.args.text.now c.args.rows.now k c.args.i c.requires.within in
+    let r = row_at c.args.text.now c.args.rows.now k c.args.other.row c.requires.within in
     let start = ap (λ (x : ℕ × ℕ). x.0) (c.head_place-start.ensures (cut_of c.args.text.now) k.rows r.0 r.1) in
-    text_ends c.args.text.now c.args.rows.now k c.args.i r.0 r.1 c.split_at.result.1.now c.head_place-start.result.0 c.split_at.ensures.back start
+    text_ends c.args.text.now c.args.rows.now k c.args.other.row r.0 r.1 c.split_at.result.1.now c.head_place-start.result.0 c.split_at.ensures.back start
 
 pub returns-in-Ok-clause-fits : goal.returns-in-Ok-clause-fits
 returns-in-Ok-clause-fits c = λ r is.
     let k = c.requires.cut in
-    let pieces = pieces_there c.args.text.now c.args.rows.now k c.args.i r is in
+    let pieces = pieces_there c.args.text.now c.args.rows.now k c.args.other.row r is in
     let head = c.head-head.ensures (slices r) pieces in
     let start = ap (λ (x : ℕ × ℕ). x.0) (c.head_place-start.ensures (cut_of c.args.text.now) k.rows r is) in
     let f : SFits w64 c.parent_indent-parent.result = search rules in
     let parent = to_z-of_z w64 c.parent_indent-parent.result f ∙ c.parent_indent-parent.ensures (slices r) pieces in
-    fit_agrees _ _ _ _ (head_read c.args.text.now c.args.rows.now k c.args.i r is c.split_at.result.1.now c.head_place-start.result.0 c.split_at.ensures.back start _ c.head-head.result.now parent head) c.in-Ok.ensures.view
+    fit_agrees _ _ _ _ (head_read c.args.text.now c.args.rows.now k c.args.other.row r is c.split_at.result.1.now c.head_place-start.result.0 c.split_at.ensures.back start _ c.head-head.result.now parent head) c.in-Ok.ensures.view
 
 pub returns-in-Ok-clause-agrees : goal.returns-in-Ok-clause-agrees
 returns-in-Ok-clause-agrees c = λ r is.
     let k = c.requires.cut in
-    let pieces = pieces_there c.args.text.now c.args.rows.now k c.args.i r is in
+    let pieces = pieces_there c.args.text.now c.args.rows.now k c.args.other.row r is in
     let head = c.head-head.ensures (slices r) pieces in
     let start = ap (λ (x : ℕ × ℕ). x.0) (c.head_place-start.ensures (cut_of c.args.text.now) k.rows r is) in
     let f : SFits w64 c.parent_indent-parent.result = search rules in
     let parent = to_z-of_z w64 c.parent_indent-parent.result f ∙ c.parent_indent-parent.ensures (slices r) pieces in
-    read_decoded c.args.text.now c.args.rows.now k c.args.i r is c.split_at.result.1.now c.head_place-start.result.0 c.split_at.ensures.back start _
+    read_decoded c.args.text.now c.args.rows.now k c.args.other.row r is c.split_at.result.1.now c.head_place-start.result.0 c.split_at.ensures.back start _
     c.head-head.result.now parent head (kept.TheVariants.Owned c.in-Ok.head) c.in-Ok.ensures.view c.in-Ok.ensures.flow
 
 pub returns-in-Err-clause-fits : goal.returns-in-Err-clause-fits
 returns-in-Err-clause-fits c = λ r is.
     let k = c.requires.cut in
-    let pieces = pieces_there c.args.text.now c.args.rows.now k c.args.i r is in
+    let pieces = pieces_there c.args.text.now c.args.rows.now k c.args.other.row r is in
     let head = c.head-head.ensures (slices r) pieces in
     let start = ap (λ (x : ℕ × ℕ). x.0) (c.head_place-start.ensures (cut_of c.args.text.now) k.rows r is) in
     let f : SFits w64 c.parent_indent-parent.result = search rules in
     let parent = to_z-of_z w64 c.parent_indent-parent.result f ∙ c.parent_indent-parent.ensures (slices r) pieces in
-    unfit_agrees c.in-Err.e _ _ _ (head_read c.args.text.now c.args.rows.now k c.args.i r is c.split_at.result.1.now c.head_place-start.result.0 c.split_at.ensures.back start _ c.head-head.result.now parent head) c.in-Err.ensures.view
+    unfit_agrees c.in-Err.e _ _ _
+    (head_read c.args.text.now c.args.rows.now k c.args.other.row r is c.split_at.result.1.now c.head_place-start.result.0
+    c.split_at.ensures.back start _ c.head-head.result.now parent head) c.in-Err.ensures.view
 
 pub head_place-start-requires-clause-rows_view : goal.head_place-start-requires-clause-rows_view
 head_place-start-requires-clause-rows_view c = cut_view c.args.text.now c.args.rows.now c.requires.cut
@@ -117,39 +119,42 @@ head_place-start-requires-clause-rows_view c = cut_view c.args.text.now c.args.r
 pub borrow_head-requires : goal.borrow_head-requires
 borrow_head-requires c =
     let k = c.requires.cut in
-    let r = row_at c.args.text.now c.args.rows.now k c.args.i c.requires.within in
+    let r = row_at c.args.text.now c.args.rows.now k c.args.other.row c.requires.within in
     let start = ap (λ (x : ℕ × ℕ). x.0) (c.head_place-start.ensures (cut_of c.args.text.now) k.rows r.0 r.1) in
-    record { ends = text_ends c.args.text.now c.args.rows.now k c.args.i r.0 r.1 c.split_at.result.1.now c.head_place-start.result.0 c.split_at.ensures.back start }
+    record {
+      known = passed_there c.args.text.now c.args.rows.now k c.args.other.row r.0 r.1 c.split_at.result.1.now c.head_place-start.result.0 c.split_at.ensures.back start c.args.other.depth (c.requires.known r.0 r.1);
+      ends = text_ends c.args.text.now c.args.rows.now k c.args.other.row r.0 r.1 c.split_at.result.1.now c.head_place-start.result.0 c.split_at.ensures.back start;
+    }
 
 pub returns-in-Some-clause-fits : goal.returns-in-Some-clause-fits
 returns-in-Some-clause-fits c = λ r is.
     let k = c.requires.cut in
-    let head = c.head-head.ensures (slices r) (pieces_there c.args.text.now c.args.rows.now k c.args.i r is) in
-    alias_fit c.args.text.now c.args.rows.now k c.args.i r is c.head-head.result.now c.in-Some.name.now head c.in-Some.ensures.0 c.in-Some.ensures.1
+    let head = c.head-head.ensures (slices r) (pieces_there c.args.text.now c.args.rows.now k c.args.other.row r is) in
+    alias_fit c.args.text.now c.args.rows.now k c.args.other.row r is c.head-head.result.now c.in-Some.name.now head c.in-Some.ensures.0 c.in-Some.ensures.1
 
 pub returns-in-Some-clause-agrees : goal.returns-in-Some-clause-agrees
 returns-in-Some-clause-agrees c = λ r is.
     let k = c.requires.cut in
-    let head = c.head-head.ensures (slices r) (pieces_there c.args.text.now c.args.rows.now k c.args.i r is) in
+    let head = c.head-head.ensures (slices r) (pieces_there c.args.text.now c.args.rows.now k c.args.other.row r is) in
     let start = ap (λ (x : ℕ × ℕ). x.0) (c.head_place-start.ensures (cut_of c.args.text.now) k.rows r is) in
     record {
-      head = alias_view c.args.text.now c.args.rows.now k c.args.i r is c.head-head.result.now c.in-Some.name.now head c.in-Some.ensures.0 c.in-Some.ensures.1;
-      flow = alias_flow c.args.text.now c.args.rows.now k c.args.i r is c.head-head.result.now c.in-Some.name.now head c.in-Some.ensures.0 c.in-Some.ensures.1 c.head_place-start.result.0 start;
+      head = alias_view c.args.text.now c.args.rows.now k c.args.other.row r is c.head-head.result.now c.in-Some.name.now head c.in-Some.ensures.0 c.in-Some.ensures.1;
+      flow = alias_flow c.args.text.now c.args.rows.now k c.args.other.row r is c.head-head.result.now c.in-Some.name.now head c.in-Some.ensures.0 c.in-Some.ensures.1 c.head_place-start.result.0 start;
     }
 
 pub returns-in-Some-borrow_head-clause-fits : goal.returns-in-Some-borrow_head-clause-fits
 returns-in-Some-borrow_head-clause-fits c = λ r is.
     let k = c.requires.cut in
-    let head = c.head-head.ensures (slices r) (pieces_there c.args.text.now c.args.rows.now k c.args.i r is) in
+    let head = c.head-head.ensures (slices r) (pieces_there c.args.text.now c.args.rows.now k c.args.other.row r is) in
     let start = ap (λ (x : ℕ × ℕ). x.0) (c.head_place-start.ensures (cut_of c.args.text.now) k.rows r is) in
-    fit_agrees _ _ _ _ (head_read c.args.text.now c.args.rows.now k c.args.i r is c.split_at.result.1.now c.head_place-start.result.0
+    fit_agrees _ _ _ _ (head_read c.args.text.now c.args.rows.now k c.args.other.row r is c.split_at.result.1.now c.head_place-start.result.0
     c.split_at.ensures.back start (parent_indent r) c.head-head.result.now refl head) (c.in-Some-borrow_head.ensures.view (parent_indent r))
 
 pub returns-in-Some-borrow_head-clause-agrees : goal.returns-in-Some-borrow_head-clause-agrees
 returns-in-Some-borrow_head-clause-agrees c = λ r is.
     let k = c.requires.cut in
-    let head = c.head-head.ensures (slices r) (pieces_there c.args.text.now c.args.rows.now k c.args.i r is) in
+    let head = c.head-head.ensures (slices r) (pieces_there c.args.text.now c.args.rows.now k c.args.other.row r is) in
     let start = ap (λ (x : ℕ × ℕ). x.0) (c.head_place-start.ensures (cut_of c.args.text.now) k.rows r is) in
-    read_decoded c.args.text.now c.args.rows.now k c.args.i r is c.split_at.result.1.now c.head_place-start.result.0 c.split_at.ensures.back start
+    read_decoded c.args.text.now c.args.rows.now k c.args.other.row r is c.split_at.result.1.now c.head_place-start.result.0 c.split_at.ensures.back start
     (parent_indent r) c.head-head.result.now refl head (kept.TheVariants.Borrowed c.in-Some-borrow_head.node) (c.in-Some-borrow_head.ensures.view (parent_indent r))
     (c.in-Some-borrow_head.ensures.flow (parent_indent r))

@@ -8,6 +8,9 @@ use Rattle.yq_compose.proofs.row_decoding.decode_each.Goals as goal
 pub rows-init : goal.rows-init
 rows-init c = record { within = omega arith; so_far = decoded_start c.args.text.now c.new-decoded.result.items c.new-decoded.ensures.items }
 
+pub decoded_of-requires-clause-known : goal.decoded_of-requires-clause-known
+decoded_of-requires-clause-known c = λ r is more. absurd (omega (arith, more))
+
 pub returns-in-Err-clause-fits : goal.returns-in-Err-clause-fits
 returns-in-Err-clause-fits c =
     let r = row_at c.args.text.now c.args.rows.now c.requires.cut c.rows.at (omega (arith, c.rows-test.true, c.len.ensures)) in

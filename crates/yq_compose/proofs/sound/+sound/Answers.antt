@@ -1,12 +1,13 @@
 use Rattle.std.{proofs.Common.{◌-◌, drop, inl, refl, sym, ◌∙◌, subst, arith}, proofs.lemmas.Result.IfOk-weaker, proofs.lemmas.Bool.ne_eqb}
 use Rattle.yq_outline.{specs.Outline.level, specs.Ends.{has_no_lines, part}, specs.Sound.is_sound_outline}
 use Rattle.yq_outline.proofs.EndsLaws.{is_at_end, not_end}
-use Rattle.yq_outline.proofs.EntryLaws.{start_asked, start_deep, start_bare, one_fails, one_passes, no_more}
-use Rattle.yq_outline.{proofs.KeyLaws.distinct_agrees, proofs.LineEnds.end_counted, proofs.SoundLaws.{IsEntryLevel, entry_level}}
-use Rattle.yq_outline.{specs.Lines.lines_of_rows, specs.RowWalk.line_number, proofs.WalkPositions.{located, position_line}}
+use Rattle.yq_outline.{proofs.EntryLaws.{start_asked, start_deep, start_bare, one_fails, one_passes, no_more}, proofs.LineEnds.end_counted}
+use Rattle.yq_outline.{proofs.SoundLaws.{IsEntryLevel, entry_level}, specs.Lines.lines_of_rows, specs.RowWalk.line_number}
+use Rattle.yq_outline.proofs.WalkPositions.{located, position_line}
+use Rattle.yq_core.proofs.DistinctKeys.{distinct_agrees}
 use Rattle.yq_documents.proofs.NodeLines.{bare_mark}
-use Rattle.yq_compose.{proofs.DecidingLaws.{decides_as, denies_as}, specs.Keys.key_texts}
-use Rattle.yq_compose.proofs.KeysLaws.{all_stay, more_own, more_stay, none_own}
+use Rattle.yq_inline.{specs.KeyTexts.key_texts, proofs.KeysLaws.{all_stay, more_own, more_stay, none_own}}
+use Rattle.yq_compose.proofs.DecidingLaws.{decides_as, denies_as}
 use Rattle.yq_compose.proofs.GivesLaws.{gives_all, gives_alone, gives_end, gives_none, moved_on, stop_same}
 use Rattle.yq_compose.proofs.UnderLaws.{alone_sound, both_there, entry_is, none_sound, under_sound}
 use Rattle.yq_compose.proofs.sound.+sound.Goals as goal

@@ -1,7 +1,8 @@
 use Rattle.std.proofs.Common.{◌≡◌, ◌⊎◌, ◌+◌, ◌-◌, ◌*◌, ◌<◌, drop}
 use Rattle.yq_outline.{specs.Ends.part, specs.Sound.is_sound_outline, proofs.SoundLaws.{asked, IsEntryLevel}}
 use Rattle.yq_outline.specs.RowWalk.{OfLines, lines_stop}
-use Rattle.yq_compose.{specs.Checking.{IsReached, OfChecked}, specs.Keys.key_texts, proofs.KeysLaws.KeysStay}
+use Rattle.yq_inline.{specs.KeyTexts.key_texts, proofs.KeysLaws.KeysStay}
+use Rattle.yq_compose.specs.Checking.{IsReached, OfChecked}
 use Rattle.yq_compose.proofs.sound.+sound.Given as goal
 
 abbrev pub decreases-check_lines : goal.decreases-check_lines

@@ -1,6 +1,6 @@
 use Rattle.std.proofs.Common.{subst}
 use Rattle.yq_outline.{proofs.ByRules.rules_give, specs.Lines.lines_of_rows}
-use Rattle.yq_row_table.specs.Grammar.{key_limit}
+use Rattle.yq_core.specs.FitKeys.{key_limit}
 use Rattle.yq_edit_rules.{specs.BlockRows.node_rows, specs.BlockValues.level_at, proofs.CharacterLaws.value_sound}
 use Rattle.yq_edit_rules.{proofs.FitLaws.{node_fit, keys_fit, anchors_fit}, proofs.KeyLaws.near_key}
 use Rattle.yq_edit_rules.{proofs.LaidRows.{laid_rows, laid_follow}, proofs.BlockLineLaws.{node_stands, lines_deeper}}

@@ -16,4 +16,4 @@ invariant_of-result c = record { node = λ none. (let e = sym c.in-Some-find_par
 pub returns : goal.returns
 returns c =
     let h = c.in-Some.ensures in
-    node_found (tree_step c.args.step.now) h.0 _ h.2 (_, c.in-Some-find_part.from, c.in-Some-find_part.text) c.in-Some-find_part.ensures (front_read c.args.node) h.1
+    node_found (tree_step c.args.step.now) h.0 _ h.2 c.in-Some-find_part.found c.in-Some-find_part.ensures (front_read c.args.node) h.1

@@ -20,5 +20,5 @@ returns c =
     let h = c.in-Some.ensures in
     let s = tree_step c.args.last.now in
     let f = c.in-Some-find_part.ensures in
-    around_found s h.0 _ h.2 (c.in-Some-find_part.before, c.in-Some-find_part.from, c.in-Some-find_part.text) f c.pass.result (c.pass.ensures f.first) _ c.first_text-next.ensures
+    around_found s h.0 _ h.2 c.in-Some-find_part.found f c.pass.result (c.pass.ensures f.first) _ c.first_text-next.ensures
     ∙ sym (ap (λ o. o >>= coll_around s) h.1)

@@ -45,3 +45,6 @@ pub overflow_sub-piece-2 : goal.overflow_sub-piece-2
 overflow_sub-piece-2 c =
     let read = block_read c.args.parent c.split_apart.result.2.now c.in-Ok.piece (rw (to_z-of_z w64 c.args.parent c.ranges.parent) at c.in-Ok.ensures.exact) in
     omega (arith, read.raw_start, read.end)
+
+pub returns-clause-known : goal.returns-clause-known
+returns-clause-known c = λ more. absurd (omega (arith, more))

@@ -1,4 +1,4 @@
-use Rattle.std.{proofs.Common.{Some, None, false, sym, ap, ◌∙◌, subst, w64}, proofs.lemmas.Int.to_z-of_z}
+use Rattle.std.{proofs.Common.{Some, None, arith, false, sym, ap, ◌∙◌, subst, w64}, proofs.lemmas.Int.to_z-of_z}
 use Rattle.yq_core.{specs.Answers.Gives, specs.Runs.is_word_byte, specs.Text.front, specs.Scalars.begins_scalar}
 use Rattle.yq_row_table.{specs.Slicing.begins_other, proofs.MarkAgain.scalar_node, proofs.ScalarSlicing.{other_node, no_node}}
 use Rattle.yq_row_table.proofs.RowSlicing.{content_block, content_inline, content_nothing}
@@ -58,3 +58,6 @@ returns-in-None-clause-read c =
     (no_node c.split_white.result.1.now (ap begins_other (sym c.as_bytes-2.ensures.value) ∙ (sym c.begins_other.ensures ∙ c.if-begins_other.false))
     (ap (begins_scalar false) (sym c.as_bytes-3.ensures.value) ∙ (sym c.begins_scalar.ensures ∙ c.if-begins_scalar.false)))
     (sym c.in-None.ensures)
+
+pub returns-in-Some-clause-known : goal.returns-in-Some-clause-known
+returns-in-Some-clause-known c = λ more. absurd (omega (arith, more))

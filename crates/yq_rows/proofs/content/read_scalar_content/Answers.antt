@@ -1,4 +1,4 @@
-use Rattle.std.{proofs.Common.{◌≡◌, Some, w64, sym, ap, ◌∙◌, not}, proofs.lemmas.Int.to_z-of_z}
+use Rattle.std.{proofs.Common.{◌≡◌, Some, arith, w64, sym, ap, ◌∙◌, not}, proofs.lemmas.Int.to_z-of_z}
 use Rattle.yq_core.{specs.Piece.deeper, specs.Scalars.is_quoted}
 use Rattle.yq_row_table.proofs.ScalarSlicing.{scalar_none, scalar_no_tail, scalar_some}
 use Rattle.yq_rows.proofs.content.read_scalar_content.Goals.{in-Some-no_further_line, in-None-no_further_line}
@@ -26,3 +26,6 @@ returns-after-no_further_line-clause-fault c = elim c.match-no_further_line.bran
   | in-Some-no_further_line w ↦ rw w.result-is (λ is. w.in-Some-no_further_line.ensures (sym w.fault.ensures.kind ∙ is))
   | in-None-no_further_line w ↦ rw w.result-is (λ is. w.no_tail.ensures (sym w.fault-in-None-no_further_line.ensures.kind ∙ is))
 ]
+
+pub returns-in-Some-clause-known : goal.returns-in-Some-clause-known
+returns-in-Some-clause-known c = λ more. absurd (omega (arith, more))

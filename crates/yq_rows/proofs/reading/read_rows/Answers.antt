@@ -60,8 +60,8 @@ rows-preserved c =
       placed = rows_placed_step c.rows.rows.items _ c.in-Ok.found.0 whole (limit_view c.rows.limit) (limit_view c.in-Ok.found.1) c.rows.at.now _ _
           row after _ c.rows.invariant.ends c.split_gap.ensures more c.in-Ok.ensures.read c.in_ok-push.ensures.items c.in-Ok.ensures.place
           c.rows.invariant.placed;
-      others = λ h. others_push (rows_in whole c.rows.rows.items) _ row c.rows.others.items _ c.len.result c.in-Ok.found.3 pushed
-          (c.len.ensures ∙ (c.rows.rows.ok.0 ∙ rows_length whole c.rows.rows.items)) c.in-Ok.ensures.word c.in_ok-push_other.ensures
+      others = λ h. others_push (rows_in whole c.rows.rows.items) _ row c.rows.notes.others.items _ c.len.result c.in-Ok.found.4 c.in-Ok.found.3 pushed
+          (c.len.ensures ∙ (c.rows.rows.ok.0 ∙ rows_length whole c.rows.rows.items)) c.in-Ok.ensures.word c.in-Ok.ensures.known c.in_ok-push_other.ensures
           (c.rows.invariant.others h);
     }
 

@@ -14,5 +14,5 @@ invariant-rows l = record {
   stand : Stand l.whole l.rows.items;
   so_far : rows_sliced (rows_in l.whole l.rows.items) (all_rows (limit_view l.limit) l.at) ≡ rows_sliced (rows_in l.whole l.fn.rows.items) (all_rows unlimited l.text);
   placed : rows_placed l.rows.items (length l.whole - length l.at) (all_rows (limit_view l.limit) l.at) ≡ rows_placed l.fn.rows.items (length l.whole - length l.text) (all_rows unlimited l.text);
-  others : AreOtherRows (rows_in l.whole l.fn.rows.items) 0 l.fn.others.items → AreOtherRows (rows_in l.whole l.rows.items) 0 l.others.items;
+  others : AreOtherRows (rows_in l.whole l.fn.rows.items) 0 l.fn.notes.others.items → AreOtherRows (rows_in l.whole l.rows.items) 0 l.notes.others.items;
 }

@@ -69,7 +69,7 @@ returns-then-is_empty-clause-read c =
 pub with_others-requires-clause-others : goal.with_others-requires-clause-others
 with_others-requires-clause-others c =
     let p : Places = record { front = c.in-Ok.part.0; behind = c.new-behind.result; ends = c.of-ends.result; split = length c.args.text.now } in
-    subst (λ (v : RowsView). AreOtherRows v.rows 0 c.read_part.new.others.items) (sym (scanned_view c.args.text.now c.of-text.result p (scanned c))) (c.in-Ok.ensures.others c.parts.invariant.others)
+    subst (λ (v : RowsView). AreOtherRows v.rows 0 c.read_part.new.notes.others.items) (sym (scanned_view c.args.text.now c.of-text.result p (scanned c))) (c.in-Ok.ensures.others c.parts.invariant.others)
 
 pub read_marker-requires : goal.read_marker-requires
 read_marker-requires c =

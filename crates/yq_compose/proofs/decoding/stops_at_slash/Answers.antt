@@ -1,7 +1,0 @@
-use Rattle.std.proofs.Common.{sym, ap, ◌∙◌}
-use Rattle.yq_core.specs.Nodes.{begins_with}
-use Rattle.yq_compose.proofs.BorrowLaws.{slash_there}
-use Rattle.yq_compose.proofs.decoding.stops_at_slash.Goals as goal
-
-pub returns : goal.returns
-returns c = λ yes. slash_there c.args.inner.now _ (ap (begins_with 92) (sym c.split_at.ensures.back) ∙ (sym c.first_is.ensures ∙ yes))
