@@ -27,7 +27,7 @@ pub use heavy::is_heavy;
 pub use judging::judge;
 pub use parts::{PlanPart, plan_part};
 pub use placed::push_change;
-pub use planning::plan;
+pub use planning::{plan, plan_under};
 pub use yq_core::{Value, copied_steps};
 pub use yq_eval::{Match, matches};
 pub use yq_expr_parser::{ParseError, one_program, parse_expr};

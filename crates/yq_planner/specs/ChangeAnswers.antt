@@ -11,6 +11,7 @@ use Rattle.yq_semantics.specs.Changes.{Addition, Change, added_entries, allowed,
 use Rattle.yq_semantics.{specs.Changes.{value_in, writes_long_key}, specs.Judgement.{Judgement, Judges, ExprError}}
 use Rattle.yq_semantics.{specs.Operations.{Operation, operations_of}, specs.Plans.add_op}
 use Rattle.yq_semantics.{specs.RightValues.{int_sum, with_entries, with_entry}, specs.declared.op.Op.Op}
+use Rattle.yq_semantics.{specs.Under.all_under, specs.declared.under.OpsUnder.OpsUnder}
 use Rattle.yq_planner.{specs.ChangeView.{addition_of, change_of}, specs.ChangedNodes.LeadsToNode, specs.EntryNumbers.number_kept}
 use Rattle.yq_planner.{specs.StandIns.IsStandIn, specs.TakenNames.{is_used_anchor, overwrites_at, takes_at}}
 use Rattle.yq_planner.specs.Indexes.{HasAliases, IsIndex, get_text, kept_first}
@@ -126,8 +127,8 @@ abbrev pub PutsOps : {T E : Type 0} → Result T E → (old new : Vec Op Global)
 PutsOps r old new ops = OnOk r (operations_of new.items ≡ operations_of old.items ++ ops)
 
 -- an answer's operations are these, or it is an error
-abbrev pub GivesOps : {E : Type 0} → Result (Vec Op Global) E → List Operation → Type 0
-GivesOps r ops = IfOk r (λ v. operations_of v.items ≡ ops)
+abbrev pub GivesOps : {E : Type 0} → Result (Vec OpsUnder Global) E → List Operation → Type 0
+GivesOps r ops = IfOk r (λ v. all_under v.items ≡ ops)
 
 -- a value is refused where a scalar is
 abbrev pub StandsForScalar : ScalarText → Value → Type 0
