@@ -1,6 +1,7 @@
 //! Updates of programs planned on documents: which operations carry one out, or why none do.
 #![tactic(auto)]
 
+mod at_node;
 mod at_places;
 mod changes;
 mod document;
