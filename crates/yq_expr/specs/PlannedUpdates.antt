@@ -3,9 +3,8 @@ use Rattle.std.{specs.Prelude.{◌≡◌, ℕ, List, Result, Some}, specs.Global
 use Rattle.yq_documents.{specs.Documents.Document, specs.Reading.documents_of}
 use Rattle.yq_semantics.{specs.After.all_after, specs.Fits.AllFit, specs.Judgement.{Judgement, Judges, ExprError}, specs.Meaning.meaning}
 use Rattle.yq_semantics.{specs.Operations.{Operation, operations_of}, specs.Plans.plan, specs.Program.{Update, update_at}}
-use Rattle.yq_semantics.{specs.Rooms.room_of, specs.View.{program_of, update_of}, specs.declared.op.Op.Op}
-use Rattle.yq_semantics.{specs.Under.all_under, specs.declared.under.OpsUnder.OpsUnder}
-use Rattle.yq_semantics.specs.declared.program.Syntax.{Syntax}
+use Rattle.yq_semantics.{specs.Rooms.room_of, specs.View.{program_of, update_of}, specs.declared.op.Op.Op, specs.Under.all_under}
+use Rattle.yq_semantics.{specs.declared.under.OpsUnder.OpsUnder, specs.declared.program.Syntax.Syntax}
 use Rattle.yq_expr.{specs.Parts.{LeavesOps, document_ops, rest_ops}, specs.declared.parts.PlanPart.PlanPart}
 use Rattle.yq_expr.specs.declared.document.DocumentRoot.{DocumentRoot}
 use Rattle.yq_nodes.specs.Nodes.{node_of}

@@ -3,7 +3,7 @@ ghost use Rattle.std.specs.Prelude.{◌≡◌, ◌++◌, ◌∷◌, [], IfOk, If
 ghost use Rattle.yq_documents.specs.Located.{steps_of};
 ghost use Rattle.yq_nodes.specs.Nodes.{node_of};
 ghost use Rattle.yq_planner.specs.ValidChanges.{AreValidChanges, GivesValid, StayValid};
-ghost use Rattle.yq_expr.specs.JudgedChanges.{JudgesBelow, JudgesEach, MayJudgeEach, StaysAtNode, effect_of};
+ghost use Rattle.yq_expr.specs.JudgedChanges.{JudgesBelow, JudgesEachOf, MayJudgeEachOf, StaysAtNode};
 ghost use Rattle.yq_eval.{specs.FoundView.child_places, specs.PlaceView.{node_step_of, path_of, place_of, places_of}};
 ghost use Rattle.yq_eval.specs.TreeScalars.{HasScalars, HaveScalars};
 
@@ -64,9 +64,8 @@ pub(crate) fn at_children<'a, 't>(
     parent: &'a FoundPlace<'a, 't>,
 ) -> Result<ChangesUnder, ExprError>
     requires { HaveScalars (child_places (path_of parent.now.path) (node_of parent.now.node)) }
-    ensures changes { JudgesEach effect.now.aliases.now
-        (child_places (path_of parent.now.path) (node_of parent.now.node))
-        (effect_of effect.now documents.now) result }
+    ensures changes { JudgesEachOf effect.now documents.now
+        (child_places (path_of parent.now.path) (node_of parent.now.node)) result }
     ensures valid { GivesValid result }
 {
     let count = parent.node.count();
@@ -105,8 +104,7 @@ pub(crate) fn at_each_below<'a, 't>(
     front: Vec<Step>,
 ) -> Result<Option<ChangesUnder>, ExprError>
     requires { HaveScalars (places_of places.now) }
-    ensures changes { MayJudgeEach effect.now.aliases.now (places_of places.now)
-        (effect_of effect.now documents.now) result }
+    ensures changes { MayJudgeEachOf effect.now documents.now (places_of places.now) result }
     ensures valid { IfOk result (λ o. IfSome o (λ x. AreValidChanges x.changes.items)) }
 {
     let mut so_far = ChildChanges {

@@ -1,7 +1,7 @@
 //! What is changed at each of places.
 ghost use Rattle.std.specs.Prelude.{◌≡◌, IfOk, IfSome};
 ghost use Rattle.yq_documents.specs.Located.{steps_of};
-ghost use Rattle.yq_expr.specs.JudgedChanges.{JudgesAllowed, JudgesAllowedPut, JudgesEach, action_in, effect_of};
+ghost use Rattle.yq_expr.specs.JudgedChanges.{JudgesAllowed, JudgesAllowedPut, JudgesEach, JudgesEachOf, action_in, effect_of};
 ghost use Rattle.yq_planner.{specs.ChangeView.change_of, specs.ValidChanges.{GivesValid, IsValidChange, StayValid}};
 ghost use Rattle.yq_eval.{specs.FoundView.found_places, specs.PlaceView.{path_of, place_of, places_of}};
 ghost use Rattle.yq_eval.specs.TreeScalars.{HasScalars, HaveScalars};
@@ -63,8 +63,7 @@ pub(crate) fn allowed_at<'a, 't>(
     requires doc { path.now.doc ≡ effect.now.doc }
     requires path { steps_of path.now ≡ path_of place.now.path }
     ensures same { cut.new ≡ cut.old }
-    ensures change { JudgesAllowedPut effect.now.aliases.now place.now
-        (effect_of effect.now cut.old (place_of place.now)) result }
+    ensures change { JudgesAllowedPut effect.now cut.old place.now result }
     ensures valid { IfOk result (λ o. IfSome o (λ c. IsValidChange (change_of c))) }
 {
     check_depth(alloc, effect.doc, effect.action, place)?;
@@ -89,8 +88,7 @@ fn at_each<'a, 't>(
     places: &[FoundPlace<'a, 't>],
 ) -> Result<ChangesUnder, ExprError>
     requires { HaveScalars (places_of places.now) }
-    ensures changes { JudgesEach effect.now.aliases.now (places_of places.now)
-        (effect_of effect.now documents.now) result }
+    ensures changes { JudgesEachOf effect.now documents.now (places_of places.now) result }
     ensures valid { GivesValid result }
 {
     let mut changes = Vec::new(alloc);
@@ -109,8 +107,7 @@ fn at_listed<'a, 't>(
     places: &[FoundPlace<'a, 't>],
 ) -> Result<ChangesUnder, ExprError>
     requires { HaveScalars (places_of places.now) }
-    ensures changes { JudgesEach effect.now.aliases.now (places_of places.now)
-        (effect_of effect.now documents.now) result }
+    ensures changes { JudgesEachOf effect.now documents.now (places_of places.now) result }
     ensures valid { GivesValid result }
 {
     let above = node_above(alloc, places)?;

@@ -1,8 +1,7 @@
 //! Planning: the operations that carry out an update on documents.
 ghost use Rattle.std.specs.Prelude.{◌≡◌, ◌<◌, ◌⊎◌, IfOk};
-ghost use Rattle.yq_semantics.{specs.Judgement.{gives, refuses}, specs.View.{program_of, update_of}};
+ghost use Rattle.yq_semantics.{specs.Judgement.{gives, refuses}, specs.View.{program_of, update_of}, specs.Under.all_under};
 ghost use Rattle.yq_planner.specs.ValidChanges.{HaveValidValues, HoldValidValues};
-ghost use Rattle.yq_semantics.specs.Under.{all_under};
 ghost use Rattle.yq_expr.specs.PlannedUpdates.{AllFitIn, ForUpdate, IsUpdateAt, JudgesParts, JudgesPlan, documents_after, meaning_in};
 ghost use Rattle.yq_semantics.specs.Plans as plans;
 ghost use Rattle.yq_semantics.specs.Program as spec;

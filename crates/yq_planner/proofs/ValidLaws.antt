@@ -3,7 +3,8 @@ use Rattle.std.{proofs.Common.{ℕ, suc, Bool, true, false, List, [], ◌∷◌,
 use Rattle.yq_core.{specs.Entries.tree_step, specs.Paths.Step}
 use Rattle.yq_semantics.specs.Changes.{Addition, appends, overwrites, Change, replaces, adds, removes, sets_comment, Changed}
 use Rattle.yq_semantics.specs.Plans.{add_op, all_ops, change_ops, ops_of, ordered}
-use Rattle.yq_planner.{specs.ChangeView.{all_changes_under, changes_below, changes_under}, specs.declared.updating.change.ChangesUnder.ChangesUnder}
+use Rattle.yq_planner.specs.ChangeView.{all_changes_under, changes_below, changes_under}
+use Rattle.yq_planner.specs.declared.updating.change.ChangesUnder.{ChangesUnder}
 use Rattle.yq_planner.specs.ValidChanges.{AddsValid, AreAllValid, AreValidChanges, Each, HasValidValue, HaveValidValues, IsValidChange}
 use Rattle.yq_planner.specs.declared.updating.change.PlacedChange.{PlacedChange}
 use Rattle.yq_semantics.specs.declared.program.CommentPlace as place

@@ -58,8 +58,8 @@ module _ (front : List Step) where
   ordered_under false cs = refl
 
   -- the operations of changes, in the order in which these are made
-  pub made_under : (doc : ℕ) (removal : Bool) (cs : List Changed) → map (operation_under front) (ops_of doc (ordered removal cs)) ≡ ops_of doc (ordered removal (map (change_under front) cs))
-  made_under doc removal cs = sym (ops_of_under doc (ordered removal cs)) ∙ ap (ops_of doc) (ordered_under removal cs)
+  pub in_order_under : (doc : ℕ) (removal : Bool) (cs : List Changed) → map (operation_under front) (ops_of doc (ordered removal cs)) ≡ ops_of doc (ordered removal (map (change_under front) cs))
+  in_order_under doc removal cs = sym (ops_of_under doc (ordered removal cs)) ∙ ap (ops_of doc) (ordered_under removal cs)
 
 -- ---- parts
 

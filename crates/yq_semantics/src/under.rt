@@ -1,5 +1,5 @@
 //! Operations at and below a node: the steps that lead there are kept once.
-ghost use Rattle.std.specs.Prelude.{◌≡◌, ◌++◌, IfOk, IfSome, OnOk, map};
+ghost use Rattle.std.specs.Prelude.{◌≡◌, ◌++◌, IfOk, IfSome, map};
 ghost use Rattle.yq_core.specs.Entries.{tree_step};
 ghost use Rattle.yq_documents.specs.Located.{steps_of};
 ghost use Rattle.yq_semantics.specs.Operations.{operation_of, operations_of};
@@ -22,8 +22,7 @@ pub struct OpsUnder {
 
 /// Puts the same steps again after others.
 pub fn push_steps(alloc: Global, steps: &[Step], all: &mut Vec<Step>) -> Result<(), AllocError>
-    ensures { OnOk result (map tree_step all.new.items ≡
-        map tree_step all.old.items ++ map tree_step steps.now) }
+    ensures { spec.PutsSteps result all.old all.new steps.now }
 {
     let mut copies = copied_steps(alloc, steps)?;
     all.append(&mut copies)
@@ -63,8 +62,7 @@ fn push_whole(
     below: Vec<Op>,
     ops: &mut Vec<Op>,
 ) -> Result<(), AllocError>
-    ensures { OnOk result (operations_of ops.new.items ≡
-        operations_of ops.old.items ++ spec.ops_under front.now below.items) }
+    ensures { spec.PutsOps result ops.old ops.new (spec.ops_under front.now below.items) }
 {
     ops.reserve(below.len())?;
     'each: for op in below {
@@ -76,8 +74,7 @@ fn push_whole(
 /// Puts the operations of a part after others, by their paths from the root.
 #[tactic(auto, using(crate::proofs::UnderLaws::ops_whole))]
 pub fn push_part(alloc: Global, part: OpsUnder, ops: &mut Vec<Op>) -> Result<(), AllocError>
-    ensures { OnOk result (operations_of ops.new.items ≡
-        operations_of ops.old.items ++ spec.part_ops part) }
+    ensures { spec.PutsOps result ops.old ops.new (spec.part_ops part) }
 {
     let OpsUnder {
         front,
@@ -124,8 +121,7 @@ pub fn whole_removals(
     front: &[Step],
     ops: &[Op],
 ) -> Result<Option<Vec<Op>>, AllocError>
-    ensures { IfOk result (λ o. IfSome o (λ v. operations_of v.items ≡
-        spec.ops_under front.now ops.now)) }
+    ensures { spec.MayGiveOps result (spec.ops_under front.now ops.now) }
 {
     let mut whole = Vec::with_capacity(alloc, ops.len())?;
     'each: for op in ops {

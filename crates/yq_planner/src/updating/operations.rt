@@ -2,8 +2,8 @@
 ghost use Rattle.std.specs.Prelude.{◌≡◌, IfOk, map, string_bytes};
 ghost use Rattle.yq_documents.specs.Located.{steps_of};
 ghost use Rattle.yq_planner.specs.ChangeView.{all_changes_under, changed_of, changes_under};
-ghost use Rattle.yq_planner.specs.ChangeAnswers.{addition_op, addition_ops, PutsOps, GivesOps};
-ghost use Rattle.yq_semantics.{specs.Operations.operation_of, specs.Under.part_ops};
+ghost use Rattle.yq_planner.specs.ChangeAnswers.{addition_op, addition_ops, ops_in_order, GivesOps};
+ghost use Rattle.yq_semantics.{specs.Operations.operation_of, specs.Under.{part_ops, PutsOps}};
 ghost use Rattle.yq_semantics.specs.Plans as spec;
 
 use crate::updating::change::{Addition, Change, ChangesUnder, PlacedChange};
@@ -105,15 +105,14 @@ fn push_each(
 }
 
 /// The operations of the changes of document `doc`.
-#[tactic(auto, using(yq_semantics::proofs::UnderLaws::made_under))]
+#[tactic(auto, using(yq_semantics::proofs::UnderLaws::in_order_under))]
 fn document_ops(
     alloc: Global,
     doc: usize,
     removal: bool,
     changed: ChangesUnder,
 ) -> Result<OpsUnder, AllocError>
-    ensures { IfOk result (λ x. part_ops x ≡
-        spec.ops_of doc (spec.ordered removal (changes_under changed))) }
+    ensures { IfOk result (λ x. part_ops x ≡ ops_in_order doc removal changed) }
 {
     let ChangesUnder { front, changes } = changed;
     let mut ops = Vec::new(alloc);

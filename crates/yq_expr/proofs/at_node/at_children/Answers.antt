@@ -5,9 +5,8 @@ use Rattle.yq_outline.specs.Counts.{count}
 use Rattle.yq_semantics.{specs.Changes.{Changed, all_allowed}, specs.Judgement.{MatchFails, Judgement, and_then, gives}}
 use Rattle.yq_semantics.{specs.PlacesApart.{AreIn, IsIn}, specs.Places.FoundPlace}
 use Rattle.yq_core.specs.Entries.{tree_step}
-use Rattle.yq_expr.specs.JudgedChanges.{effect_of}
+use Rattle.yq_expr.{specs.JudgedChanges.effect_of, proofs.ChildPlaces.{nothing_before, first_child, child_more, child_fails, children_done}}
 use Rattle.yq_planner.specs.ChangeView.{changes_below}
-use Rattle.yq_expr.proofs.ChildPlaces.{nothing_before, first_child, child_more, child_fails, children_done}
 use Rattle.yq_eval.{specs.FoundView.place_at_path, specs.PlaceView.{path_of, put_behind}, specs.TreeScalars.{HasScalars, HaveScalars}}
 use Rattle.yq_eval.{proofs.EachLaws.failed, proofs.PlaceLaws.none_counted}
 use Rattle.yq_expr.proofs.at_node.at_children.Goals as goal
@@ -32,7 +31,8 @@ returns-in_err-push_below-clause-changes c = λ root named within.
     let first = first_child p c.children.before (left_of c.children.children) (left_of c.next.new.self) (label_of c.in-Some.child) (node_of c.in-Some.child) c.in-Some.ensures.steps in
     let here = c.nth_below-place.ensures p refl in
     failed _ _ _ _ (e.1 ∙ ap Err e.2)
-    (child_fails f p c.children.before (left_of c.children.children) (left_of c.next.new.self) (label_of c.in-Some.child) (node_of c.in-Some.child) (changes_below (path_of c.args.parent.now.path) c.children.so_far.changes.items) _ _ c.in-Some.ensures.steps
+    (child_fails f p c.children.before (left_of c.children.children) (left_of c.next.new.self) (label_of c.in-Some.child) (node_of c.in-Some.child)
+    (changes_below (path_of c.args.parent.now.path) c.children.so_far.changes.items) _ _ c.in-Some.ensures.steps
     (subst (λ (q : FoundPlace). MatchFails c.in_err-push_below.field-0.0 (put_behind (changes_below (path_of c.args.parent.now.path) c.children.so_far.changes.items) (f q))) here
     ((rw (c.children.invariant.same, c.children.invariant.steps) at c.in_err-push_below.ensures.change) root named (subst (IsIn root) (sym here) (subst (AreIn root) first (c.children.invariant.within root within)).0)))
     (c.children.invariant.so_far root named within))
@@ -64,7 +64,8 @@ children-preserved c =
 pub returns-clause-changes : goal.returns-clause-changes
 returns-clause-changes c = λ root named within.
     children_done (λ q. and_then (all_allowed root) (effect_of c.args.effect.now c.args.documents.now q)) (place_at_path (path_of c.args.parent.now.path) (node_of c.args.parent.now.node))
-    c.children.before (left_of c.children.children) (changes_below (path_of c.args.parent.now.path) c.children.so_far.changes.items) _ (none_counted (left_of c.children.children) (omega (arith, c.children.invariant.counted, c.children-test.false)))
+    c.children.before (left_of c.children.children) (changes_below (path_of c.args.parent.now.path) c.children.so_far.changes.items) _
+    (none_counted (left_of c.children.children) (omega (arith, c.children.invariant.counted, c.children-test.false)))
     (c.children.invariant.so_far root named within)
 
 pub overflow_add-before : goal.overflow_add-before

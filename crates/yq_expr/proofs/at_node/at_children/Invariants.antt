@@ -4,9 +4,8 @@ use Rattle.yq_nodes.{specs.Children.left_of, specs.Nodes.node_of}
 use Rattle.yq_outline.specs.Counts.{count}
 use Rattle.yq_semantics.{specs.Changes.at_each, specs.Places.{child_place, stepped}, specs.PlacesApart.AreIn}
 use Rattle.yq_documents.specs.Located.{steps_of}
-use Rattle.yq_planner.{specs.Indexes.HasAliases, specs.ValidChanges.AreValidChanges}
+use Rattle.yq_planner.{specs.Indexes.HasAliases, specs.ValidChanges.AreValidChanges, specs.ChangeView.changes_below}
 use Rattle.yq_expr.specs.JudgedChanges.{effect_of}
-use Rattle.yq_planner.specs.ChangeView.{changes_below}
 use Rattle.yq_eval.{specs.FoundView.{child_places, place_at_path}, specs.PlaceView.{path_of, put_behind}, specs.TreeScalars.HaveScalars}
 use Rattle.yq_expr.proofs.at_node.at_children.Given as goal
 

@@ -37,7 +37,9 @@ places-preserved c =
       within = λ root within. (subst (AreIn root) here (c.places.invariant.within root within)).1;
       so_far = λ root named within.
           let f : FoundPlace → Judgement (List Changed) = λ q. and_then (all_allowed root) (effect_of c.args.effect.now c.args.documents.now q) in
-          each_more place_of f (changes_below (map tree_step c.args.front.items) c.places.so_far.changes.items) (changes_below (map tree_step c.args.front.items) c.push_below.new.so_far.changes.items) c.args.places.now c.places.place-index c.place-item.result _ c.places-test.true c.place-item.is
+          each_more place_of f (changes_below (map tree_step c.args.front.items) c.places.so_far.changes.items)
+          (changes_below (map tree_step c.args.front.items) c.push_below.new.so_far.changes.items) c.args.places.now c.places.place-index
+          c.place-item.result _ c.places-test.true c.place-item.is
           ((rw (c.places.invariant.same, c.places.invariant.steps) at c.in_ok-push_below.ensures.change) root named (subst (AreIn root) here (c.places.invariant.within root within)).0)
           (c.places.invariant.so_far root named within);
     }

@@ -2,9 +2,8 @@ use Rattle.std.proofs.Common.{◌≡◌, drop, map}
 use Rattle.yq_core.{specs.Tree.Node, specs.Anchors.names_of, specs.Entries.tree_step}
 use Rattle.yq_documents.specs.Located.{steps_of}
 use Rattle.yq_semantics.{specs.Changes.at_each, specs.PlacesApart.AreIn}
-use Rattle.yq_planner.{specs.Indexes.HasAliases, specs.ValidChanges.AreValidChanges}
+use Rattle.yq_planner.{specs.Indexes.HasAliases, specs.ValidChanges.AreValidChanges, specs.ChangeView.changes_below}
 use Rattle.yq_expr.specs.JudgedChanges.{effect_of}
-use Rattle.yq_planner.specs.ChangeView.{changes_below}
 use Rattle.yq_eval.{specs.PlaceView.{places_of, put_behind}, specs.TreeScalars.HaveScalars}
 use Rattle.yq_expr.proofs.at_node.at_each_below.Given as goal
 

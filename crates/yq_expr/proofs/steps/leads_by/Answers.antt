@@ -1,4 +1,5 @@
-use Rattle.std.{proofs.Common.{◌≡◌, rules, List, [], ◌∷◌, ap, sym, ◌++◌, ◌∙◌, length, map, take, ◌-◌}, proofs.lemmas.List.{length-append, map_push}}
+use Rattle.std.proofs.Common.{◌≡◌, rules, List, [], ◌∷◌, ap, sym, ◌++◌, ◌∙◌, length, map, take, ◌-◌}
+use Rattle.std.proofs.lemmas.List.{length-append, map_push}
 use Rattle.yq_core.specs.Entries.{tree_step}
 use Rattle.yq_eval.{specs.PlaceView.{node_step_of, path_of}, specs.declared.matching.place.NodePath.{Root, the_lemmas}}
 use Rattle.yq_expr.proofs.ChangeLaws.{split_last}
