@@ -2,7 +2,7 @@
 ghost use Rattle.std.specs.Prelude.{◌≡◌, ◌++◌, ◌∷◌, [], IfOk, IfSome, OnOk};
 ghost use Rattle.yq_documents.specs.Located.{steps_of};
 ghost use Rattle.yq_nodes.specs.Nodes.{node_of};
-ghost use Rattle.yq_planner.specs.ValidChanges.{AreValidChanges, GivesValid, StayValid};
+ghost use Rattle.yq_planner.{specs.ChangeView.{changes_below, changes_under}, specs.ValidChanges.{AreValidChanges, GivesValid, StayValid}};
 ghost use Rattle.yq_expr.specs.JudgedChanges.{JudgesBelow, JudgesEachOf, MayJudgeEachOf, StaysAtNode};
 ghost use Rattle.yq_eval.{specs.FoundView.child_places, specs.PlaceView.{node_step_of, path_of, place_of, places_of}};
 ghost use Rattle.yq_eval.specs.TreeScalars.{HasScalars, HaveScalars};
@@ -11,7 +11,7 @@ use crate::at_places::allowed_at;
 use crate::document::DocumentEffect;
 use crate::steps::{path_steps, step_below};
 use std::alloc::{AllocError, Global};
-use yq_core::{Step, copied_steps};
+use yq_core::Step;
 use yq_documents::{Documents, Path};
 use yq_eval::{FoundPlace, NodePath, NodeStep, owned, step_to};
 use yq_lookup::CutText;
@@ -26,6 +26,18 @@ struct ChildChanges<'d, 't> {
     node: Path,
     /// The path of each begins at the node.
     changes: Vec<PlacedChange>,
+}
+
+impl ChildChanges<'_, '_> {
+    /// The changes, after the last one.
+    fn ended(self) -> ChangesUnder
+        ensures changes { changes_under result ≡ changes_below (steps_of self.node) self.changes.items }
+        ensures same { result.changes.items ≡ self.changes.items }
+    {
+        let ChildChanges { node, changes, .. } = self;
+        let Path { steps: front, .. } = node;
+        ChangesUnder { front, changes }
+    }
 }
 
 /// Puts what is changed at the place of an item or value of the node, to which that step leads, after the changes
@@ -69,12 +81,11 @@ pub(crate) fn at_children<'a, 't>(
     ensures valid { GivesValid result }
 {
     let count = parent.node.count();
-    let front = path_steps(alloc, parent.path)?;
     let mut so_far = ChildChanges {
         cut: CutText::of(documents),
         node: Path {
             doc: effect.doc,
-            steps: copied_steps(alloc, &front)?,
+            steps: path_steps(alloc, parent.path)?,
         },
         changes: Vec::with_capacity(alloc, count)?,
     };
@@ -89,10 +100,7 @@ pub(crate) fn at_children<'a, 't>(
         push_below(alloc, effect, step, &place, &mut so_far)?;
         before += 1;
     }
-    Ok(ChangesUnder {
-        front,
-        changes: so_far.changes,
-    })
+    Ok(so_far.ended())
 }
 
 /// What is changed at each of places, if all are items or values of the node to which these steps lead.
@@ -111,20 +119,17 @@ pub(crate) fn at_each_below<'a, 't>(
         cut: CutText::of(documents),
         node: Path {
             doc: effect.doc,
-            steps: copied_steps(alloc, &front)?,
+            steps: front,
         },
         changes: Vec::with_capacity(alloc, places.len())?,
     };
     'places: for place in places {
-        let Some(step) = step_below(place.path, &front) else {
+        let Some(step) = step_below(place.path, &so_far.node.steps) else {
             return Ok(None);
         };
         push_below(alloc, effect, step, place, &mut so_far)?;
     }
-    Ok(Some(ChangesUnder {
-        front,
-        changes: so_far.changes,
-    }))
+    Ok(Some(so_far.ended()))
 }
 
 /// The steps to the node of which the first and the last one of places are items or values, if they are those of

@@ -67,6 +67,7 @@ returns-clause-changes c = λ root named within.
     c.children.before (left_of c.children.children) (changes_below (path_of c.args.parent.now.path) c.children.so_far.changes.items) _
     (none_counted (left_of c.children.children) (omega (arith, c.children.invariant.counted, c.children-test.false)))
     (c.children.invariant.so_far root named within)
+    ∙ ap gives (sym (c.ended.ensures.changes ∙ ap (λ xs. changes_below xs c.children.so_far.changes.items) c.children.invariant.steps))
 
 pub overflow_add-before : goal.overflow_add-before
 overflow_add-before c = omega (arith, c.children-test.true)

@@ -49,3 +49,4 @@ returns-clause-changes c = λ root named within.
     let f : FoundPlace → Judgement (List Changed) = λ q. and_then (all_allowed root) (effect_of c.args.effect.now c.args.documents.now q) in
     let past : length c.args.places.now ≤ c.places.place-index = omega (arith, c.places-test.false) in
     each_done place_of f (changes_below (map tree_step c.args.front.items) c.places.so_far.changes.items) c.args.places.now c.places.place-index _ past (c.places.invariant.so_far root named within)
+    ∙ ap gives (sym (c.ended.ensures.changes ∙ ap (λ xs. changes_below xs c.places.so_far.changes.items) c.places.invariant.steps))

@@ -11,11 +11,11 @@ abbrev pub invariant-places : goal.invariant-places
 invariant-places l = record {
   same : l.so_far.cut ≡ l.documents;
   doc : l.so_far.node.doc ≡ l.effect.doc;
-  steps : steps_of l.so_far.node ≡ map tree_step l.front.items;
+  steps : steps_of l.so_far.node ≡ map tree_step l.fn.front.items;
   valid : AreValidChanges l.so_far.changes.items;
   scalars : HaveScalars (places_of (drop l.place-index l.places));
   within : (root : Node) → AreIn root (places_of l.places) → AreIn root (places_of (drop l.place-index l.places));
   so_far : (root : Node) → HasAliases (names_of root) l.effect.aliases.now → AreIn root (places_of l.places) →
-      put_behind (changes_below (map tree_step l.front.items) l.so_far.changes.items) (at_each root (effect_of l.effect l.documents) (places_of (drop l.place-index l.places)))
+      put_behind (changes_below (map tree_step l.fn.front.items) l.so_far.changes.items) (at_each root (effect_of l.effect l.documents) (places_of (drop l.place-index l.places)))
       ≡ at_each root (effect_of l.effect l.documents) (places_of l.places);
 }
