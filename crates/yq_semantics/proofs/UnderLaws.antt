@@ -1,12 +1,13 @@
 -- Changes and operations at and below a node, and what they are by their paths from the root.
 use Rattle.std.proofs.Common.{rules, ◌≡◌, ℕ, Bool, true, false, List, [], ◌∷◌, ◌++◌, map, refl, sym, ap, ◌∙◌, append_assoc, append-nil}
 use Rattle.std.proofs.lemmas.List.{map-append}
-use Rattle.yq_core.specs.Paths.{Step}
+use Rattle.yq_core.{specs.Entries.tree_step, specs.Paths.Step}
 use Rattle.yq_semantics.specs.Changes.{Addition, appends, overwrites, Changed, replaces, adds, removes, sets_comment}
-use Rattle.yq_semantics.specs.Operations.{Operation, replace, append, remove, line_comment, head_comment, operations_of}
+use Rattle.yq_semantics.specs.Operations.{Operation, replace, append, remove, line_comment, head_comment, operation_of, operations_of}
 use Rattle.yq_semantics.{specs.Plans.{add_op, change_ops, ops_of, ordered}, proofs.Lists.map_reverse}
 use Rattle.yq_semantics.{specs.Under.{all_under, change_under, operation_under, ops_under, part_ops}, specs.declared.op.Op.Op}
 use Rattle.yq_semantics.specs.declared.under.OpsUnder.{OpsUnder}
+use Rattle.yq_core.specs.declared.path.Step as declared
 use Rattle.yq_semantics.specs.declared.program.CommentPlace.TheVariants as comments
 
 -- ---- at the root
@@ -29,6 +30,14 @@ same_ops (op ∷ ops) = λ i. same_op op i ∷ same_ops ops i
 -- operations are what they are by their own paths
 pub ops_whole : (ops : List Op) → ops_under [] ops ≡ operations_of ops
 ops_whole ops = same_ops (operations_of ops)
+
+-- ---- after others
+
+pub steps_behind : (xs ys : List declared.Step) → map tree_step (xs ++ ys) ≡ map tree_step xs ++ map tree_step ys
+steps_behind xs ys = map-append tree_step xs ys
+
+pub ops_behind : (xs ys : List Op) → operations_of (xs ++ ys) ≡ operations_of xs ++ operations_of ys
+ops_behind xs ys = map-append operation_of xs ys
 
 -- ---- operations of changes
 

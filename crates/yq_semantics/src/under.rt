@@ -21,6 +21,7 @@ pub struct OpsUnder {
 }
 
 /// Puts the same steps again after others.
+#[tactic(auto, using(crate::proofs::UnderLaws::steps_behind))]
 pub fn push_steps(alloc: Global, steps: &[Step], all: &mut Vec<Step>) -> Result<(), AllocError>
     ensures { spec.PutsSteps result all.old all.new steps.now }
 {
@@ -29,6 +30,7 @@ pub fn push_steps(alloc: Global, steps: &[Step], all: &mut Vec<Step>) -> Result<
 }
 
 /// The path from the root that one from a node is, to which these steps lead.
+#[tactic(auto, using(crate::proofs::UnderLaws::steps_behind))]
 fn whole_path(alloc: Global, front: &[Step], path: Path) -> Result<Path, AllocError>
     ensures doc { IfOk result (λ p. p.doc ≡ path.doc) }
     ensures steps { IfOk result (λ p. steps_of p ≡ map tree_step front.now ++ steps_of path) }
@@ -72,7 +74,7 @@ fn push_whole(
 }
 
 /// Puts the operations of a part after others, by their paths from the root.
-#[tactic(auto, using(crate::proofs::UnderLaws::ops_whole))]
+#[tactic(auto, using(crate::proofs::UnderLaws::ops_whole, crate::proofs::UnderLaws::ops_behind))]
 pub fn push_part(alloc: Global, part: OpsUnder, ops: &mut Vec<Op>) -> Result<(), AllocError>
     ensures { spec.PutsOps result ops.old ops.new (spec.part_ops part) }
 {
