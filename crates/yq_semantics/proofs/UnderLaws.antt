@@ -1,5 +1,5 @@
 -- Changes and operations at and below a node, and what they are by their paths from the root.
-use Rattle.std.proofs.Common.{rules, ◌≡◌, ℕ, Bool, true, false, List, [], ◌∷◌, ◌++◌, map, refl, sym, ap, ◌∙◌, append_assoc, append-nil}
+use Rattle.std.proofs.Common.{rules, ◌≡◌, ℕ, Bool, true, false, List, [], ◌∷◌, ◌++◌, map, refl, sym, ap, ◌∙◌, append_assoc, append-nil, arith, length}
 use Rattle.std.proofs.lemmas.List.{map-append}
 use Rattle.yq_core.{specs.Entries.tree_step, specs.Paths.Step}
 use Rattle.yq_semantics.specs.Changes.{Addition, appends, overwrites, Changed, replaces, adds, removes, sets_comment}
@@ -30,6 +30,13 @@ same_ops (op ∷ ops) = λ i. same_op op i ∷ same_ops ops i
 -- operations are what they are by their own paths
 pub ops_whole : (ops : List Op) → ops_under [] ops ≡ operations_of ops
 ops_whole ops = same_ops (operations_of ops)
+
+pub none_there : {X : Type 0} (xs : List X) → length xs ≡ 0 → xs ≡ []
+none_there [] none = refl
+none_there (x ∷ xs) none = absurd (omega (arith, none))
+
+pub part_at_root : (x : OpsUnder) → length x.front.items ≡ 0 → operations_of x.ops.items ≡ part_ops x
+part_at_root x root = sym (ap (λ (steps : List declared.Step). ops_under steps x.ops.items) (none_there x.front.items root) ∙ ops_whole x.ops.items)
 
 -- ---- after others
 

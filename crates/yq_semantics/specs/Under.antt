@@ -1,6 +1,5 @@
 -- Changes and operations at and below a node, whose paths begin there.
 use Rattle.std.{specs.Prelude.{◌≡◌, List, [], ◌∷◌, ◌++◌, map, IfOk, IfSome, OnOk, Option, Result}, specs.Global.Vec}
-use Rattle.std.specs.declared.alloc.Global.{Global}
 use Rattle.yq_core.{specs.Entries.tree_step, specs.Paths.Step}
 use Rattle.yq_semantics.{specs.Changes.Changed, specs.declared.op.Op.Op, specs.declared.under.OpsUnder.OpsUnder}
 use Rattle.yq_semantics.specs.Operations.{Operation, replace, append, remove, line_comment, head_comment, operation_of, operations_of}
@@ -36,13 +35,13 @@ all_under [] = []
 all_under (x ∷ xs) = part_ops x ++ all_under xs
 
 -- a success puts these steps after those that were there (own)
-abbrev pub PutsSteps : {T E : Type 0} → Result T E → (old new : Vec declared.Step Global) → List declared.Step → Type 0
+abbrev pub PutsSteps : {T E : Type 0} → Result T E → (old new : Vec declared.Step) → List declared.Step → Type 0
 PutsSteps r old new steps = OnOk r (map tree_step new.items ≡ map tree_step old.items ++ map tree_step steps)
 
 -- a success puts these operations after those that were there (own)
-abbrev pub PutsOps : {T E : Type 0} → Result T E → (old new : Vec Op Global) → List Operation → Type 0
+abbrev pub PutsOps : {T E : Type 0} → Result T E → (old new : Vec Op) → List Operation → Type 0
 PutsOps r old new ops = OnOk r (operations_of new.items ≡ operations_of old.items ++ ops)
 
 -- where an answer has operations, they are these (own)
-abbrev pub MayGiveOps : {E : Type 0} → Result (Option (Vec Op Global)) E → List Operation → Type 0
+abbrev pub MayGiveOps : {E : Type 0} → Result (Option (Vec Op)) E → List Operation → Type 0
 MayGiveOps r ops = IfOk r (λ o. IfSome o (λ v. operations_of v.items ≡ ops))

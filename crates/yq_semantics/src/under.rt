@@ -74,7 +74,6 @@ fn push_whole(
 }
 
 /// Puts the operations of a part after others, by their paths from the root.
-#[tactic(auto, using(crate::proofs::UnderLaws::ops_whole, crate::proofs::UnderLaws::ops_behind))]
 pub fn push_part(alloc: Global, part: OpsUnder, ops: &mut Vec<Op>) -> Result<(), AllocError>
     ensures { spec.PutsOps result ops.old ops.new (spec.part_ops part) }
 {
