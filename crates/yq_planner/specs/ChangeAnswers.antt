@@ -126,6 +126,10 @@ addition_ops path xs = map (add_op path.doc (steps_of path)) (map addition_of xs
 abbrev pub GivesOps : {E : Type 0} → Result (Vec OpsUnder Global) E → List Operation → Type 0
 GivesOps r ops = IfOk r (λ v. all_under v.items ≡ ops)
 
+-- a success puts these operations after those of the parts that were there
+abbrev pub PutsParts : {T E : Type 0} → Result T E → (old new : Vec OpsUnder Global) → List Operation → Type 0
+PutsParts r old new ops = OnOk r (all_under new.items ≡ all_under old.items ++ ops)
+
 -- the operations of the changes of a document, in the order in which they are made
 abbrev pub ops_in_order : ℕ → Bool → ChangesUnder → List Operation
 ops_in_order doc removal x = ops_of doc (ordered removal (changes_under x))

@@ -1,6 +1,6 @@
 -- Changes and operations at and below a node, and what they are by their paths from the root.
-use Rattle.std.proofs.Common.{rules, ◌≡◌, ℕ, Bool, true, false, List, [], ◌∷◌, ◌++◌, map, refl, sym, ap, ◌∙◌, append_assoc, append-nil, arith, length}
-use Rattle.std.proofs.lemmas.List.{map-append}
+use Rattle.std.proofs.Common.{rules, ◌≡◌, ℕ, Bool, true, false, List, [], ◌∷◌, ◌++◌, map, refl, sym, ap, ◌∙◌, append_assoc, append-nil}
+use Rattle.std.{proofs.Common.{arith, length}, proofs.lemmas.List.map-append}
 use Rattle.yq_core.{specs.Entries.tree_step, specs.Paths.Step}
 use Rattle.yq_semantics.specs.Changes.{Addition, appends, overwrites, Changed, replaces, adds, removes, sets_comment}
 use Rattle.yq_semantics.specs.Operations.{Operation, replace, append, remove, line_comment, head_comment, operation_of, operations_of}

@@ -2,7 +2,7 @@
 ghost use Rattle.std.specs.Prelude.{◌≡◌, IfOk, map, string_bytes};
 ghost use Rattle.yq_documents.specs.Located.{steps_of};
 ghost use Rattle.yq_planner.specs.ChangeView.{all_changes_under, changed_of, changes_under};
-ghost use Rattle.yq_planner.specs.ChangeAnswers.{addition_op, addition_ops, ops_in_order, GivesOps};
+ghost use Rattle.yq_planner.specs.ChangeAnswers.{addition_op, addition_ops, ops_in_order, GivesOps, PutsParts};
 ghost use Rattle.yq_semantics.{specs.Operations.operation_of, specs.Under.{part_ops, PutsOps}};
 ghost use Rattle.yq_semantics.specs.Plans as spec;
 
@@ -133,6 +133,21 @@ pub fn push_changes(
     push_part(alloc, part, ops)
 }
 
+/// Puts the operations of the changes of document `doc` after those of others.
+#[tactic(auto, using(yq_semantics::proofs::UnderLaws::parts_more))]
+fn push_document(
+    alloc: Global,
+    doc: usize,
+    removal: bool,
+    changed: ChangesUnder,
+    parts: &mut Vec<OpsUnder>,
+) -> Result<(), AllocError>
+    ensures { PutsParts result parts.old parts.new (ops_in_order doc removal changed) }
+{
+    let part = document_ops(alloc, doc, removal, changed)?;
+    Ok(parts.push(part)?)
+}
+
 /// The operations of the changes of each document, in order.
 pub fn operations(
     alloc: Global,
@@ -141,10 +156,10 @@ pub fn operations(
 ) -> Result<Vec<OpsUnder>, AllocError>
     ensures { GivesOps result (spec.all_ops removal 0 (all_changes_under changes.items)) }
 {
-    let mut parts = Vec::with_capacity(alloc, changes.len())?;
+    let mut parts = Vec::new(alloc);
     let mut doc = 0;
     'documents: for changed in changes {
-        parts.push(document_ops(alloc, doc, removal, changed)?)?;
+        push_document(alloc, doc, removal, changed, &mut parts)?;
         doc += 1;
     }
     Ok(parts)

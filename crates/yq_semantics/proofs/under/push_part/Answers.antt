@@ -1,5 +1,5 @@
 use Rattle.std.{proofs.Common.{rules, ◌≡◌, ◌++◌, ◌∙◌, List, Vec, length, sym, ap, subst, eqb-true}, specs.declared.alloc.Global.Global}
-use Rattle.yq_semantics.{specs.Operations.{operations_of}, specs.Under.{part_ops, PutsOps}, specs.declared.op.Op.Op}
+use Rattle.yq_semantics.{specs.Operations.operations_of, specs.Under.{part_ops, PutsOps}, specs.declared.op.Op.Op}
 use Rattle.yq_semantics.proofs.UnderLaws.{none_there, ops_behind, part_at_root}
 use Rattle.yq_semantics.proofs.under.push_part.Goals as goal
 
