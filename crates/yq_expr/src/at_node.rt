@@ -31,8 +31,8 @@ struct ChildChanges<'d, 't> {
 impl ChildChanges<'_, '_> {
     /// The changes, after the last one.
     fn ended(self) -> ChangesUnder
-        ensures changes { changes_under result ≡ changes_below (steps_of self.node) self.changes.items }
-        ensures same { result.changes.items ≡ self.changes.items }
+        ensures changes { changes_under result ≡ changes_below (steps_of self.entry.node) self.entry.changes.items }
+        ensures same { result.changes.items ≡ self.entry.changes.items }
     {
         let ChildChanges { node, changes, .. } = self;
         let Path { steps: front, .. } = node;

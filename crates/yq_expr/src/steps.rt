@@ -41,7 +41,7 @@ pub fn path_steps(alloc: Global, path: NodePath<'_>) -> Result<Vec<Step>, AllocE
 
 /// Whether a step is that one.
 fn is_step(step: NodeStep<'_>, other: &Step) -> bool
-    ensures { IsTrue result → node_step_of step ≡ tree_step other.now }
+    ensures { IsTrue result → node_step_of step.entry ≡ tree_step other.now }
 {
     match (step, other) {
         (NodeStep::Key(key), Step::Key(other)) => key == other.as_str(),
