@@ -54,3 +54,4 @@ pub mod RowOpens
 pub mod RowAdds
 pub mod RowEndAnswers
 pub mod RowOpenAnswers
+pub mod UnderLaws

@@ -1,26 +1,30 @@
 -- Runs of items and entries that are taken out with their lines, as the code makes them.
-use Rattle.std.proofs.Common.{◌≡◌, ℕ, zero, suc, ◌+◌, ◌-◌, ◌≤◌, ◌<◌, ◌^◌, true, List, [], ◌∷◌, ◌++◌, length, take, drop, slice_get}
-use Rattle.std.proofs.Common.{slice_index_or, Option, Some, option_map, sym, ap, ◌∙◌, subst, arith, length-append, append_assoc}
+use Rattle.std.proofs.Common.{◌≡◌, ℕ, zero, suc, ◌+◌, ◌-◌, ◌≤◌, ◌<◌, ◌^◌, true, List, [], ◌∷◌, ◌++◌, length, map, take, drop, slice_get}
+use Rattle.std.proofs.Common.{rules, slice_index_or, Option, Some, option_map, sym, ap, ◌∙◌, subst, arith, length-append, append_assoc}
 use Rattle.std.{proofs.Math.Seq.take-append_seam, proofs.lemmas.Option.{none-some, same_Some}, specs.Str.{IsCharBoundary, IsUtf8}}
 use Rattle.std.proofs.lemmas.Str.{IsCharBoundary-from_take, IsUtf8-append}
 use Rattle.yq_text.{specs.Limit.text_limit, specs.Script.splice_at, specs.Splice.Splice, specs.TextGapBuffer.buffer_text}
-use Rattle.yq_core.{specs.Answers.◌>>=◌, specs.Paths.{Step, node_at}, proofs.Bools.bind_some}
+use Rattle.yq_core.{specs.Answers.◌>>=◌, specs.Entries.tree_step, specs.Paths.{Step, node_at}, proofs.Bools.bind_some}
 use Rattle.yq_row_table.specs.Rows.{Cut, cut_text}
 use Rattle.yq_documents.{specs.Documents.Document, specs.Reading.{cut_of, documents, read_at}, specs.TreeEdits.change_nth}
 use Rattle.yq_documents.{proofs.ReadLaws.parts_read, specs.Located.steps_of, specs.declared.path.Path.Path}
 use Rattle.yq_places.{specs.PlacedRows.{PlacedPart, placed_document}, proofs.PlacedPartLaws.map_some}
 use Rattle.yq_places.specs.RemovalPlaces.{OwnRows, Removal, has_others_at, has_several, own_rows, removal_place, rows_out}
+use Rattle.yq_places.specs.Standings.{last_step}
 use Rattle.yq_edit_rules.proofs.RemovalChangeLaws.{removal_stands, snoc, take_init}
 use Rattle.yq_semantics.{specs.After.{after_op, done_to}, specs.Changes.Room, specs.Fits.Fits, specs.Rooms.room_of}
-use Rattle.yq_semantics.{specs.Operations.{Operation, operation_of, operations_of, remove}, specs.declared.op.Op.Op}
+use Rattle.yq_semantics.{specs.Operations.{Operation, remove}, specs.Under.{op_under, operation_under, ops_under}, specs.declared.op.Op.Op}
 use Rattle.yq_semantics.specs.Judgement.{ExprError}
-use Rattle.yq_edit_laws.{proofs.ApplyLaws.applied_by, proofs.CutLaws.{text_read, text_small}, proofs.FlowSoundLaws.last_is}
-use Rattle.yq_edit_laws.{proofs.TextFaults.text_utf8, specs.Answers.EditFails, specs.Carried.carried, specs.Edit.gives}
-use Rattle.yq_edit_laws.{specs.Theorems.IsFitting, specs.Valid.AreServed}
-use Rattle.yq_batch.{specs.RemovalRuns.{HasExchanged, ExchangeFails, text_exchanged}, specs.declared.removals.RemovalRun.RemovalRun}
+use Rattle.yq_batch.{specs.Under.op_at, specs.RemovalRuns.{HasExchanged, ExchangeFails, text_exchanged}}
+use Rattle.yq_batch.specs.declared.removals.RemovalRun.{RemovalRun}
 use Rattle.yq_batch.specs.RowRemovals.{HasOthersNow, IsLeast, IsRowRemovalRun, RemovesBeside, RemovesRows, RemovesRowsOn, StaysAt}
 use Rattle.yq_batch.{specs.RowRemovals.{TakesFirst, above_of, removal_of}, proofs.OthersFollow.others_follow, proofs.RowRunGoesOn.goes_on}
 use Rattle.yq_batch.proofs.RunEdits.{fits_now}
+use Rattle.yq_edit_laws.{proofs.ApplyLaws.applied_by, proofs.CutLaws.{text_read, text_small}, proofs.FlowSoundLaws.last_is}
+use Rattle.yq_edit_laws.{proofs.TextFaults.text_utf8, specs.Answers.EditFails, specs.Carried.carried, specs.Edit.gives}
+use Rattle.yq_edit_laws.{specs.Theorems.IsFitting, specs.Valid.AreServed}
+use Rattle.yq_core.specs.declared.path.Step as declared
+use Rattle.yq_semantics.specs.declared.op.Op.TheVariants as ops
 use Rattle.yq_failure.specs.declared.failure.Failure.TheVariants as failure
 use Rattle.yq_batch.proofs.RowsTaken as taken
 
@@ -237,30 +241,52 @@ two_apart [] a b some at be = absurd (omega (arith, some))
 two_apart (x ∷ []) a b some at be = absurd (omega (arith, some))
 two_apart (x ∷ (y ∷ os)) a b some at be = (os, λ i. sym at i ∷ (sym be i ∷ os))
 
--- what they take out
-module _ (ops : List Op) (n : ℕ) (above : List Step) (p : Path) (h : TakesFirst ops n above p) where
-  steps_are : steps_of p ≡ above ++ (h.takes.2.0 ∷ [])
-  steps_are = last_is (steps_of p) above h.takes.2.0 h.takes.2.1
+-- an operation that means a removal at a path removes what is there
+at_removal : (o : Op) (p : Path) (n : ℕ) (steps : List Step) → op_at p o ≡ remove n steps → (p.doc ≡ n) × (steps_of p ≡ steps)
+at_removal (ops.Replace own v) p n steps is = absurd (cc)
+at_removal (ops.Append own key v) p n steps is = absurd (cc)
+at_removal (ops.Remove own) p n steps is = search rules
+at_removal (ops.LineComment own text) p n steps is = absurd (cc)
+at_removal (ops.HeadComment own text) p n steps is = absurd (cc)
 
-  above_is : above_of (steps_of p) ≡ above
-  above_is = ap above_of steps_are ∙ take_init above h.takes.2.0
+-- what they take out, at a path from the root
+module _ (front : List declared.Step) (ops : List Op) (n : ℕ) (above : List Step) (o : Op) (h : TakesFirst ops n above o) (p : Path) (x : Op)
+    (there : op_at p x ≡ op_under front o) where
+  abbrev last : Step
+  last = h.takes.1.1.0
 
-  pub first_is : operation_of h.op ≡ removal_of p
-  first_is = h.takes.0 ∙ ap (λ (j : ℕ). remove j (steps_of p)) (sym h.takes.1)
+  abbrev inside : List Step
+  inside = map tree_step front ++ above
 
-  pub others_beside : (text : List ℕ) → AreServed (operations_of ops) text → HasOthersNow p.doc (steps_of p) text
+  front_is : (steps : List Step) (s : Step) → last_step steps ≡ Some (above, s) → map tree_step front ++ steps ≡ inside ++ (s ∷ [])
+  front_is steps s is = ap (λ (ss : List Step). map tree_step front ++ ss) (last_is steps above s is) ∙ sym (append_assoc (map tree_step front) above (s ∷ []))
+
+  first : op_under front o ≡ remove n (inside ++ (last ∷ []))
+  first = ap (operation_under (map tree_step front)) h.takes.1.0 ∙ ap (remove n) (front_is h.takes.0 last h.takes.1.1.1)
+
+  own : (p.doc ≡ n) × (steps_of p ≡ inside ++ (last ∷ []))
+  own = at_removal x p n (inside ++ (last ∷ [])) (there ∙ first)
+
+  above_is : above_of (steps_of p) ≡ inside
+  above_is = ap above_of own.1 ∙ take_init inside last
+
+  pub first_is : op_under front o ≡ removal_of p
+  first_is = first ∙ λ i. remove (sym own.0 i) (sym own.1 i)
+
+  pub others_beside : (text : List ℕ) → AreServed (ops_under front ops) text → HasOthersNow p.doc (steps_of p) text
   others_beside text served =
-      let first : operation_of h.op ≡ remove n (above ++ (h.takes.2.0 ∷ [])) = h.takes.0 ∙ ap (remove n) steps_are in
-      let second : operation_of h.next ≡ remove n (above ++ (h.next_takes.2.0 ∷ [])) = h.next_takes.0 ∙ ap (remove n) (last_is (steps_of h.other) above h.next_takes.2.0 h.next_takes.2.1) in
-      let both = subst (λ (os : List Operation). AreServed os text) (ap operations_of h.ops_are ∙ λ i. first i ∷ (second i ∷ operations_of h.rest)) served in
-      subst (λ (j : ℕ). HasOthersNow j (steps_of p) text) (sym h.takes.1)
-      (subst (λ (zs : List Step). HasOthersNow n zs text) (sym steps_are) (others_now n above h.takes.2.0 h.next_takes.2.0 (operations_of h.rest) text both))
+      let second : op_under front h.next ≡ remove n (inside ++ (h.next_takes.1.1.0 ∷ [])) =
+      ap (operation_under (map tree_step front)) h.next_takes.1.0 ∙ ap (remove n) (front_is h.next_takes.0 h.next_takes.1.1.0 h.next_takes.1.1.1) in
+      let both = subst (λ (os : List Operation). AreServed os text) (ap (ops_under front) h.ops_are ∙ λ i. first i ∷ (second i ∷ ops_under front h.rest)) served in
+      subst (λ (j : ℕ). HasOthersNow j (steps_of p) text) (sym own.0)
+      (subst (λ (zs : List Step). HasOthersNow n zs text) (sym own.1) (others_now n inside last h.next_takes.1.1.0 (ops_under front h.rest) text both))
 
-  pub run_there : (c : Cut) (least : Option ℕ) (r : RemovalRun) → RemovesRows c n above least r → RemovesBeside p c least r
+  pub run_there : (c : Cut) (least : Option ℕ) (r : RemovalRun) → RemovesRows c n inside least r → RemovesBeside p c least r
   run_there c least r run =
-      subst (λ (zs : List Step). RemovesRows c p.doc zs least r) (sym above_is) (subst (λ (j : ℕ). RemovesRows c j above least r) (sym h.takes.1) run)
+      subst (λ (zs : List Step). RemovesRows c p.doc zs least r) (sym above_is) (subst (λ (j : ℕ). RemovesRows c j inside least r) (sym own.0) run)
 
-  pub first_on : (c : Cut) (before : RemovalRun) (least : Option ℕ) (after : RemovalRun) → RemovesRowsOn (removal_of p) c p.doc (above_of (steps_of p)) before least after → RemovesRowsOn (operation_of h.op) c n above before least after
+  pub first_on : (c : Cut) (before : RemovalRun) (least : Option ℕ) (after : RemovalRun) → RemovesRowsOn (removal_of p) c p.doc (above_of (steps_of p)) before least after →
+      RemovesRowsOn (op_under front o) c n inside before least after
   first_on c before least after on =
-      let here : RemovesRowsOn (removal_of p) c p.doc above before least after = subst (λ (zs : List Step). RemovesRowsOn (removal_of p) c p.doc zs before least after) above_is on in
-      subst (λ (o : Operation). RemovesRowsOn o c n above before least after) (sym first_is) (subst (λ (j : ℕ). RemovesRowsOn (removal_of p) c j above before least after) h.takes.1 here)
+      let here : RemovesRowsOn (removal_of p) c p.doc inside before least after = subst (λ (zs : List Step). RemovesRowsOn (removal_of p) c p.doc zs before least after) above_is on in
+      subst (λ (x : Operation). RemovesRowsOn x c n inside before least after) (sym first_is) (subst (λ (j : ℕ). RemovesRowsOn (removal_of p) c j inside before least after) own.0 here)

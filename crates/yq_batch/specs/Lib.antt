@@ -3,6 +3,7 @@ pub mod Runs
 pub mod FilledRuns
 pub mod RowRuns
 pub mod Together
+pub mod Under
 pub mod HeadRuns
 pub mod RemovalRuns
 pub mod LeftItems

@@ -71,19 +71,17 @@ pub record RemovesRows (c : Cut) (n : ℕ) (above : List Step) (least : Option �
 abbrev pub LeadsInto : (above steps : List Step) → Type 0
 LeadsInto above steps = (s : Step) × (last_step steps ≡ Some (above, s))
 
--- an operation takes what is at a path out of the collection to which steps lead (own)
-abbrev pub TakesFrom : Op → ℕ → (above : List Step) → Path → Type 0
-TakesFrom op n above p = (operation_of op ≡ remove n (steps_of p)) × (p.doc ≡ n) × LeadsInto above (steps_of p)
+-- an operation takes something out of the collection to which steps lead (own)
+abbrev pub TakesFrom : Op → ℕ → (above : List Step) → Type 0
+TakesFrom op n above = (steps : List Step) × ((operation_of op ≡ remove n steps) × LeadsInto above steps)
 
--- The first of some operations takes what is at a path out of the collection to which steps lead, and the next one something else (own).
-pub record TakesFirst (ops : List Op) (n : ℕ) (above : List Step) (p : Path) : Type 0 where
-  pub op : Op
+-- The first of some operations takes something out of the collection to which steps lead, and the next one something else (own).
+pub record TakesFirst (ops : List Op) (n : ℕ) (above : List Step) (op : Op) : Type 0 where
   pub next : Op
   pub rest : List Op
   pub ops_are : ops ≡ op ∷ (next ∷ rest)
-  pub takes : TakesFrom op n above p
-  pub other : Path
-  pub next_takes : TakesFrom next n above other
+  pub takes : TakesFrom op n above
+  pub next_takes : TakesFrom next n above
 
 -- the steps of a path but the last one (own)
 abbrev pub above_of : List Step → List Step

@@ -10,9 +10,10 @@ use Rattle.yq_places.{specs.FirstBreak.first_break, specs.Standings.{RowsOfEntry
 use Rattle.yq_edit_rules.{specs.RowStays.{IsBehind, StandsStill}, specs.Edits.op_edits, specs.Operands.HasOperand}
 use Rattle.yq_edit_rules.{specs.Replacing.keeps_scalar, specs.RowChanges.{ChangesRow, PutsOne}, specs.WrittenValues.value_text}
 use Rattle.yq_semantics.{specs.After.op_document, specs.Fits.Fits, specs.Rooms.room_of}
-use Rattle.yq_semantics.specs.Operations.{Operation, append, head_comment, line_comment, remove, replace}
+use Rattle.yq_semantics.{specs.Operations.{Operation, append, head_comment, line_comment, remove, replace}, specs.declared.op.Op.Op}
 use Rattle.yq_edit_laws.{specs.Carried.carried, specs.Edit.gives, specs.Theorems.IsApplied}
-use Rattle.yq_batch.{specs.Runs.{now_text, text_with_run}, specs.declared.row_put.RowPut.RowPut, specs.declared.run.PutRun.PutRun}
+use Rattle.yq_batch.{specs.Under.op_at, specs.Runs.{now_text, text_with_run}, specs.declared.row_put.RowPut.RowPut}
+use Rattle.yq_batch.specs.declared.run.PutRun.{PutRun}
 
 -- ---- runs
 
@@ -91,6 +92,10 @@ WritesSameBreak (head_comment n steps text) t u = is_empty text ≡ false → fi
 -- the same of a text that was read, and of that with what a run made of it (own)
 abbrev pub KeepsBreak : Operation → Cut → PutRun → Type 0
 KeepsBreak op c r = WritesSameBreak op (cut_text c) (now_text c r)
+
+-- the same of an operation of the code, at whichever path it is (own)
+abbrev pub KeepsBreakAt : Op → Cut → PutRun → Type 0
+KeepsBreakAt op c r = (p : Path) → KeepsBreak (op_at p op) c r
 
 -- an operation puts a text, or leaves all bytes alone, wherever the item or entry is still and lines end by the same break (own)
 abbrev pub PutsWhereStill : Operation → List ℕ → RowsOfEntry → List Step → (old behind : List ℕ) → Option (List ℕ) → Type 0

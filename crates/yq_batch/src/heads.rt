@@ -14,6 +14,7 @@ use crate::head::{FoundHead, HeadInText, head_for, is_in_head};
 use crate::in_rows::is_behind;
 use crate::near::Near;
 use crate::together::Together;
+use crate::under::path_of;
 use crate::unordered::put_in_any_order;
 use std::alloc::{AllocError, Global};
 use yq_core::{Step, copied_steps};
@@ -74,14 +75,6 @@ fn put_in_found<'s>(
         head,
     };
     put_in_head(alloc, &at, ops, run)
-}
-
-/// The path of an operation.
-fn path_of(op: &Op) -> &Path {
-    match op {
-        Op::Replace(path, _) | Op::Append(path, _, _) | Op::Remove(path) => path,
-        Op::LineComment(path, _) | Op::HeadComment(path, _) => path,
-    }
 }
 
 /// The row of the item or entry to which steps lead, if the node of that is inline in it.

@@ -22,7 +22,8 @@ mod run;
 mod slot_order;
 mod slots;
 mod together;
+mod under;
 mod unordered;
 mod written_keys;
 
-pub use together::{Together, carry_together};
+pub use together::{Together, carry_together, carry_under};

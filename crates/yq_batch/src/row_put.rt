@@ -4,10 +4,12 @@ ghost use Rattle.yq_text.specs.Limit.{text_limit};
 ghost use Rattle.yq_core.specs.Values.{value_node};
 ghost use Rattle.yq_documents.{specs.Located.steps_of, specs.Reading.cut_of};
 ghost use Rattle.yq_places.{specs.NodesAt.node_in, specs.StandingViews.IsHeldRow};
-ghost use Rattle.yq_semantics.specs.Operations.{head_comment, line_comment, operation_of, replace};
+ghost use Rattle.yq_semantics.specs.Operations.{head_comment, line_comment, replace};
 ghost use Rattle.yq_edit_rules.specs.Operands.{HasOperand};
+ghost use Rattle.yq_batch.specs.Under.{op_meant};
 ghost use Rattle.yq_batch.specs.RowRuns as spec;
 
+use crate::under::{OpAt, go_to};
 use std::alloc::{AllocError, Global};
 use yq_block_edits::{comment_written, head_comment_written, is_kept_in_row};
 use yq_core::{Place, Value};
@@ -159,24 +161,25 @@ fn comment_above_row(
 pub(crate) fn row_put<'d>(
     alloc: Global,
     cut: &mut CutText<'d, '_>,
-    op: &'d Op,
+    at: OpAt<'d, '_>,
 ) -> Result<Option<RowPut>, AllocError>
-    requires { HasOperand (operation_of op.now) }
+    requires { HasOperand (op_meant at) }
     ensures same { cut.new ≡ cut.old }
-    ensures puts { IfOk result (λ o. IfSome o (spec.PutsInRow (operation_of op.now)
+    ensures puts { IfOk result (λ o. IfSome o (spec.PutsInRow (op_meant at.entry)
         (cut_of cut.old))) }
 {
-    match op {
-        Op::Replace(path, value) => match cut.to_held_row(alloc, path) {
-            Some(at) => value_in_row(alloc, cut, path, &at, value),
+    let path = at.path;
+    match at.op {
+        Op::Replace(_, value) => match cut.to_held_row(alloc, path) {
+            Some(row) => value_in_row(alloc, cut, path, &row, value),
             None => Ok(None),
         },
-        Op::LineComment(path, text) => match cut.to_held_row(alloc, path) {
-            Some(at) => comment_in_row(alloc, cut, path, &at, text),
+        Op::LineComment(_, text) => match cut.to_held_row(alloc, path) {
+            Some(row) => comment_in_row(alloc, cut, path, &row, text),
             None => Ok(None),
         },
-        Op::HeadComment(path, text) => {
-            cut.go_to_line(alloc, path);
+        Op::HeadComment(_, text) => {
+            go_to(alloc, cut, at);
             comment_above_row(alloc, cut, path, text)
         }
         Op::Append(_, _, _) | Op::Remove(_) => Ok(None),

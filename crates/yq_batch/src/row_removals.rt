@@ -1,18 +1,19 @@
 //! Items and entries that an update takes out of one block collection with their lines, one before the other:
 //! they are carried out together, on the rows as they were read.
-ghost use Rattle.std.specs.Prelude.{◌≡◌, true, map, option_map, IfErr, IfOk, IfSome, None};
+ghost use Rattle.std.specs.Prelude.{◌≡◌, true, map, option_map, IfErr, IfOk, IfSome, IsTrue, None};
 ghost use Rattle.yq_core.specs.Entries.{tree_step};
 ghost use Rattle.yq_text.specs.TextGapBuffer.{buffer_text};
 ghost use Rattle.yq_documents.{specs.Located.steps_of, specs.Reading.cut_of};
 ghost use Rattle.yq_places.specs.RemovalReading.{seam_view};
-ghost use Rattle.yq_semantics.specs.Operations.{operations_of};
+ghost use Rattle.yq_semantics.{specs.Operations.operations_of, specs.Under.ops_under};
 ghost use Rattle.yq_edit_laws.{specs.Answers.EditFails, specs.Carried.carry_all, specs.Theorems.IsFitting, specs.Valid.AreServed};
-ghost use Rattle.yq_batch.specs.Together.{CarriesFirst};
+ghost use Rattle.yq_batch.{specs.Together.CarriesFirst, specs.Under.CarriesUnder};
 ghost use Rattle.yq_batch.specs.RowRemovals as spec;
 
 use crate::change::are_same_steps;
 use crate::removals::{RemovalRun, ended, exchange, untouched};
 use crate::together::Together;
+use crate::under::{go_to, lead_on, path_to, placed};
 use std::alloc::Global;
 use yq_core::lines::split_line;
 use yq_core::{Step, behind_spaces, ends_line, first_is, is_blank, spaces_len};
@@ -22,37 +23,37 @@ use yq_lookup::CutText;
 use yq_places::{Seam, is_text};
 use yq_semantics::{ExprError, Op};
 
-/// The path of the item or entry that an operation takes out of the collection at some steps, if it does.
-fn taken_from<'o>(op: &'o Op, doc: usize, above: &[Step]) -> Option<&'o Path>
-    ensures { IfSome result (λ p. spec.TakesFrom op.now doc (map tree_step above.now) p.now) }
+/// Whether an operation takes an item or entry out of the collection at some steps.
+fn takes_from(op: &Op, doc: usize, above: &[Step]) -> bool
+    ensures { IsTrue result → spec.TakesFrom op.now doc (map tree_step above.now) }
 {
     let Op::Remove(path) = op else {
-        return None;
+        return false;
     };
     let Some((steps, _)) = last_step(&path.steps) else {
-        return None;
+        return false;
     };
-    if path.doc != doc || !are_same_steps(steps, above) {
-        return None;
+    if path.doc != doc {
+        return false;
     }
-    Some(path)
+    are_same_steps(steps, above)
 }
 
-/// The path of the item or entry that the first of some operations takes out of the collection at some steps, if
-/// the next one takes out another one.
-fn taken_beside<'o>(ops: &'o [Op], doc: usize, above: &[Step]) -> Option<&'o Path>
-    ensures { IfSome result (λ p. spec.TakesFirst ops.now doc (map tree_step above.now) p.now) }
+/// The first of some operations, if it takes an item or entry out of the collection at some steps, and the next one
+/// another one.
+fn taken_beside<'o>(ops: &'o [Op], doc: usize, above: &[Step]) -> Option<&'o Op>
+    ensures { IfSome result (λ op. spec.TakesFirst ops.now doc (map tree_step above.now) op.now) }
 {
     let [op, next, ..] = ops else {
         return None;
     };
-    let Some(path) = taken_from(op, doc, above) else {
+    if !takes_from(op, doc, above) {
         return None;
-    };
-    let Some(_after) = taken_from(next, doc, above) else {
+    }
+    if !takes_from(next, doc, above) {
         return None;
-    };
-    Some(path)
+    }
+    Some(op)
 }
 
 /// Whether only spaces are in front of the break of a blank line, and no tab after the spaces in front of a
@@ -105,23 +106,21 @@ fn stays_at(seam: Option<Seam>, least: Option<usize>) -> bool
 
 /// Carries out the removal of an item or entry on the text of a run, if its lines are before those that were
 /// taken out, and nothing else changes; and reports which indentation the gap after it then asks for.
-fn take_rows<'d>(
+fn take_rows(
     alloc: Global,
-    cut: &mut CutText<'d, '_>,
-    path: &'d Path,
+    cut: &CutText<'_, '_>,
+    path: &Path,
     least: Option<usize>,
     run: &mut RemovalRun,
 ) -> Result<Option<Option<usize>>, ExprError>
-    requires run { spec.RemovesBeside path.now (cut_of cut.old) least run.old }
+    requires run { spec.RemovesBeside path.now (cut_of cut.now) least run.old }
     requires others { spec.HasOthersNow path.now.doc (steps_of path.now)
         (buffer_text run.old.text) }
     requires fits { IsFitting (spec.removal_of path.now) (buffer_text run.old.text) }
-    ensures same { cut.new ≡ cut.old }
-    ensures ok { IfOk result (λ o. spec.GoesOnWithout path.now (cut_of cut.old) run.old o run.new) }
+    ensures ok { IfOk result (λ o. spec.GoesOnWithout path.now (cut_of cut.now) run.old o run.new) }
     ensures stays { IfOk result (λ o. o ≡ None → run.new ≡ run.old) }
     ensures err { IfErr result (λ e. spec.FailsOn e (spec.removal_of path.now) run.old) }
 {
-    cut.go_to_line(alloc, path);
     let _text = cut.text();
     let Some(removal) = cut.removal(path) else {
         return Ok(None);
@@ -138,28 +137,35 @@ fn take_rows<'d>(
     Ok(Some(next))
 }
 
-/// Carries out operations that take items and entries out of a collection with their lines, one before the
-/// other, up to the first one that doesn't, or after which none of these follows.
-pub(crate) fn remove_rows<'d, 'o: 'd>(
+/// Carries out operations at and below a node that take items and entries out of a collection with their lines, one
+/// before the other, up to the first one that doesn't, or after which none of these follows. First come the steps to
+/// the node; the collection is that of a document to which others lead on from there.
+pub(crate) fn remove_under<'d, 'o: 'd>(
     alloc: Global,
     cut: &CutText<'d, '_>,
-    doc: usize,
-    above: &[Step],
+    front: &[Step],
+    from: (usize, &[Step]),
     ops: &'o [Op],
 ) -> Result<Together<'o>, ExprError>
-    requires { AreServed (operations_of ops.now) cut.now }
-    ensures ok { IfOk result (λ x. CarriesFirst ops.now cut.now x) }
-    ensures err { IfErr result (λ e. EditFails e (carry_all (operations_of ops.now) cut.now)) }
+    requires { AreServed (ops_under front.now ops.now) cut.now }
+    ensures ok { IfOk result (CarriesUnder front.now ops.now cut.now) }
+    ensures err { IfErr result (λ e. EditFails e
+        (carry_all (ops_under front.now ops.now) cut.now)) }
 {
+    let (doc, above) = from;
     let mut way = cut.again();
     let mut run = untouched(alloc, cut.text())?;
+    let mut path = path_to(alloc, front)?;
     let mut least = Some(0);
     let mut rest = ops;
     'operations: while let [_, after @ ..] = rest {
-        let Some(path) = taken_beside(rest, doc, above) else {
+        let Some(op) = taken_beside(rest, doc, above) else {
             return Ok(ended(run, rest));
         };
-        let Some(next) = take_rows(alloc, &mut way, path, least, &mut run)? else {
+        lead_on(alloc, front, &mut path, op)?;
+        let at = placed(front, &path, op);
+        go_to(alloc, &mut way, at);
+        let Some(next) = take_rows(alloc, &way, at.path, least, &mut run)? else {
             return Ok(ended(run, rest));
         };
         least = next;
@@ -168,10 +174,27 @@ pub(crate) fn remove_rows<'d, 'o: 'd>(
     Ok(ended(run, rest))
 }
 
+/// The same of operations with their paths from the root on.
+#[tactic(auto, using(yq_semantics::proofs::UnderLaws::ops_whole, crate::proofs::UnderLaws::first_whole))]
+pub(crate) fn remove_rows<'d, 'o: 'd>(
+    alloc: Global,
+    cut: &CutText<'d, '_>,
+    from: (usize, &[Step]),
+    ops: &'o [Op],
+) -> Result<Together<'o>, ExprError>
+    requires { AreServed (operations_of ops.now) cut.now }
+    ensures ok { IfOk result (CarriesFirst ops.now cut.now) }
+    ensures err { IfErr result (λ e. EditFails e (carry_all (operations_of ops.now) cut.now)) }
+{
+    remove_under(alloc, cut, &[], from, ops)
+}
+
 /// The steps to the collection out of which an operation takes what is at a path, if the next one takes something out of
 /// it too.
 pub(crate) fn common_collection<'o>(path: &'o Path, next: &Op) -> Option<&'o [Step]> {
     let (above, _) = last_step(&path.steps)?;
-    taken_from(next, path.doc, above)?;
+    if !takes_from(next, path.doc, above) {
+        return None;
+    }
     Some(above)
 }

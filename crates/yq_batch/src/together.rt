@@ -1,16 +1,16 @@
 //! Operations carried out together: how is found once, of the first one and of which others there are.
 ghost use Rattle.std.specs.Prelude.{IfErr, IfOk, IfSome, List, ℕ};
-ghost use Rattle.yq_semantics.specs.Operations.{operations_of};
+ghost use Rattle.yq_semantics.{specs.Operations.operations_of, specs.Under.ops_under};
 ghost use Rattle.yq_edit_laws.{specs.Answers.EditFails, specs.Carried.carry_all, specs.Valid.AreServed};
-ghost use Rattle.yq_batch.specs.Runs.{IsFoundHead};
+ghost use Rattle.yq_batch.{specs.Runs.IsFoundHead, specs.Under.MayCarryUnder};
 ghost use Rattle.yq_batch.specs.Together as spec;
 
 use crate::any_row::carry_in_any_row;
 use crate::head::{FoundHead, HeadInText, head_for, is_in_head};
 use crate::heads::put_in_heads;
-use crate::in_rows::carry_in_rows;
+use crate::in_rows::{carry_in_rows, put_under};
 use crate::removals::remove_each;
-use crate::row_removals::{common_collection, remove_rows};
+use crate::row_removals::{common_collection, remove_rows, remove_under};
 use std::alloc::{AllocError, Global};
 use yq_core::Step;
 use yq_lookup::CutText;
@@ -81,7 +81,24 @@ fn how_in_rows<'o, 't>(ops: &[Op]) -> Option<HowCarried<'o, 't>>
     Some(HowCarried::InRows)
 }
 
-/// How operations are carried out together, if they may be: by what the first one changes, and which others there are.
+/// How operations are carried out together outside flow collections, if they may be: by what the first one changes, and
+/// which others there are.
+fn how_outside<'o, 't>(ops: &'o [Op]) -> Option<HowCarried<'o, 't>>
+    ensures { (t : List ℕ) → IfSome result (spec.IsHow t) }
+{
+    let [first, next, ..] = ops else {
+        return None;
+    };
+    let Op::Remove(path) = first else {
+        return how_in_rows(ops);
+    };
+    let Some(above) = common_collection(path, next) else {
+        return None;
+    };
+    Some(HowCarried::OutOfRows(path.doc, above))
+}
+
+/// How operations are carried out together, if they may be.
 fn how_carried<'o, 't>(
     alloc: Global,
     cut: &CutText<'_, 't>,
@@ -89,20 +106,14 @@ fn how_carried<'o, 't>(
 ) -> Result<Option<HowCarried<'o, 't>>, AllocError>
     ensures { IfOk result (λ o. IfSome o (spec.IsHow cut.now)) }
 {
-    let [first, next, ..] = ops else {
+    let [first, _, ..] = ops else {
         return Ok(None);
     };
     let found = head_for(alloc, cut, first)?;
     if let Some(head) = found {
         return Ok(how_in_head(head, ops));
     }
-    let Op::Remove(path) = first else {
-        return Ok(how_in_rows(ops));
-    };
-    let Some(above) = common_collection(path, next) else {
-        return Ok(None);
-    };
-    Ok(Some(HowCarried::OutOfRows(path.doc, above)))
+    Ok(how_outside(ops))
 }
 
 /// Carries out operations that take items and entries out of the collections of a head.
@@ -146,8 +157,32 @@ pub fn carry_together<'d, 'o: 'd>(
     match how {
         HowCarried::InHeads(head) => put_in_heads(alloc, cut, head, ops),
         HowCarried::OutOfHead(head) => remove_in_head(alloc, cut, head, ops),
-        HowCarried::OutOfRows(doc, above) => Ok(Some(remove_rows(alloc, cut, doc, above, ops)?)),
+        HowCarried::OutOfRows(doc, above) => {
+            Ok(Some(remove_rows(alloc, cut, (doc, above), ops)?))
+        }
         HowCarried::InRows => carry_in_rows(alloc, cut, ops),
         HowCarried::InMapping => Ok(carry_in_any_row(alloc, cut, ops)?),
+    }
+}
+
+/// The same of operations at and below a node, to which these steps lead, where they change rows outside flow
+/// collections.
+pub fn carry_under<'d, 'o: 'd>(
+    alloc: Global,
+    cut: &CutText<'d, '_>,
+    front: &[Step],
+    ops: &'o [Op],
+) -> Result<Option<Together<'o>>, ExprError>
+    requires { AreServed (ops_under front.now ops.now) cut.now }
+    ensures ok { IfOk result (MayCarryUnder front.now ops.now cut.now) }
+    ensures err { IfErr result (λ e. EditFails e
+        (carry_all (ops_under front.now ops.now) cut.now)) }
+{
+    match how_outside(ops) {
+        Some(HowCarried::OutOfRows(doc, above)) => {
+            Ok(Some(remove_under(alloc, cut, front, (doc, above), ops)?))
+        }
+        Some(HowCarried::InRows) => put_under(alloc, cut, front, ops),
+        _ => Ok(None),
     }
 }

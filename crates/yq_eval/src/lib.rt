@@ -10,5 +10,5 @@ pub use matching::copy::copy_at;
 pub use matching::found::{FoundPlaces, find_places};
 pub use matching::owned;
 pub use matching::pipe::{find, pipe_on};
-pub use matching::place::{FoundPlace, Missing, NodePath, NodeStep};
+pub use matching::place::{FoundPlace, Missing, NodePath, NodeStep, step_to};
 pub use matching::traverse::step_each;

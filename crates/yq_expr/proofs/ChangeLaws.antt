@@ -19,7 +19,7 @@ last_apart (y ∷ []) zero x long is = ap (λ z. z ∷ []) (sym is)
 last_apart (y ∷ (z ∷ zs)) (suc n) x long is = ap (λ ys. y ∷ ys) (last_apart (z ∷ zs) n x (omega (arith, long)) is)
 last_apart _ _ x long is = absurd (omega (arith, long))
 
-split_last : {X : Type 0} (xs : List X) (x : X) → 1 ≤ length xs → x ≡ get_or xs (length xs - 1) x → xs ≡ take (length xs - 1) xs ++ x ∷ []
+pub split_last : {X : Type 0} (xs : List X) (x : X) → 1 ≤ length xs → x ≡ get_or xs (length xs - 1) x → xs ≡ take (length xs - 1) xs ++ x ∷ []
 split_last xs x some is = last_apart xs (length xs - 1) x (omega (arith, some)) is
 
 -- one key more, the last that is left

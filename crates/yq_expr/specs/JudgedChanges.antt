@@ -1,29 +1,31 @@
 -- What calls answer of changes: those that are judged, or the refusal that is (own).
-use Rattle.std.{specs.Prelude.{◌≡◌, ℕ, Bool, true, List, Option, Result, map, if◌then◌else◌}, specs.Borrow.Bor, specs.BTreeMap.BTreeMap}
-use Rattle.std.specs.Global.{Vec}
+use Rattle.std.{specs.Prelude.{◌≡◌, ℕ, Bool, true, List, Option, IfSome, MatchResult, Result, map, if◌then◌else◌}, specs.Borrow.Bor}
+use Rattle.std.specs.BTreeMap.{BTreeMap}
 use Rattle.yq_core.{specs.Anchors.{Name, names_of}, specs.Tree.Node}
-use Rattle.yq_documents.specs.Reading.{documents_of}
+use Rattle.yq_documents.{specs.Located.steps_of, specs.Reading.documents_of}
 use Rattle.yq_eval.{specs.FoundView.found_places, specs.PlaceView.{place_of, put_behind}}
 use Rattle.yq_nodes.specs.Nodes.{node_of}
-use Rattle.yq_planner.{specs.ChangeView.{changed_of, placed}, specs.Indexes.HasAliases, specs.StandIns.{HaveNoAlias, verdict}}
-use Rattle.yq_planner.{specs.declared.updating.change.Change.Change, specs.declared.updating.change.PlacedChange.PlacedChange}
+use Rattle.yq_planner.{specs.ChangeView.{changed_of, changes_below, changes_under, placed}, specs.Indexes.HasAliases}
+use Rattle.yq_planner.{specs.StandIns.{HaveNoAlias, verdict}, specs.declared.updating.change.Change.Change}
+use Rattle.yq_planner.{specs.declared.updating.change.PlacedChange.PlacedChange, specs.declared.updating.change.ChangesUnder.ChangesUnder}
 use Rattle.yq_semantics.specs.Changes.{Changed, add_at, all_allowed, at_each, changes_at, changes_in, put_with_path, update_changes}
-use Rattle.yq_semantics.{specs.Changes.with_value, specs.Meaning.roots_of, specs.Judgement.{Judgement, Judges, and_then, ExprError}}
-use Rattle.yq_semantics.{specs.Places.{FoundPlace, root_place}, specs.PlacesApart.{AreIn, IsIn}, specs.RightValues.right_value}
-use Rattle.yq_semantics.{specs.Rooms.room_of, specs.View.{term_of, update_of}, specs.declared.program.Term.Term}
-use Rattle.yq_semantics.specs.declared.program.Update.{Update}
+use Rattle.yq_semantics.{specs.Changes.with_value, specs.Meaning.roots_of}
+use Rattle.yq_semantics.{specs.Judgement.{Judgement, Judges, MatchFails, and_then, gives, ExprError}, specs.Places.{FoundPlace, root_place}}
+use Rattle.yq_semantics.{specs.PlacesApart.{AreIn, IsIn}, specs.RightValues.right_value, specs.Rooms.room_of}
+use Rattle.yq_semantics.{specs.View.{term_of, update_of}, specs.declared.program.Term.Term, specs.declared.program.Update.Update}
 use Rattle.yq_expr.{specs.EffectView.{effect_at, is_mapping}, specs.declared.document.DocumentEffect.DocumentEffect}
-use Rattle.yq_expr.{specs.declared.document.DocumentPlaces.DocumentPlaces, specs.declared.document.DocumentRoot.DocumentRoot}
+use Rattle.yq_expr.{specs.declared.at_node.ChildChanges.ChildChanges, specs.declared.document.DocumentPlaces.DocumentPlaces}
+use Rattle.yq_expr.specs.declared.document.DocumentRoot.{DocumentRoot}
 use Rattle.yq_expr.specs.declared.effect.Action as effect
 use Rattle.yq_eval.specs.declared.matching.place.FoundPlace as place
 
 -- an answer's changes are those of a judgement, or its refusal is that of the judgement (own)
-abbrev pub JudgesChanges : Result (Vec PlacedChange) ExprError → Judgement (List Changed) → Type 0
-JudgesChanges result j = Judges (λ v. map changed_of v.items) result j
+abbrev pub JudgesChanges : Result ChangesUnder ExprError → Judgement (List Changed) → Type 0
+JudgesChanges result j = Judges changes_under result j
 
 -- An answer's changes are those at each of places, judged in every tree that has the places and whose anchors' names have these aliases; or
 -- its refusal is the one that comes there (own).
-abbrev pub JudgesEach : {X : Type 0} → BTreeMap (Bor (List ℕ)) X → List FoundPlace → (FoundPlace → Judgement (List Changed)) → Result (Vec PlacedChange) ExprError → Type 0
+abbrev pub JudgesEach : {X : Type 0} → BTreeMap (Bor (List ℕ)) X → List FoundPlace → (FoundPlace → Judgement (List Changed)) → Result ChangesUnder ExprError → Type 0
 JudgesEach aliases ps f result = (root : Node) → HasAliases (names_of root) aliases → AreIn root ps → JudgesChanges result (at_each root f ps)
 
 -- The changes after a call are those before it, and then those of a judgement, if they are allowed in every tree that has the place and whose
@@ -75,6 +77,35 @@ action_in d action = effect_at d.doc (room_of d.documents.now d.doc) action
 -- the same by what an update does at each place (own)
 abbrev pub effect_of : DocumentEffect → List ℕ → FoundPlace → Judgement (List Changed)
 effect_of e t = effect_at e.doc (room_of t e.doc) e.action
+
+-- an answer's changes are what an update does at each of places of a document of a text, or its refusal is the one that comes there (own)
+abbrev pub JudgesEachOf : DocumentEffect → List ℕ → List FoundPlace → Result ChangesUnder ExprError → Type 0
+JudgesEachOf e t ps result = JudgesEach e.aliases.now ps (effect_of e t) result
+
+-- the same of an answer that may have none (own)
+abbrev pub MayJudgeEachOf : DocumentEffect → List ℕ → List FoundPlace → Result (Option ChangesUnder) ExprError → Type 0
+MayJudgeEachOf e t ps result =
+    (root : Node) → HasAliases (names_of root) e.aliases.now → AreIn root ps →
+    MatchResult result (λ o. IfSome o (λ x. at_each root (effect_of e t) ps ≡ gives (changes_under x))) (λ why. MatchFails why (at_each root (effect_of e t) ps))
+
+-- an answer is that there is a change at a place, or none, as an update does it if that is allowed, in every tree that has the place and whose anchors' names
+-- have these aliases; or its refusal is the one that comes there (own)
+abbrev pub JudgesAllowedPut : DocumentEffect → List ℕ → place.FoundPlace → Result (Option Change) ExprError → Type 0
+JudgesAllowedPut e t p result =
+    (root : Node) → HasAliases (names_of root) e.aliases.now → IsIn root (place_of p) →
+    JudgesPut p result (and_then (all_allowed root) (effect_of e t (place_of p)))
+
+-- The changes at items or values of a node after a call are those before it, and then what an update does at a place, if that is allowed in every tree that
+-- has the place and whose anchors' names have these aliases; or its refusal is the one that comes there (own).
+abbrev pub JudgesBelow : {Y : Type 0} → DocumentEffect → place.FoundPlace → (before after : ChildChanges) → Result Y ExprError → Type 0
+JudgesBelow e p before after result =
+    (root : Node) → HasAliases (names_of root) e.aliases.now → IsIn root (place_of p) →
+    Judges (λ _. changes_below (steps_of before.node) after.changes.items) result
+    (put_behind (changes_below (steps_of before.node) before.changes.items) (and_then (all_allowed root) (effect_of e before.cut (place_of p))))
+
+-- nothing but the changes is another one there (own)
+abbrev pub StaysAtNode : (before after : ChildChanges) → Type 0
+StaysAtNode before after = (after.cut ≡ before.cut) × ((after.node.doc ≡ before.node.doc) × (steps_of after.node ≡ steps_of before.node))
 
 -- what it changes in each document of a text (own)
 abbrev pub changes_of_all : Update → List ℕ → Judgement (List (List Changed))

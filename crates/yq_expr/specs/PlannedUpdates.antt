@@ -3,8 +3,8 @@ use Rattle.std.{specs.Prelude.{◌≡◌, ℕ, List, Result, Some}, specs.Global
 use Rattle.yq_documents.{specs.Documents.Document, specs.Reading.documents_of}
 use Rattle.yq_semantics.{specs.After.all_after, specs.Fits.AllFit, specs.Judgement.{Judgement, Judges, ExprError}, specs.Meaning.meaning}
 use Rattle.yq_semantics.{specs.Operations.{Operation, operations_of}, specs.Plans.plan, specs.Program.{Update, update_at}}
-use Rattle.yq_semantics.{specs.Rooms.room_of, specs.View.{program_of, update_of}, specs.declared.op.Op.Op}
-use Rattle.yq_semantics.specs.declared.program.Syntax.{Syntax}
+use Rattle.yq_semantics.{specs.Rooms.room_of, specs.View.{program_of, update_of}, specs.declared.op.Op.Op, specs.Under.all_under}
+use Rattle.yq_semantics.{specs.declared.under.OpsUnder.OpsUnder, specs.declared.program.Syntax.Syntax}
 use Rattle.yq_expr.{specs.Parts.{LeavesOps, document_ops, rest_ops}, specs.declared.parts.PlanPart.PlanPart}
 use Rattle.yq_expr.specs.declared.document.DocumentRoot.{DocumentRoot}
 use Rattle.yq_nodes.specs.Nodes.{node_of}
@@ -29,6 +29,10 @@ plan_in u t = plan u (room_of t) (documents_of t)
 -- an answer's operations are the plan of an update for the documents of a text, or its refusal is the plan's (own)
 abbrev pub JudgesPlan : Result (Vec Op) ExprError → Update → List ℕ → Type 0
 JudgesPlan result u t = Judges (λ v. operations_of v.items) result (plan_in u t)
+
+-- the same of operations at and below nodes (own)
+abbrev pub JudgesParts : Result (Vec OpsUnder) ExprError → Update → List ℕ → Type 0
+JudgesParts result u t = Judges (λ v. all_under v.items) result (plan_in u t)
 
 -- the documents of a text after operations, one after the other (own)
 abbrev pub documents_after : List Op → List ℕ → List Document

@@ -1,12 +1,12 @@
 //! What is changed at each of places.
-ghost use Rattle.std.specs.Prelude.{◌≡◌};
-ghost use Rattle.yq_nodes.specs.Nodes.{node_of};
-ghost use Rattle.yq_expr.specs.JudgedChanges.{JudgesAllowed, JudgesEach, action_in, effect_of};
-ghost use Rattle.yq_semantics.specs.Rooms.{room_of};
-ghost use Rattle.yq_planner.specs.ValidChanges.{GivesValid, StayValid};
-ghost use Rattle.yq_eval.{specs.FoundView.{child_places, found_places}, specs.PlaceView.{path_of, place_of, places_of}};
+ghost use Rattle.std.specs.Prelude.{◌≡◌, IfOk, IfSome};
+ghost use Rattle.yq_documents.specs.Located.{steps_of};
+ghost use Rattle.yq_expr.specs.JudgedChanges.{JudgesAllowed, JudgesAllowedPut, JudgesEach, JudgesEachOf, action_in, effect_of};
+ghost use Rattle.yq_planner.{specs.ChangeView.change_of, specs.ValidChanges.{GivesValid, IsValidChange, StayValid}};
+ghost use Rattle.yq_eval.{specs.FoundView.found_places, specs.PlaceView.{path_of, place_of, places_of}};
 ghost use Rattle.yq_eval.specs.TreeScalars.{HasScalars, HaveScalars};
 
+use crate::at_node::{at_children, at_each_below, node_above};
 use crate::document::{DocumentEffect, DocumentPlaces};
 use crate::effect::{Action, change_at};
 use crate::many_keys::check_depth;
@@ -16,7 +16,7 @@ use std::alloc::Global;
 use yq_documents::{Documents, Path};
 use yq_eval::{FoundPlace, FoundPlaces};
 use yq_lookup::CutText;
-use yq_planner::{Aliases, PlacedChange};
+use yq_planner::{Aliases, Change, ChangesUnder, PlacedChange, allow};
 use yq_semantics::ExprError;
 
 /// Puts what is changed at a place after other changes.
@@ -51,16 +51,44 @@ pub(crate) fn push_effect<'a, 't>(
     }
 }
 
+/// What is changed at a place, if nothing refuses it.
+pub(crate) fn allowed_at<'a, 't>(
+    alloc: Global,
+    cut: &mut CutText<'_, '_>,
+    effect: &DocumentEffect<'a, '_, '_>,
+    path: &Path,
+    place: &FoundPlace<'a, 't>,
+) -> Result<Option<Change>, ExprError>
+    requires scalars { HasScalars (place_of place.now).node }
+    requires doc { path.now.doc ≡ effect.now.doc }
+    requires path { steps_of path.now ≡ path_of place.now.path }
+    ensures same { cut.new ≡ cut.old }
+    ensures change { JudgesAllowedPut effect.now cut.old place.now result }
+    ensures valid { IfOk result (λ o. IfSome o (λ c. IsValidChange (change_of c))) }
+{
+    check_depth(alloc, effect.doc, effect.action, place)?;
+    let Some(change) = change_at(alloc, cut, path, effect.action, place)? else {
+        return Ok(None);
+    };
+    allow(
+        alloc,
+        effect.aliases,
+        &place.node,
+        path.steps.len(),
+        &change,
+    )?;
+    Ok(Some(change))
+}
+
 /// What is changed at each of places.
 fn at_each<'a, 't>(
     alloc: Global,
     documents: &Documents<'_>,
     effect: &DocumentEffect<'a, '_, '_>,
     places: &[FoundPlace<'a, 't>],
-) -> Result<Vec<PlacedChange>, ExprError>
+) -> Result<ChangesUnder, ExprError>
     requires { HaveScalars (places_of places.now) }
-    ensures changes { JudgesEach effect.now.aliases.now (places_of places.now)
-        (effect_of effect.now documents.now) result }
+    ensures changes { JudgesEachOf effect.now documents.now (places_of places.now) result }
     ensures valid { GivesValid result }
 {
     let mut changes = Vec::new(alloc);
@@ -68,36 +96,28 @@ fn at_each<'a, 't>(
     'places: for place in places {
         push_effect(alloc, &mut cut, effect, place, &mut changes)?;
     }
-    Ok(changes)
+    Ok(ChangesUnder::of_root(alloc, changes))
 }
 
-/// What is changed at the places of all items or values of the node at a place.
-fn at_children<'a, 't>(
+/// What is changed at each of listed places: where all are items or values of one node, the steps to it are kept once.
+fn at_listed<'a, 't>(
     alloc: Global,
     documents: &Documents<'_>,
     effect: &DocumentEffect<'a, '_, '_>,
-    parent: &'a FoundPlace<'a, 't>,
-) -> Result<Vec<PlacedChange>, ExprError>
-    requires { HaveScalars (child_places (path_of parent.now.path) (node_of parent.now.node)) }
-    ensures changes { JudgesEach effect.now.aliases.now
-        (child_places (path_of parent.now.path) (node_of parent.now.node))
-        (effect_of effect.now documents.now) result }
+    places: &[FoundPlace<'a, 't>],
+) -> Result<ChangesUnder, ExprError>
+    requires { HaveScalars (places_of places.now) }
+    ensures changes { JudgesEachOf effect.now documents.now (places_of places.now) result }
     ensures valid { GivesValid result }
 {
-    let count = parent.node.count();
-    let mut changes = Vec::with_capacity(alloc, count)?;
-    let mut cut = CutText::of(documents);
-    let mut children = parent.node.children();
-    let mut before = 0;
-    'children: while before < count {
-        let Some(child) = children.next() else {
+    let above = node_above(alloc, places)?;
+    if let Some(front) = above {
+        let below = at_each_below(alloc, documents, effect, places, front)?;
+        if let Some(changes) = below {
             return Ok(changes);
-        };
-        let place = FoundPlace::nth_below(&parent.path, before, &child);
-        push_effect(alloc, &mut cut, effect, &place, &mut changes)?;
-        before += 1;
+        }
     }
-    Ok(changes)
+    at_each(alloc, documents, effect, places)
 }
 
 /// What an action changes at each of the places that a pipe found in a document, which has those aliases.
@@ -106,7 +126,7 @@ pub(crate) fn at_found<'a, 't>(
     found: &DocumentPlaces<'a, 't>,
     aliases: &Aliases<'_>,
     action: Action<'a, '_>,
-) -> Result<Vec<PlacedChange>, ExprError>
+) -> Result<ChangesUnder, ExprError>
     requires { HaveScalars (found_places found.now.places) }
     ensures changes { JudgesEach aliases.now (found_places found.now.places)
         (action_in found.now.document action.entry) result }
@@ -118,7 +138,7 @@ pub(crate) fn at_found<'a, 't>(
         action,
     };
     match &found.places {
-        FoundPlaces::Listed(places) => at_each(alloc, found.document.documents, &effect, places),
+        FoundPlaces::Listed(places) => at_listed(alloc, found.document.documents, &effect, places),
         FoundPlaces::Children(parent) => {
             at_children(alloc, found.document.documents, &effect, parent)
         }

@@ -2,7 +2,7 @@
 ghost use Rattle.std.specs.Prelude.{◌≡◌, ◌<◌, ◌∷◌, [], IfOk, IfSome, length, map};
 ghost use Rattle.yq_core.{specs.Anchors.names_of, specs.Values.value_node};
 ghost use Rattle.yq_nodes.specs.Nodes.{node_of};
-ghost use Rattle.yq_planner.{specs.ChangeView.all_changed_of, specs.Indexes.HasAliases, specs.ValidChanges.{AreAllValid, GivesValid}};
+ghost use Rattle.yq_planner.{specs.ChangeView.all_changes_under, specs.Indexes.HasAliases, specs.ValidChanges.{AreAllValid, GivesValid}};
 ghost use Rattle.yq_semantics.{specs.Judgement.Judges, specs.View.{stage_of, update_of}};
 ghost use Rattle.yq_eval.{specs.FoundView.found_places, specs.PlaceView.place_of, specs.TreeScalars.HasScalars};
 ghost use Rattle.yq_expr.specs.DocumentPlaces.{AreInDocument, IsDocumentRoot};
@@ -23,7 +23,7 @@ use yq_core::Value;
 use yq_documents::Documents;
 use yq_eval::{FoundPlace, FoundPlaces, find_places};
 use yq_nodes::Node;
-use yq_planner::{Aliases, PlacedChange, aliases_of, has_comment};
+use yq_planner::{Aliases, ChangesUnder, PlacedChange, aliases_of, has_comment};
 use yq_semantics::{Assignment, ExprError, Operator, Refusal, Stage, Term, Update};
 
 /// What an update changes at places of a document.
@@ -31,13 +31,13 @@ pub(crate) fn changes_at<'a, 't>(
     alloc: Global,
     found: &DocumentPlaces<'a, 't>,
     update: &'a Update,
-) -> Result<Vec<PlacedChange>, ExprError>
+) -> Result<ChangesUnder, ExprError>
     requires { AreInDocument found.now }
     ensures changes { JudgesChanges result (changes_there found.now update.now) }
     ensures valid { GivesValid result }
 {
     if found.places.is_empty() {
-        return Ok(Vec::new(alloc));
+        return Ok(ChangesUnder::of_root(alloc, Vec::new(alloc)));
     }
     let aliases = aliases_of(alloc, &found.document.root)?;
     match update {
@@ -69,7 +69,7 @@ fn put_at<'a, 't>(
     aliases: &Aliases<'_>,
     place: &FoundPlace<'a, 't>,
     value: Value,
-) -> Result<Vec<PlacedChange>, ExprError>
+) -> Result<ChangesUnder, ExprError>
     requires { HasScalars (place_of place.now).node }
     ensures changes { JudgesEach aliases.now (place_of place.now ∷ [])
         (λ p. spec.put_with_path p (value_node value)) result }
@@ -87,7 +87,7 @@ fn put_at<'a, 't>(
             &mut changes,
         )?;
     }
-    Ok(changes)
+    Ok(ChangesUnder::of_root(alloc, changes))
 }
 
 /// What a right side changes that is added, or put, at each of places of a document, which has those aliases.
@@ -97,7 +97,7 @@ fn value_each<'a, 't>(
     aliases: &Aliases<'_>,
     adds: bool,
     right: &'a [Term],
-) -> Result<Vec<PlacedChange>, ExprError>
+) -> Result<ChangesUnder, ExprError>
     requires places { AreInDocument found.now }
     requires aliases { HasAliases (names_of (node_of found.now.document.root)) aliases.now }
     requires some { 0 < length (found_places found.now.places) }
@@ -121,7 +121,7 @@ fn assign<'a, 't>(
     found: &DocumentPlaces<'a, 't>,
     aliases: &Aliases<'_>,
     assignment: &'a Assignment,
-) -> Result<Vec<PlacedChange>, ExprError>
+) -> Result<ChangesUnder, ExprError>
     requires places { AreInDocument found.now }
     requires aliases { HasAliases (names_of (node_of found.now.document.root)) aliases.now }
     requires some { 0 < length (found_places found.now.places) }
@@ -152,7 +152,7 @@ fn changes_in<'a>(
     alloc: Global,
     document: DocumentRoot<'a, '_>,
     update: &'a Update,
-) -> Result<Vec<PlacedChange>, ExprError>
+) -> Result<ChangesUnder, ExprError>
     requires { IsDocumentRoot document }
     ensures changes { JudgesChanges result (changes_inside document.entry update.now) }
     ensures valid { GivesValid result }
@@ -167,8 +167,8 @@ pub(crate) fn changes(
     alloc: Global,
     update: &Update,
     documents: &Documents<'_>,
-) -> Result<Vec<Vec<PlacedChange>>, ExprError>
-    ensures changes { Judges (λ v. all_changed_of v.items) result
+) -> Result<Vec<ChangesUnder>, ExprError>
+    ensures changes { Judges (λ v. all_changes_under v.items) result
         (changes_of_all update.now documents.now) }
     ensures valid { IfOk result (λ v. AreAllValid v.items) }
 {

@@ -1,6 +1,7 @@
 //! Updates of programs planned on documents: which operations carry one out, or why none do.
 #![tactic(auto)]
 
+mod at_node;
 mod at_places;
 mod changes;
 mod document;
@@ -27,7 +28,7 @@ pub use heavy::is_heavy;
 pub use judging::judge;
 pub use parts::{PlanPart, plan_part};
 pub use placed::push_change;
-pub use planning::plan;
+pub use planning::{plan, plan_under};
 pub use yq_core::{Value, copied_steps};
 pub use yq_eval::{Match, matches};
 pub use yq_expr_parser::{ParseError, one_program, parse_expr};

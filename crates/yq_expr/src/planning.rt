@@ -1,8 +1,8 @@
 //! Planning: the operations that carry out an update on documents.
 ghost use Rattle.std.specs.Prelude.{◌≡◌, ◌<◌, ◌⊎◌, IfOk};
-ghost use Rattle.yq_semantics.{specs.Judgement.{gives, refuses}, specs.View.{program_of, update_of}};
-ghost use Rattle.yq_planner.specs.ValidChanges.{HoldValidValues};
-ghost use Rattle.yq_expr.specs.PlannedUpdates.{AllFitIn, ForUpdate, IsUpdateAt, JudgesPlan, documents_after, meaning_in};
+ghost use Rattle.yq_semantics.{specs.Judgement.{gives, refuses}, specs.View.{program_of, update_of}, specs.Under.all_under};
+ghost use Rattle.yq_planner.specs.ValidChanges.{HaveValidValues, HoldValidValues};
+ghost use Rattle.yq_expr.specs.PlannedUpdates.{AllFitIn, ForUpdate, IsUpdateAt, JudgesParts, JudgesPlan, documents_after, meaning_in};
 ghost use Rattle.yq_semantics.specs.Plans as plans;
 ghost use Rattle.yq_semantics.specs.Program as spec;
 ghost use Rattle.yq_failure.specs.declared.failure.Failure.TheVariants as failure;
@@ -11,7 +11,7 @@ use crate::changes::changes;
 use std::alloc::Global;
 use yq_documents::Documents;
 use yq_planner::operations;
-use yq_semantics::{ExprError, Op, Program, Refusal, Syntax, Update};
+use yq_semantics::{ExprError, Op, OpsUnder, Program, Refusal, Syntax, Update, whole_ops};
 
 fn is_removal(update: &Update) -> bool
     ensures { result ≡ plans.is_removal (update_of update.now) }
@@ -24,15 +24,35 @@ fn plan_update(
     alloc: Global,
     update: &Update,
     documents: &Documents<'_>,
-) -> Result<Vec<Op>, ExprError>
-    ensures exact { JudgesPlan result (update_of update.now) documents.now }
-    ensures valid { IfOk result (λ ops. HoldValidValues ops.items) }
+) -> Result<Vec<OpsUnder>, ExprError>
+    ensures exact { JudgesParts result (update_of update.now) documents.now }
+    ensures valid { IfOk result (λ v. HaveValidValues (all_under v.items)) }
 {
     let changes = changes(alloc, update, documents)?;
     Ok(operations(alloc, is_removal(update), changes)?)
 }
 
-/// The operations that carry out update `nth` of a program.
+/// The operations that carry out update `nth` of a program, counted from 0, on documents: those of each document
+/// at and below one node, to which the steps are kept once.
+pub fn plan_under(
+    alloc: Global,
+    program: &Program,
+    nth: usize,
+    documents: &Documents<'_>,
+) -> Result<Vec<OpsUnder>, ExprError>
+    requires { nth < spec.update_count (program_of program.now) }
+    // The operations, or why there are none.
+    ensures exact { ForUpdate nth program.now (λ u. JudgesParts result u documents.now) }
+    // Their values are valid, so that what is written of them reads.
+    ensures valid { IfOk result (λ v. HaveValidValues (all_under v.items)) }
+{
+    match program.syntax() {
+        Syntax::Read(_) => Ok(Vec::new(alloc)),
+        Syntax::Updates(updates) => plan_update(alloc, &updates[nth], documents),
+    }
+}
+
+/// The same operations, by their paths from the root.
 fn planned(
     alloc: Global,
     program: &Program,
@@ -43,10 +63,8 @@ fn planned(
     ensures exact { ForUpdate nth program.now (λ u. JudgesPlan result u documents.now) }
     ensures valid { IfOk result (λ ops. HoldValidValues ops.items) }
 {
-    match program.syntax() {
-        Syntax::Read(_) => Ok(Vec::new(alloc)),
-        Syntax::Updates(updates) => plan_update(alloc, &updates[nth], documents),
-    }
+    let parts = plan_under(alloc, program, nth, documents)?;
+    Ok(whole_ops(alloc, parts)?)
 }
 
 /// The operations that carry out update `nth` of a program, counted from 0, on

@@ -1,10 +1,10 @@
 -- The operations of valid changes have valid values.
 use Rattle.std.{proofs.Common.{ℕ, suc, Bool, true, false, List, [], ◌∷◌, ◌++◌, map, reverse, sym, subst}, proofs.lemmas.List.reverse-append}
-use Rattle.std.specs.Global.{Vec}
-use Rattle.yq_core.specs.Paths.{Step}
+use Rattle.yq_core.{specs.Entries.tree_step, specs.Paths.Step}
 use Rattle.yq_semantics.specs.Changes.{Addition, appends, overwrites, Change, replaces, adds, removes, sets_comment, Changed}
 use Rattle.yq_semantics.specs.Plans.{add_op, all_ops, change_ops, ops_of, ordered}
-use Rattle.yq_planner.specs.ChangeView.{all_changed_of, changed_of}
+use Rattle.yq_planner.specs.ChangeView.{all_changes_under, changes_below, changes_under}
+use Rattle.yq_planner.specs.declared.updating.change.ChangesUnder.{ChangesUnder}
 use Rattle.yq_planner.specs.ValidChanges.{AddsValid, AreAllValid, AreValidChanges, Each, HasValidValue, HaveValidValues, IsValidChange}
 use Rattle.yq_planner.specs.declared.updating.change.PlacedChange.{PlacedChange}
 use Rattle.yq_semantics.specs.declared.program.CommentPlace as place
@@ -42,16 +42,21 @@ all_changed : (doc : ℕ) (cs : List Changed) → Each (λ c. IsValidChange c.1)
 all_changed doc [] h = tt
 all_changed doc (c ∷ cs) h = each_joined HasValidValue (change_ops doc c) (ops_of doc cs) (changed doc c.0 c.1 h.0) (all_changed doc cs h.1)
 
--- operations of valid changes
-pub ops_valid : (doc : ℕ) (cs : List PlacedChange) → AreValidChanges cs → HaveValidValues (ops_of doc (map changed_of cs))
-ops_valid doc cs h = all_changed doc (map changed_of cs) (seen_each (λ c. IsValidChange c.1) changed_of cs h)
+changes_below_valid : (front : List Step) (cs : List PlacedChange) → AreValidChanges cs → Each (λ c. IsValidChange c.1) (changes_below front cs)
+changes_below_valid front [] h = tt
+changes_below_valid front (c ∷ cs) h = (h.0, changes_below_valid front cs h.1)
 
-ordered_valid : (doc : ℕ) (removal : Bool) (cs : List PlacedChange) → AreValidChanges cs → HaveValidValues (ops_of doc (ordered removal (map changed_of cs)))
-ordered_valid doc true cs h = all_changed doc (reverse (map changed_of cs)) (turned (λ c. IsValidChange c.1) (map changed_of cs) (seen_each (λ c. IsValidChange c.1) changed_of cs h))
-ordered_valid doc false cs h = ops_valid doc cs h
+-- operations of valid changes
+pub ops_valid : (doc : ℕ) (x : ChangesUnder) → AreValidChanges x.changes.items → HaveValidValues (ops_of doc (changes_under x))
+ops_valid doc x h = all_changed doc (changes_under x) (changes_below_valid (map tree_step x.front.items) x.changes.items h)
+
+ordered_valid : (doc : ℕ) (removal : Bool) (x : ChangesUnder) → AreValidChanges x.changes.items → HaveValidValues (ops_of doc (ordered removal (changes_under x)))
+ordered_valid doc true x h =
+    all_changed doc (reverse (changes_under x)) (turned (λ c. IsValidChange c.1) (changes_under x) (changes_below_valid (map tree_step x.front.items) x.changes.items h))
+ordered_valid doc false x h = ops_valid doc x h
 
 -- the same in each document
-pub all_ops_valid : (removal : Bool) (doc : ℕ) (css : List (Vec PlacedChange)) → AreAllValid css → HaveValidValues (all_ops removal doc (all_changed_of css))
+pub all_ops_valid : (removal : Bool) (doc : ℕ) (xs : List ChangesUnder) → AreAllValid xs → HaveValidValues (all_ops removal doc (all_changes_under xs))
 all_ops_valid removal doc [] h = tt
-all_ops_valid removal doc (cs ∷ css) h =
-    each_joined HasValidValue (ops_of doc (ordered removal (map changed_of cs.items))) (all_ops removal (suc doc) (all_changed_of css)) (ordered_valid doc removal cs.items h.0) (all_ops_valid removal (suc doc) css h.1)
+all_ops_valid removal doc (x ∷ xs) h =
+    each_joined HasValidValue (ops_of doc (ordered removal (changes_under x))) (all_ops removal (suc doc) (all_changes_under xs)) (ordered_valid doc removal x h.0) (all_ops_valid removal (suc doc) xs h.1)

@@ -9,11 +9,12 @@ use Rattle.yq_documents.{specs.Located.steps_of, specs.declared.path.Path.Path}
 use Rattle.yq_nodes.specs.Nodes.{label_of, node_of}
 use Rattle.yq_semantics.specs.Changes.{Addition, Change, added_entries, allowed, is_deep, is_overlong_key, is_used, has_long_key, refers_to}
 use Rattle.yq_semantics.{specs.Changes.{value_in, writes_long_key}, specs.Judgement.{Judgement, Judges, ExprError}}
-use Rattle.yq_semantics.{specs.Operations.{Operation, operations_of}, specs.Plans.add_op}
-use Rattle.yq_semantics.{specs.RightValues.{int_sum, with_entries, with_entry}, specs.declared.op.Op.Op}
-use Rattle.yq_planner.{specs.ChangeView.{addition_of, change_of}, specs.ChangedNodes.LeadsToNode, specs.EntryNumbers.number_kept}
-use Rattle.yq_planner.{specs.StandIns.IsStandIn, specs.TakenNames.{is_used_anchor, overwrites_at, takes_at}}
-use Rattle.yq_planner.specs.Indexes.{HasAliases, IsIndex, get_text, kept_first}
+use Rattle.yq_semantics.{specs.Operations.Operation, specs.Plans.{add_op, ops_of, ordered}}
+use Rattle.yq_semantics.{specs.RightValues.{int_sum, with_entries, with_entry}, specs.Under.all_under}
+use Rattle.yq_semantics.specs.declared.under.OpsUnder.{OpsUnder}
+use Rattle.yq_planner.{specs.ChangeView.{addition_of, change_of, changes_under}, specs.ChangedNodes.LeadsToNode}
+use Rattle.yq_planner.{specs.EntryNumbers.number_kept, specs.StandIns.IsStandIn, specs.TakenNames.{is_used_anchor, overwrites_at, takes_at}}
+use Rattle.yq_planner.{specs.Indexes.{HasAliases, IsIndex, get_text, kept_first}, specs.declared.updating.change.ChangesUnder.ChangesUnder}
 use Rattle.yq_core.specs.Tree as tree
 use Rattle.yq_nodes.specs.declared.nodes.node.Node as nodes
 use Rattle.yq_semantics.specs.Changes as changes
@@ -121,13 +122,17 @@ addition_op path a = add_op path.doc (steps_of path) (addition_of a)
 abbrev pub addition_ops : Path → List addition.Addition → List Operation
 addition_ops path xs = map (add_op path.doc (steps_of path)) (map addition_of xs)
 
--- a success puts these operations after those that were there
-abbrev pub PutsOps : {T E : Type 0} → Result T E → (old new : Vec Op Global) → List Operation → Type 0
-PutsOps r old new ops = OnOk r (operations_of new.items ≡ operations_of old.items ++ ops)
-
 -- an answer's operations are these, or it is an error
-abbrev pub GivesOps : {E : Type 0} → Result (Vec Op Global) E → List Operation → Type 0
-GivesOps r ops = IfOk r (λ v. operations_of v.items ≡ ops)
+abbrev pub GivesOps : {E : Type 0} → Result (Vec OpsUnder Global) E → List Operation → Type 0
+GivesOps r ops = IfOk r (λ v. all_under v.items ≡ ops)
+
+-- a success puts these operations after those of the parts that were there
+abbrev pub PutsParts : {T E : Type 0} → Result T E → (old new : Vec OpsUnder Global) → List Operation → Type 0
+PutsParts r old new ops = OnOk r (all_under new.items ≡ all_under old.items ++ ops)
+
+-- the operations of the changes of a document, in the order in which they are made
+abbrev pub ops_in_order : ℕ → Bool → ChangesUnder → List Operation
+ops_in_order doc removal x = ops_of doc (ordered removal (changes_under x))
 
 -- a value is refused where a scalar is
 abbrev pub StandsForScalar : ScalarText → Value → Type 0

@@ -1,9 +1,10 @@
 -- Changes and operations whose values are the trees of values.
-use Rattle.std.{specs.Prelude.{List, [], ◌∷◌, IfOk, Result, ⊤}, specs.Global.Vec}
+use Rattle.std.specs.Prelude.{List, [], ◌∷◌, IfOk, Result, ⊤}
 use Rattle.yq_flow_edits.specs.Valued.{IsValueTree}
 use Rattle.yq_semantics.{specs.Changes.{Addition, Change, replaces, adds, removes, sets_comment, value_in}, specs.declared.op.Op.Op}
 use Rattle.yq_semantics.specs.Operations.{Operation, replace, append, remove, line_comment, head_comment, operations_of}
 use Rattle.yq_planner.{specs.ChangeView.{addition_of, change_of}, specs.declared.updating.change.PlacedChange.PlacedChange}
+use Rattle.yq_planner.specs.declared.updating.change.ChangesUnder.{ChangesUnder}
 use Rattle.yq_planner.specs.declared.updating.change.Addition as addition
 
 -- something is so of each (own)
@@ -31,16 +32,16 @@ abbrev pub AreValidChanges : List PlacedChange → Type 0
 AreValidChanges cs = Each (λ c. IsValidChange (change_of c.change)) cs
 
 -- those of an answer's changes are (own)
-abbrev pub GivesValid : {E : Type 0} → Result (Vec PlacedChange) E → Type 0
-GivesValid result = IfOk result (λ v. AreValidChanges v.items)
+abbrev pub GivesValid : {E : Type 0} → Result ChangesUnder E → Type 0
+GivesValid result = IfOk result (λ x. AreValidChanges x.changes.items)
 
 -- those of changes before and after a call are, where those before it are (own)
 abbrev pub StayValid : {X E : Type 0} → Result X E → (before after : List PlacedChange) → Type 0
 StayValid result before after = AreValidChanges before → IfOk result (λ _. AreValidChanges after)
 
 -- those of the changes of each document are (own)
-abbrev pub AreAllValid : List (Vec PlacedChange) → Type 0
-AreAllValid css = Each (λ cs. AreValidChanges cs.items) css
+abbrev pub AreAllValid : List ChangesUnder → Type 0
+AreAllValid xs = Each (λ x. AreValidChanges x.changes.items) xs
 
 -- the value of an operation is the tree of one (own)
 abbrev pub HasValidValue : Operation → Type 0

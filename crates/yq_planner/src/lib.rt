@@ -6,7 +6,7 @@ mod updating;
 pub use updating::added::added;
 pub use updating::allowed::allow;
 pub use updating::anchors::{Aliases, aliases_of};
-pub use updating::change::{Addition, Change, PlacedChange};
+pub use updating::change::{Addition, Change, ChangesUnder, PlacedChange};
 pub use updating::comment_text::has_comment;
 pub use updating::copied::copied;
 pub use updating::limits::{holds_long_key, is_long_key};

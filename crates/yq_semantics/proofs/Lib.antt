@@ -1,4 +1,5 @@
 pub mod Lists
+pub mod UnderLaws
 pub mod Literals
 pub mod ValueMaps
 pub mod PathLaws

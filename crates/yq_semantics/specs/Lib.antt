@@ -22,5 +22,6 @@ pub mod Rooms
 pub mod RoomsKept
 pub mod PlacesApart
 pub mod Plans
+pub mod Under
 pub mod MatchTrees
 pub mod Sizes

@@ -8,6 +8,7 @@ mod op;
 mod parse_fault;
 mod program;
 mod refusal;
+mod under;
 
 pub use laws::{
     changes_apart, places_apart, plan_fits, plan_means, plan_refused, plan_rooms, rest_follows,
@@ -20,3 +21,4 @@ pub use program::{
     Stage, Syntax, Term, Update, is_index, is_simple,
 };
 pub use refusal::{ExprError, Refusal};
+pub use under::{OpsUnder, push_part, push_steps, whole_ops, whole_removals};

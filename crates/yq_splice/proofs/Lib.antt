@@ -5,5 +5,6 @@ pub mod SpliceLaws
 pub mod AnswerLaws
 pub mod PartLaws
 pub mod UpdateSteps
+pub mod PlanLaws
 pub mod OversizedParts
 pub mod ValidOperands

@@ -148,7 +148,7 @@ fn carry_each(
 
 /// Operations carried out on a text with its rows; their splices come after others. For a sole one the text
 /// is not copied.
-fn carry_rows(
+pub(crate) fn carry_rows(
     alloc: Global,
     text: &str,
     rows: Rows<'_>,
@@ -166,26 +166,6 @@ fn carry_rows(
         return Ok(edited_behind(splices, edited)?);
     }
     carry_each(alloc, text, rows, splices, ops)
-}
-
-/// The operations of a plan carried out on a text that was read; their splices come after others. For a
-/// sole one the text is not copied.
-pub fn carry_plan(
-    alloc: Global,
-    text: &str,
-    documents: Documents<'_>,
-    splices: Vec<Splice>,
-    ops: &[Op],
-) -> Result<Edited, ExprError>
-    requires same { documents ≡ text.now }
-    requires read { read_at text.now ≡ Some (cut_of documents) }
-    requires serves { AreServed (operations_of ops.now) text.now }
-    ensures { Edits result (edit_after splices.items (spec.carry_all (operations_of ops.now)
-        text.now)) }
-{
-    // What is decoded is freed before an operation reads the head that it changes.
-    let rows = documents.into_rows();
-    carry_rows(alloc, text, rows, splices, ops)
 }
 
 /// The documents of a text that has a reading.

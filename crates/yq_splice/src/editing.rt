@@ -8,14 +8,14 @@ ghost use Rattle.yq_edit_laws.specs.Valid.{FailsAt, FailsEach, IsStep, ProgramFa
 ghost use Rattle.yq_splice.{specs.Answers.{EditRefused, EditsText}, specs.Updates.{FailAfter, LeadOn}};
 ghost use Rattle.yq_edit_laws.specs.Carried as spec;
 
-use crate::carry_plan;
 use crate::carrying::read_again;
 use crate::in_parts::carry_parts;
+use crate::planned::carry_plan;
 use crate::session::Session;
 use crate::updating::update_session;
 use std::alloc::{AllocError, Global};
 use yq_documents::Documents;
-use yq_expr::{Program, Refusal, is_heavy, is_sole, judge, plan, plan_by_rows};
+use yq_expr::{Program, Refusal, is_heavy, is_sole, judge, plan_by_rows, plan_under};
 use yq_fault::Fault;
 use yq_lookup::CutText;
 use yq_semantics::{ExprError, Op};
@@ -82,8 +82,8 @@ fn step(
     if is_heavy(alloc, program, nth, &documents)? {
         return step_in_parts(alloc, text, &documents, splices, program, nth);
     }
-    let ops = plan(alloc, program, nth, &documents)?;
-    carry_plan(alloc, text, documents, splices, &ops)
+    let plan = plan_under(alloc, program, nth, &documents)?;
+    carry_plan(alloc, text, documents, splices, plan)
 }
 
 /// The operation of update `nth` of a program on documents, if it isn't the last one and rows plan it.

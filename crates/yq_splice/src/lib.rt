@@ -7,11 +7,13 @@ pub mod edit_laws;
 mod editing;
 mod in_parts;
 mod others;
+mod planned;
 mod session;
 mod updating;
 
-pub use carrying::{apply_op, carry_plan};
+pub use carrying::apply_op;
 pub use editing::edit;
+pub use planned::carry_plan;
 pub use session::Session;
 pub use yq_edit_rules::print;
 pub use yq_text::{Edited, Splice};

@@ -56,7 +56,7 @@ impl<'a> Missing<'a> {
 }
 
 /// The step to an item or entry before which so many are.
-fn step_to<'a>(child: &Node<'a, '_>, before: usize) -> NodeStep<'a>
+pub fn step_to<'a>(child: &Node<'a, '_>, before: usize) -> NodeStep<'a>
     ensures { node_step_of result ≡ spec.step_by before (label_of child.now).key }
 {
     match child.key() {

@@ -1,5 +1,8 @@
 //! Changes: what an update changes at the nodes of documents.
+ghost use Rattle.std.specs.Prelude.{◌≡◌, map};
+ghost use Rattle.yq_planner.specs.ChangeView.{changed_of, changes_under};
 
+use std::alloc::Global;
 use yq_core::{Step, Value};
 use yq_semantics::CommentPlace;
 
@@ -30,4 +33,27 @@ pub enum Change {
 pub struct PlacedChange {
     pub path: Vec<Step>,
     pub change: Change,
+}
+
+/// Changes of a document at and below a node.
+#[derive(Drop)]
+pub struct ChangesUnder {
+    /// The steps to the node.
+    pub front: Vec<Step>,
+    /// The path of each begins there.
+    pub changes: Vec<PlacedChange>,
+}
+
+impl ChangesUnder {
+    /// Changes whose paths begin at the root.
+    #[tactic(auto, using(yq_semantics::proofs::UnderLaws::same_changes))]
+    pub fn of_root(alloc: Global, changes: Vec<PlacedChange>) -> ChangesUnder
+        ensures changes { changes_under result ≡ map changed_of changes.items }
+        ensures same { result.changes.items ≡ changes.items }
+    {
+        ChangesUnder {
+            front: Vec::new(alloc),
+            changes,
+        }
+    }
 }

@@ -1,16 +1,16 @@
 //! Operations that carry out changes: each is of one node.
 ghost use Rattle.std.specs.Prelude.{◌≡◌, IfOk, map, string_bytes};
 ghost use Rattle.yq_documents.specs.Located.{steps_of};
-ghost use Rattle.yq_planner.specs.ChangeView.{all_changed_of, changed_of};
-ghost use Rattle.yq_planner.specs.ChangeAnswers.{addition_op, addition_ops, PutsOps, GivesOps};
-ghost use Rattle.yq_semantics.specs.Operations.{operation_of};
+ghost use Rattle.yq_planner.specs.ChangeView.{all_changes_under, changed_of, changes_under};
+ghost use Rattle.yq_planner.specs.ChangeAnswers.{addition_op, addition_ops, ops_in_order, GivesOps, PutsParts};
+ghost use Rattle.yq_semantics.{specs.Operations.operation_of, specs.Under.{part_ops, PutsOps}};
 ghost use Rattle.yq_semantics.specs.Plans as spec;
 
-use crate::updating::change::{Addition, Change, PlacedChange};
+use crate::updating::change::{Addition, Change, ChangesUnder, PlacedChange};
 use std::alloc::{AllocError, Global};
 use yq_core::{Step, copied_steps};
 use yq_documents::Path;
-use yq_semantics::{CommentPlace, Op};
+use yq_semantics::{CommentPlace, Op, OpsUnder, push_part};
 
 /// The operation of an addition at a path.
 fn add_op(alloc: Global, path: &Path, addition: Addition) -> Result<Op, AllocError>
@@ -89,8 +89,8 @@ fn ordered(removal: bool, changes: Vec<PlacedChange>) -> Vec<PlacedChange>
     ordered
 }
 
-/// Puts the operations of changes in document `doc` after others.
-pub fn push_changes(
+/// Puts the operations of changes in document `doc` after others, by paths that begin where those of the changes do.
+fn push_each(
     alloc: Global,
     doc: usize,
     changes: Vec<PlacedChange>,
@@ -104,19 +104,63 @@ pub fn push_changes(
     Ok(())
 }
 
+/// The operations of the changes of document `doc`.
+#[tactic(auto, using(yq_semantics::proofs::UnderLaws::in_order_under))]
+fn document_ops(
+    alloc: Global,
+    doc: usize,
+    removal: bool,
+    changed: ChangesUnder,
+) -> Result<OpsUnder, AllocError>
+    ensures { IfOk result (λ x. part_ops x ≡ ops_in_order doc removal changed) }
+{
+    let ChangesUnder { front, changes } = changed;
+    let mut ops = Vec::new(alloc);
+    push_each(alloc, doc, ordered(removal, changes), &mut ops)?;
+    Ok(OpsUnder { front, ops })
+}
+
+/// Puts the operations of changes in document `doc` after others, by their paths from the root.
+pub fn push_changes(
+    alloc: Global,
+    doc: usize,
+    changed: ChangesUnder,
+    ops: &mut Vec<Op>,
+) -> Result<(), AllocError>
+    ensures { PutsOps result ops.old ops.new (spec.ops_of doc (changes_under changed)) }
+{
+    let part = document_ops(alloc, doc, false, changed)?;
+    push_part(alloc, part, ops)
+}
+
+/// Puts the operations of the changes of document `doc` after those of others.
+#[tactic(auto, using(yq_semantics::proofs::UnderLaws::parts_more))]
+fn push_document(
+    alloc: Global,
+    doc: usize,
+    removal: bool,
+    changed: ChangesUnder,
+    parts: &mut Vec<OpsUnder>,
+) -> Result<(), AllocError>
+    ensures { PutsParts result parts.old parts.new (ops_in_order doc removal changed) }
+{
+    let part = document_ops(alloc, doc, removal, changed)?;
+    Ok(parts.push(part)?)
+}
+
 /// The operations of the changes of each document, in order.
 pub fn operations(
     alloc: Global,
     removal: bool,
-    changes: Vec<Vec<PlacedChange>>,
-) -> Result<Vec<Op>, AllocError>
-    ensures { GivesOps result (spec.all_ops removal 0 (all_changed_of changes.items)) }
+    changes: Vec<ChangesUnder>,
+) -> Result<Vec<OpsUnder>, AllocError>
+    ensures { GivesOps result (spec.all_ops removal 0 (all_changes_under changes.items)) }
 {
-    let mut ops = Vec::new(alloc);
+    let mut parts = Vec::new(alloc);
     let mut doc = 0;
     'documents: for changed in changes {
-        push_changes(alloc, doc, ordered(removal, changed), &mut ops)?;
+        push_document(alloc, doc, removal, changed, &mut parts)?;
         doc += 1;
     }
-    Ok(ops)
+    Ok(parts)
 }

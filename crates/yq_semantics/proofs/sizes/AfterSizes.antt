@@ -1,6 +1,6 @@
 -- How many items and entries are in documents after an operation that puts or adds some.
 use Rattle.std.proofs.Common.{◌≡◌, ℕ, zero, suc, ◌+◌, ◌≤◌, Bool, true, false, List, [], ◌∷◌, Option, Some, None, option_and_then}
-use Rattle.std.{proofs.Common.{if◌then◌else◌, refl, ◌∙◌, arith, rules}, proofs.lemmas.Option.{none-some, same_Some}, specs.List.slice_get}
+use Rattle.std.{proofs.Common.{if◌then◌else◌, refl, arith, rules}, proofs.lemmas.Option.{none-some, same_Some}, specs.List.slice_get}
 use Rattle.yq_core.specs.Tree.{Label, Node, alias, scalar, list, map, Children, none, child, children_of, anchor_of, key_label}
 use Rattle.yq_core.specs.Paths.{Step, is_here, further, child_at, node_at, change_child, append_child, within, changed_at}
 use Rattle.yq_documents.{specs.Documents.Document, specs.TreeEdits.{change_nth, replaced_node, led, headed}}

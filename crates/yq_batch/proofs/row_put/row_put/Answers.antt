@@ -5,9 +5,9 @@ use Rattle.yq_batch.proofs.row_put.row_put.Goals as goal
 
 pub value_in_row-requires-clause-row : goal.value_in_row-requires-clause-row
 value_in_row-requires-clause-row c =
-    subst (λ (u : List ℕ). IsHeldRow c.in-Replace.path.doc (steps_of c.in-Replace.path) (cut_of u) c.in-Some.at) (sym c.in-Some.ensures.same) c.in-Some.ensures.row
+    subst (λ (u : List ℕ). IsHeldRow c.args.at.path.now.doc (steps_of c.args.at.path.now) (cut_of u) c.in-Some.row) (sym c.in-Some.ensures.same) c.in-Some.ensures.row
 
 pub comment_in_row-requires-clause-row : goal.comment_in_row-requires-clause-row
 comment_in_row-requires-clause-row c =
     let at = c.in-Some-to_held_row in
-    subst (λ (u : List ℕ). IsHeldRow c.in-LineComment.path.doc (steps_of c.in-LineComment.path) (cut_of u) at.at) (sym at.ensures.same) at.ensures.row
+    subst (λ (u : List ℕ). IsHeldRow c.args.at.path.now.doc (steps_of c.args.at.path.now) (cut_of u) at.row) (sym at.ensures.same) at.ensures.row

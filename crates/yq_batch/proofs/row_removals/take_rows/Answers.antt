@@ -6,34 +6,34 @@ use Rattle.yq_batch.proofs.row_removals.take_rows.Goals as goal
 
 pub len-requires : goal.len-requires
 len-requires c =
-    let small = out_small c.go_to_line.new.self c.args.path.now.doc (steps_of c.args.path.now) (removal_view c.in-Some.removal) c.text-text.ensures.read (sym c.in-Some.ensures) in
+    let small = out_small c.args.cut.now c.args.path.now.doc (steps_of c.args.path.now) (removal_view c.in-Some.removal) c.text-text.ensures.read (sym c.in-Some.ensures) in
     omega (arith, small)
 
 pub overflow_add-end : goal.overflow_add-end
 overflow_add-end c =
-    let small = out_small c.go_to_line.new.self c.args.path.now.doc (steps_of c.args.path.now) (removal_view c.in-Some.removal) c.text-text.ensures.read (sym c.in-Some.ensures) in
+    let small = out_small c.args.cut.now c.args.path.now.doc (steps_of c.args.path.now) (removal_view c.in-Some.removal) c.text-text.ensures.read (sym c.in-Some.ensures) in
     omega (arith, small, c.len-start.ensures, c.len.ensures)
 
 pub exchange-requires-clause-utf8 : goal.exchange-requires-clause-utf8
 exchange-requires-clause-utf8 c =
-    (found_rows c.args.cut.now c.go_to_line.new.self c.args.path.now.doc (steps_of c.args.path.now) (removal_view c.in-Some.removal) c.args.least c.least_for-next.result c.args.run.now c.len-start.result c.len.result
-    c.go_to_line.ensures c.text-text.ensures.read c.in-Some.ensures c.requires.run c.requires.others c.requires.fits c.len-start.ensures c.len.ensures c.if-end-run.false (c.if-not-stays_at.ensures refl) c.least_for-next.ensures
+    (found_rows c.args.cut.now c.args.cut.now c.args.path.now.doc (steps_of c.args.path.now) (removal_view c.in-Some.removal) c.args.least c.least_for-next.result c.args.run.now c.len-start.result c.len.result
+    refl c.text-text.ensures.read c.in-Some.ensures c.requires.run c.requires.others c.requires.fits c.len-start.ensures c.len.ensures c.if-end-run.false (c.if-not-stays_at.ensures refl) c.least_for-next.ensures
     c.is_text.ensures c.is_text-2.ensures).utf8
 
 pub exchange-requires-clause-start : goal.exchange-requires-clause-start
 exchange-requires-clause-start c =
-    (found_rows c.args.cut.now c.go_to_line.new.self c.args.path.now.doc (steps_of c.args.path.now) (removal_view c.in-Some.removal) c.args.least c.least_for-next.result c.args.run.now c.len-start.result c.len.result
-    c.go_to_line.ensures c.text-text.ensures.read c.in-Some.ensures c.requires.run c.requires.others c.requires.fits c.len-start.ensures c.len.ensures c.if-end-run.false (c.if-not-stays_at.ensures refl) c.least_for-next.ensures
+    (found_rows c.args.cut.now c.args.cut.now c.args.path.now.doc (steps_of c.args.path.now) (removal_view c.in-Some.removal) c.args.least c.least_for-next.result c.args.run.now c.len-start.result c.len.result
+    refl c.text-text.ensures.read c.in-Some.ensures c.requires.run c.requires.others c.requires.fits c.len-start.ensures c.len.ensures c.if-end-run.false (c.if-not-stays_at.ensures refl) c.least_for-next.ensures
     c.is_text.ensures c.is_text-2.ensures).starts
 
 pub exchange-requires-clause-end : goal.exchange-requires-clause-end
 exchange-requires-clause-end c =
-    (found_rows c.args.cut.now c.go_to_line.new.self c.args.path.now.doc (steps_of c.args.path.now) (removal_view c.in-Some.removal) c.args.least c.least_for-next.result c.args.run.now c.len-start.result c.len.result
-    c.go_to_line.ensures c.text-text.ensures.read c.in-Some.ensures c.requires.run c.requires.others c.requires.fits c.len-start.ensures c.len.ensures c.if-end-run.false (c.if-not-stays_at.ensures refl) c.least_for-next.ensures
+    (found_rows c.args.cut.now c.args.cut.now c.args.path.now.doc (steps_of c.args.path.now) (removal_view c.in-Some.removal) c.args.least c.least_for-next.result c.args.run.now c.len-start.result c.len.result
+    refl c.text-text.ensures.read c.in-Some.ensures c.requires.run c.requires.others c.requires.fits c.len-start.ensures c.len.ensures c.if-end-run.false (c.if-not-stays_at.ensures refl) c.least_for-next.ensures
     c.is_text.ensures c.is_text-2.ensures).finishes
 
 pub returns-clause-ok : goal.returns-clause-ok
 returns-clause-ok c =
-    (found_rows c.args.cut.now c.go_to_line.new.self c.args.path.now.doc (steps_of c.args.path.now) (removal_view c.in-Some.removal) c.args.least c.least_for-next.result c.args.run.now c.len-start.result c.len.result
-    c.go_to_line.ensures c.text-text.ensures.read c.in-Some.ensures c.requires.run c.requires.others c.requires.fits c.len-start.ensures c.len.ensures c.if-end-run.false (c.if-not-stays_at.ensures refl) c.least_for-next.ensures
+    (found_rows c.args.cut.now c.args.cut.now c.args.path.now.doc (steps_of c.args.path.now) (removal_view c.in-Some.removal) c.args.least c.least_for-next.result c.args.run.now c.len-start.result c.len.result
+    refl c.text-text.ensures.read c.in-Some.ensures c.requires.run c.requires.others c.requires.fits c.len-start.ensures c.len.ensures c.if-end-run.false (c.if-not-stays_at.ensures refl) c.least_for-next.ensures
     c.is_text.ensures c.is_text-2.ensures).on c.exchange.new.run c.in_ok-exchange.ensures.ok

@@ -1,5 +1,5 @@
-use Rattle.std.{proofs.Common.{Err, List, map, ap, ◌∙◌, subst, arith, ◌≤◌, length}, proofs.lemmas.Result.err_from_is_err_and}
-use Rattle.yq_semantics.{specs.Changes.{Changed, all_allowed}, specs.Judgement.{Judgement, and_then}, specs.PlacesApart.AreIn}
+use Rattle.std.{proofs.Common.{Err, List, map, ap, sym, ◌∙◌, subst, arith, ◌≤◌, length}, proofs.lemmas.Result.err_from_is_err_and}
+use Rattle.yq_semantics.{specs.Changes.{Changed, all_allowed}, specs.Judgement.{Judgement, and_then, gives}, specs.PlacesApart.AreIn}
 use Rattle.yq_semantics.specs.Places.{FoundPlace}
 use Rattle.yq_planner.specs.ChangeView.{changed_of}
 use Rattle.yq_expr.{specs.JudgedChanges.effect_of, proofs.AllChanges.each_done}
@@ -36,3 +36,4 @@ returns-clause-changes c = λ root named within.
     let f : FoundPlace → Judgement (List Changed) = λ q. and_then (all_allowed root) (effect_of c.args.effect.now c.args.documents.now q) in
     let past : length c.args.places.now ≤ c.places.place-index = omega (arith, c.places-test.false) in
     each_done place_of f (map changed_of c.places.changes.items) c.args.places.now c.places.place-index _ past (c.places.invariant.so_far root named within)
+    ∙ ap gives (sym c.of_root.ensures.changes)

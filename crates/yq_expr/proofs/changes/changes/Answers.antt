@@ -1,9 +1,9 @@
-use Rattle.std.{proofs.Common.{◌<◌, List, length, map, ap, sym, subst, ◌∙◌, arith, rules}, proofs.lemmas.List.map_push}
+use Rattle.std.{proofs.Common.{◌<◌, List, length, ap, sym, subst, ◌∙◌, arith, rules}, proofs.lemmas.List.map_push}
 use Rattle.std.proofs.lemmas.Result.{err_from_is_err_and}
 use Rattle.yq_core.specs.Tree.{Node}
 use Rattle.yq_documents.{specs.Documents.Document, specs.Reading.documents_of}
 use Rattle.yq_semantics.{specs.Changes.changes_in, specs.Rooms.room_of, specs.View.update_of}
-use Rattle.yq_planner.{specs.ChangeView.{all_changed_of, changed_of}, specs.ValidChanges.{AreAllValid, AreValidChanges}}
+use Rattle.yq_planner.{specs.ChangeView.{all_changes_under, changes_under}, specs.ValidChanges.{AreAllValid, AreValidChanges}}
 use Rattle.yq_planner.proofs.ValidLaws.{each_more}
 use Rattle.yq_eval.{proofs.EachLaws.failed, proofs.MatchLaws.document_there}
 use Rattle.yq_expr.{proofs.AllChanges.{document_more, document_fails}, proofs.DocumentLaws.document_root}
@@ -26,9 +26,9 @@ documents-preserved c =
     let d = document_there docs c.documents.doc within in
     record {
       valid = subst AreAllValid (sym c.in_ok-push.ensures.items)
-          (each_more (λ cs. AreValidChanges cs.items) c.documents.changes.items c.in_ok-changes_in.field-0 c.documents.invariant.valid c.in_ok-changes_in.ensures.valid);
-      so_far = document_more (update_of c.args.update.now) (room_of c.args.documents.now) docs c.documents.doc d.0 (all_changed_of c.documents.changes.items) _ (map changed_of c.in_ok-changes_in.field-0.items) _ d.2
-          (ap all_changed_of c.in_ok-push.ensures.items ∙ map_push (λ cs. map changed_of cs.items) c.documents.changes.items c.in_ok-changes_in.field-0)
+          (each_more (λ x. AreValidChanges x.changes.items) c.documents.changes.items c.in_ok-changes_in.field-0 c.documents.invariant.valid c.in_ok-changes_in.ensures.valid);
+      so_far = document_more (update_of c.args.update.now) (room_of c.args.documents.now) docs c.documents.doc d.0 (all_changes_under c.documents.changes.items) _ (changes_under c.in_ok-changes_in.field-0) _ d.2
+          (ap all_changes_under c.in_ok-push.ensures.items ∙ map_push changes_under c.documents.changes.items c.in_ok-changes_in.field-0)
           (ap (λ (n : Node). changes_in (update_of c.args.update.now) c.documents.doc (room_of c.args.documents.now c.documents.doc) n) (sym (c.root-root.ensures.node d.0 d.1)) ∙ c.in_ok-changes_in.ensures.changes)
           c.documents.invariant.so_far;
     }

@@ -5,7 +5,7 @@ use Rattle.yq_nodes.specs.Nodes.{node_of}
 use Rattle.yq_semantics.{specs.Changes.{Room, changes_at, left_pipe}, specs.Judgement.{MatchFails, gives}, specs.Operations.operations_of}
 use Rattle.yq_semantics.{specs.Pipes.places, specs.Places.FoundPlace, specs.PlacesApart.AreIn, specs.Program.{Stage, Update}}
 use Rattle.yq_semantics.{specs.Rooms.room_of, specs.View.update_of, proofs.updates.PipePlaces.places_stand}
-use Rattle.yq_planner.{specs.ChangeView.changed_of, specs.ValidChanges.{HasValidValue, HaveValidValues}}
+use Rattle.yq_planner.{specs.ChangeView.changes_under, specs.ValidChanges.{HasValidValue, HaveValidValues}}
 use Rattle.yq_planner.proofs.ValidLaws.{each_joined, ops_valid}
 use Rattle.yq_eval.{specs.PlaceView.{place_of, places_of}, specs.TreeScalars.HaveScalars, proofs.MatchLaws.places_have}
 use Rattle.yq_expr.{specs.Parts.{IsPlanPart, document_ops, values_limit}, proofs.OversizedOps.document_begins}
@@ -73,7 +73,7 @@ returns-clause-part c =
     let changed = ap (changes_at c.args.document.doc room root u) (sym some) ∙ c.in_ok-changes.ensures.changes in
     let before = operations_of c.args.part.now.ops.items in
     let after = operations_of c.push_changes.new.ops.items in
-    let cs = map changed_of c.in_ok-changes.changes.items in
+    let cs = changes_under c.in_ok-changes.changes in
     let is = c.in_ok-push_changes.ensures in
     let count = length-map c.in_ok-places.places.items place_of in
     elim c.if-end-count.branch [
@@ -128,4 +128,4 @@ returns-then-branch-clause-ends c =
 pub returns-clause-valid : goal.returns-clause-valid
 returns-clause-valid c = λ h.
     subst HaveValidValues (sym c.in_ok-push_changes.ensures)
-    (each_joined HasValidValue (operations_of c.args.part.now.ops.items) _ h (ops_valid c.args.document.doc c.in_ok-changes.changes.items c.in_ok-changes.ensures.valid))
+    (each_joined HasValidValue (operations_of c.args.part.now.ops.items) _ h (ops_valid c.args.document.doc c.in_ok-changes.changes c.in_ok-changes.ensures.valid))

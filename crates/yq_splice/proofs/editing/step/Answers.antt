@@ -1,60 +1,54 @@
-use Rattle.std.{proofs.Common.{◌≡◌, ℕ, List, Ok, Some, sym, ap, subst, ◌∙◌}, proofs.lemmas.Result.err_from_is_err_and, specs.Prelude.Vec}
+use Rattle.std.{proofs.Common.{◌≡◌, ℕ, List, Ok, Some, ap, ◌∙◌}, proofs.lemmas.Result.err_from_is_err_and, specs.Prelude.Vec}
 use Rattle.std.specs.declared.alloc.Global.{Global}
 use Rattle.yq_documents.specs.Reading.{cut_of, documents, read_at}
-use Rattle.yq_semantics.{specs.Operations.{Operation, operations_of}, specs.declared.op.Op.Op, specs.View.program_of}
-use Rattle.yq_edit_laws.{specs.Answers.Edits, specs.Carried.carry_all, specs.Edit.edit_after, specs.Valid.{AreServed, HaveOperands}}
+use Rattle.yq_semantics.{specs.Operations.Operation, specs.Under.all_under, specs.View.program_of, specs.declared.under.OpsUnder.OpsUnder}
+use Rattle.yq_edit_laws.{specs.Answers.Edits, specs.Carried.carry_all, specs.Edit.edit_after, specs.Valid.HaveOperands}
 use Rattle.yq_edit_laws.proofs.MeaningLaws.{plan_serves}
 use Rattle.yq_edit_laws.proofs.UpdateLaws.{update_unplanned, update_planned, update_holds, update_there, update_ok, update_err}
-use Rattle.yq_splice.{proofs.PartLaws.weighing_fails, proofs.ValidOperands.operands_valid}
+use Rattle.yq_splice.{proofs.PartLaws.weighing_fails, proofs.ValidOperands.parts_valid}
 use Rattle.yq_splice.proofs.editing.step.Goals as goal
 
-pub returns-in_err-ops-clause-err : goal.returns-in_err-ops-clause-err
-returns-in_err-ops-clause-err c =
-    let p = err_from_is_err_and c.from_residual-in_err-ops.result c.from_residual-in_err-ops.ensures.1 in
+pub returns-in_err-plan-clause-err : goal.returns-in_err-plan-clause-err
+returns-in_err-plan-clause-err c =
+    let p = err_from_is_err_and c.from_residual-in_err-plan.result c.from_residual-in_err-plan.ensures.1 in
     let text = c.requires.same in
     let is : read_at c.args.text.now ≡ Some (cut_of c.args.documents) = c.requires.read in
     rw (p.1, p.2)
-    (λ u at. update_unplanned (λ (v : Vec Op Global). operations_of v.items) u c.args.text.now c.args.documents _ is text (c.in_err-ops.ensures.exact u at))
+    (λ u at. update_unplanned (λ (v : Vec OpsUnder Global). all_under v.items) u c.args.text.now c.args.documents _ is text (c.in_err-plan.ensures.exact u at))
 
 pub carry_plan-requires-clause-serves : goal.carry_plan-requires-clause-serves
 carry_plan-requires-clause-serves c =
     let t : List ℕ = c.args.text.now in
     let d : List ℕ = c.args.documents in
-    let ops : List Operation = operations_of c.in_ok-ops.ops.items in
+    let ops : List Operation = all_under c.in_ok-plan.plan.items in
     let text : d ≡ t = c.requires.same in
     let is : read_at t ≡ Some (cut_of d) = c.requires.read in
-    let valid : HaveOperands ops = operands_valid c.in_ok-ops.ops.items c.in_ok-ops.ensures.valid in
+    let valid : HaveOperands ops = parts_valid c.in_ok-plan.plan.items c.in_ok-plan.ensures.valid in
     let u = update_there (program_of c.args.program.now) c.args.nth c.requires.within in
-    let served : AreServed ops t =
-    (documents (cut_of d), plan_serves u.0 t (cut_of d) is ops (update_planned u.0 t d ops text (c.in_ok-ops.ensures.exact u.0 u.1)) valid (update_holds (program_of c.args.program.now) c.args.nth u.0 c.requires.literals u.1)) in
-    subst (λ (x : List Op). AreServed (operations_of x) t) (sym c.deref.ensures.value) served
+    (documents (cut_of d), plan_serves u.0 t (cut_of d) is ops (update_planned u.0 t d ops text (c.in_ok-plan.ensures.exact u.0 u.1)) valid (update_holds (program_of c.args.program.now) c.args.nth u.0 c.requires.literals u.1))
 
 pub returns-clause-ok : goal.returns-clause-ok
 returns-clause-ok c =
     let t : List ℕ = c.args.text.now in
     let d : List ℕ = c.args.documents in
-    let ops : List Operation = operations_of c.in_ok-ops.ops.items in
+    let ops : List Operation = all_under c.in_ok-plan.plan.items in
     let text : d ≡ t = c.requires.same in
     let is : read_at t ≡ Some (cut_of d) = c.requires.read in
-    let valid : HaveOperands ops = operands_valid c.in_ok-ops.ops.items c.in_ok-ops.ensures.valid in
-    let new_bytes : Edits c.carry_plan.result (edit_after c.args.splices.items (carry_all ops t)) =
-    subst (λ (x : List Op). Edits c.carry_plan.result (edit_after c.args.splices.items (carry_all (operations_of x) t))) c.deref.ensures.value
-    c.carry_plan.ensures in
-    λ u at. update_ok u t (cut_of d) ops is (update_planned u t d ops text (c.in_ok-ops.ensures.exact u at))
+    let valid : HaveOperands ops = parts_valid c.in_ok-plan.plan.items c.in_ok-plan.ensures.valid in
+    let new_bytes : Edits c.carry_plan.result (edit_after c.args.splices.items (carry_all ops t)) = c.carry_plan.ensures in
+    λ u at. update_ok u t (cut_of d) ops is (update_planned u t d ops text (c.in_ok-plan.ensures.exact u at))
     (update_holds (program_of c.args.program.now) c.args.nth u c.requires.literals at) valid c.carry_plan.result c.args.splices.items new_bytes
 
 pub returns-clause-err : goal.returns-clause-err
 returns-clause-err c =
     let t : List ℕ = c.args.text.now in
     let d : List ℕ = c.args.documents in
-    let ops : List Operation = operations_of c.in_ok-ops.ops.items in
+    let ops : List Operation = all_under c.in_ok-plan.plan.items in
     let text : d ≡ t = c.requires.same in
     let is : read_at t ≡ Some (cut_of d) = c.requires.read in
-    let valid : HaveOperands ops = operands_valid c.in_ok-ops.ops.items c.in_ok-ops.ensures.valid in
-    let new_bytes : Edits c.carry_plan.result (edit_after c.args.splices.items (carry_all ops t)) =
-    subst (λ (x : List Op). Edits c.carry_plan.result (edit_after c.args.splices.items (carry_all (operations_of x) t))) c.deref.ensures.value
-    c.carry_plan.ensures in
-    λ u at. update_err u t (cut_of d) ops is (update_planned u t d ops text (c.in_ok-ops.ensures.exact u at))
+    let valid : HaveOperands ops = parts_valid c.in_ok-plan.plan.items c.in_ok-plan.ensures.valid in
+    let new_bytes : Edits c.carry_plan.result (edit_after c.args.splices.items (carry_all ops t)) = c.carry_plan.ensures in
+    λ u at. update_err u t (cut_of d) ops is (update_planned u t d ops text (c.in_ok-plan.ensures.exact u at))
     (update_holds (program_of c.args.program.now) c.args.nth u c.requires.literals at) valid c.carry_plan.result c.args.splices.items new_bytes
 
 pub returns-in_err-is_heavy-clause-err : goal.returns-in_err-is_heavy-clause-err

@@ -1,7 +1,7 @@
 use Rattle.std.{proofs.Common.{◌≡◌, ◌++◌, map, length}, specs.Vec.Iter.{into_iter_items, into_iter_len}}
 use Rattle.yq_planner.specs.ChangeView.{changed_of}
 use Rattle.yq_semantics.{specs.Operations.operations_of, specs.Plans.ops_of}
-use Rattle.yq_planner.proofs.updating.operations.push_changes.Given as goal
+use Rattle.yq_planner.proofs.updating.operations.push_each.Given as goal
 
 abbrev pub invariant-each : goal.invariant-each
 invariant-each l = record {

@@ -1,0 +1,109 @@
+//! Plans carried out: operations of each document at and below one node.
+ghost use Rattle.std.specs.Prelude.{◌≡◌, Some, IfErr, IfOk, IfSome, string_bytes};
+ghost use Rattle.yq_documents.specs.Reading.{cut_of, read_at};
+ghost use Rattle.yq_row_table.specs.View.{rows_view};
+ghost use Rattle.yq_semantics.specs.Under.{all_under, part_ops};
+ghost use Rattle.yq_edit_laws.{specs.Answers.{Edits, EditFails}, specs.Edit.{edit_after, gives}, specs.Valid.AreServed};
+ghost use Rattle.yq_edit_laws.specs.Carried as spec;
+
+use crate::carrying::{carry_rows, edited_behind};
+use crate::others::{is_worth, with_others};
+use std::alloc::Global;
+use yq_batch::{Together, carry_under};
+use yq_documents::Documents;
+use yq_lookup::CutText;
+use yq_row_table::Rows;
+use yq_semantics::{ExprError, OpsUnder, whole_ops, whole_removals};
+use yq_text::{Edited, Splice};
+
+/// The operations of a part of a plan carried out on a text with its cut, where that is done together for those below
+/// its node; nothing, where it isn't, or only for few of them.
+fn carry_part_under<'d>(
+    alloc: Global,
+    cut: &CutText<'d, '_>,
+    part: &'d OpsUnder,
+) -> Result<Option<Edited>, ExprError>
+    requires { AreServed (part_ops part.now) cut.now }
+    ensures ok { IfOk result (λ o. IfSome o (λ e. spec.carry_all (part_ops part.now) cut.now ≡
+        gives (string_bytes e.text) e.splices.items)) }
+    ensures err { IfErr result (λ e. EditFails e (spec.carry_all (part_ops part.now) cut.now)) }
+{
+    let count = part.ops.len();
+    let found = carry_under(alloc, cut, &part.front, &part.ops)?;
+    let Some(together) = found else {
+        return Ok(None);
+    };
+    let Together { edited, left } = together;
+    if left.len() > 1 && !is_worth(count, left.len()) {
+        return Ok(None);
+    }
+    let whole = whole_removals(alloc, &part.front, left)?;
+    let Some(ops) = whole else {
+        return Ok(None);
+    };
+    let carried = with_others(alloc, count, Together { edited, left: &ops })?;
+    Ok(Some(carried))
+}
+
+/// The operations of a plan carried out on a text with its cut, where all are below one node, and that is done together;
+/// nothing, where it isn't.
+fn carry_below<'d>(
+    alloc: Global,
+    cut: &CutText<'d, '_>,
+    plan: &'d [OpsUnder],
+) -> Result<Option<Edited>, ExprError>
+    requires { AreServed (all_under plan.now) cut.now }
+    ensures ok { IfOk result (λ o. IfSome o (λ e. spec.carry_all (all_under plan.now) cut.now ≡
+        gives (string_bytes e.text) e.splices.items)) }
+    ensures err { IfErr result (λ e. EditFails e (spec.carry_all (all_under plan.now) cut.now)) }
+{
+    let [part] = plan else {
+        return Ok(None);
+    };
+    if part.front.is_empty() {
+        return Ok(None);
+    }
+    carry_part_under(alloc, cut, part)
+}
+
+/// The operations of a plan carried out on a text with its rows; their splices come after others.
+fn carry_on_rows(
+    alloc: Global,
+    text: &str,
+    rows: Rows<'_>,
+    splices: Vec<Splice>,
+    plan: Vec<OpsUnder>,
+) -> Result<Edited, ExprError>
+    requires rows { rows ≡ rows_view (cut_of text.now) }
+    requires read { read_at text.now ≡ Some (cut_of text.now) }
+    requires serves { AreServed (all_under plan.items) text.now }
+    ensures { Edits result (edit_after splices.items (spec.carry_all (all_under plan.items)
+        text.now)) }
+{
+    let below = carry_below(alloc, &CutText::new(text, &rows), &plan)?;
+    if let Some(edited) = below {
+        return Ok(edited_behind(splices, edited)?);
+    }
+    let ops = whole_ops(alloc, plan)?;
+    carry_rows(alloc, text, rows, splices, &ops)
+}
+
+/// The operations of a plan carried out on a text that was read; their splices come after others. For a
+/// sole one the text is not copied.
+pub fn carry_plan(
+    alloc: Global,
+    text: &str,
+    documents: Documents<'_>,
+    splices: Vec<Splice>,
+    plan: Vec<OpsUnder>,
+) -> Result<Edited, ExprError>
+    requires same { documents ≡ text.now }
+    requires read { read_at text.now ≡ Some (cut_of documents) }
+    requires serves { AreServed (all_under plan.items) text.now }
+    ensures { Edits result (edit_after splices.items (spec.carry_all (all_under plan.items)
+        text.now)) }
+{
+    // What is decoded is freed before an operation reads the head that it changes.
+    let rows = documents.into_rows();
+    carry_on_rows(alloc, text, rows, splices, plan)
+}
