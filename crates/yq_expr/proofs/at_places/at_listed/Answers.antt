@@ -1,0 +1,6 @@
+use Rattle.yq_expr.specs.JudgedChanges.{MayJudgeEachOf}
+use Rattle.yq_eval.specs.PlaceView.{places_of}
+use Rattle.yq_expr.proofs.at_places.at_listed.Goals as goal
+
+pub returns-in-Some-below-clause-changes : goal.returns-in-Some-below-clause-changes
+returns-in-Some-below-clause-changes c = (rw c.in-Some-below.is at c.in_ok-below.ensures.changes)
