@@ -1,4 +1,4 @@
-use Rattle.std.proofs.Common.{Err, List, [], ◌∷◌, ◌++◌, map, ap, sym, ◌∙◌, subst, arith, ◌≤◌, length}
+use Rattle.std.proofs.Common.{List, [], ◌∷◌, ◌++◌, map, ap, sym, ◌∙◌, subst, arith, ◌≤◌, length}
 use Rattle.std.proofs.lemmas.Result.{err_from_is_err_and}
 use Rattle.yq_core.specs.Entries.{tree_step}
 use Rattle.yq_semantics.{specs.Changes.{Changed, all_allowed}, specs.Judgement.{Judgement, and_then, gives}, specs.PlacesApart.AreIn}

@@ -1,5 +1,3 @@
-use Rattle.yq_expr.specs.JudgedChanges.{MayJudgeEachOf}
-use Rattle.yq_eval.specs.PlaceView.{places_of}
 use Rattle.yq_expr.proofs.at_places.at_listed.Goals as goal
 
 pub returns-in-Some-below-clause-changes : goal.returns-in-Some-below-clause-changes
