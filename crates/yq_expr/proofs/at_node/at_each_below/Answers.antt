@@ -1,11 +1,11 @@
-use Rattle.std.proofs.Common.{List, [], ◌∷◌, ◌++◌, map, ap, sym, ◌∙◌, subst, arith, ◌≤◌, length}
-use Rattle.std.proofs.lemmas.Result.{err_from_is_err_and}
+use Rattle.std.{proofs.Common.{List, [], ◌∷◌, ◌++◌, map, ap, sym, ◌∙◌, subst, arith, ◌≤◌, length}, proofs.lemmas.Result.err_from_is_err_and}
 use Rattle.yq_core.specs.Entries.{tree_step}
 use Rattle.yq_semantics.{specs.Changes.{Changed, all_allowed}, specs.Judgement.{Judgement, and_then, gives}, specs.PlacesApart.AreIn}
 use Rattle.yq_semantics.specs.Places.{FoundPlace}
 use Rattle.yq_planner.specs.ChangeView.{changes_below}
 use Rattle.yq_expr.{specs.JudgedChanges.effect_of, proofs.AllChanges.each_done}
-use Rattle.yq_eval.{specs.PlaceView.{node_step_of, place_of}, specs.TreeScalars.HaveScalars, proofs.EachLaws.{each_more, each_fails, reached}}
+use Rattle.yq_eval.{specs.PlaceView.{node_step_of, place_of}, specs.TreeScalars.HaveScalars}
+use Rattle.yq_eval.proofs.EachLaws.{each_more, each_fails, reached}
 use Rattle.yq_expr.proofs.at_node.at_each_below.Goals as goal
 
 pub push_below-requires-clause-scalars : goal.push_below-requires-clause-scalars
