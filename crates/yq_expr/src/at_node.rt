@@ -93,7 +93,7 @@ pub(crate) fn at_children<'a, 't>(
     let mut before = 0;
     'children: while before < count {
         let Some(child) = children.next() else {
-            break;
+            return Ok(so_far.ended());
         };
         let step = step_to(&child, before);
         let place = FoundPlace::nth_below(&parent.path, before, &child);

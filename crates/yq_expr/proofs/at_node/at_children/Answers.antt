@@ -1,10 +1,9 @@
-use Rattle.std.proofs.Common.{◌≡◌, ◌++◌, ◌∷◌, [], Err, List, map, refl, sym, ap, ◌∙◌, subst, arith, rules}
+use Rattle.std.proofs.Common.{◌≡◌, ◌++◌, ◌∷◌, [], Err, List, refl, sym, ap, ◌∙◌, subst, arith, rules}
 use Rattle.std.proofs.lemmas.Result.{err_from_is_err_and}
 use Rattle.yq_nodes.{specs.Children.left_of, specs.Nodes.{label_of, node_of}}
 use Rattle.yq_outline.specs.Counts.{count}
 use Rattle.yq_semantics.{specs.Changes.{Changed, all_allowed}, specs.Judgement.{MatchFails, Judgement, and_then, gives}}
 use Rattle.yq_semantics.{specs.PlacesApart.{AreIn, IsIn}, specs.Places.FoundPlace}
-use Rattle.yq_core.specs.Entries.{tree_step}
 use Rattle.yq_expr.{specs.JudgedChanges.effect_of, proofs.ChildPlaces.{nothing_before, first_child, child_more, child_fails, children_done}}
 use Rattle.yq_planner.specs.ChangeView.{changes_below}
 use Rattle.yq_eval.{specs.FoundView.place_at_path, specs.PlaceView.{path_of, put_behind}, specs.TreeScalars.{HasScalars, HaveScalars}}
@@ -67,7 +66,7 @@ returns-clause-changes c = λ root named within.
     c.children.before (left_of c.children.children) (changes_below (path_of c.args.parent.now.path) c.children.so_far.changes.items) _
     (none_counted (left_of c.children.children) (omega (arith, c.children.invariant.counted, c.children-test.false)))
     (c.children.invariant.so_far root named within)
-    ∙ ap gives (sym (c.ended.ensures.changes ∙ ap (λ xs. changes_below xs c.children.so_far.changes.items) c.children.invariant.steps))
+    ∙ ap gives (sym (c.ended-2.ensures.changes ∙ ap (λ xs. changes_below xs c.children.so_far.changes.items) c.children.invariant.steps))
 
 pub overflow_add-before : goal.overflow_add-before
 overflow_add-before c = omega (arith, c.children-test.true)
@@ -76,4 +75,9 @@ pub children-init : goal.children-init
 children-init c = search (rules, nothing_before)
 
 pub returns-in_default-clause-changes : goal.returns-in_default-clause-changes
-returns-in_default-clause-changes c = search (rules, children_done, c.children.invariant.so_far)
+returns-in_default-clause-changes c = λ root named within.
+    children_done (λ q. and_then (all_allowed root) (effect_of c.args.effect.now c.args.documents.now q)) (place_at_path (path_of c.args.parent.now.path) (node_of c.args.parent.now.node))
+    c.children.before (left_of c.children.children) (changes_below (path_of c.args.parent.now.path) c.children.so_far.changes.items) _
+    c.in_default.ensures.steps.0
+    (c.children.invariant.so_far root named within)
+    ∙ ap gives (sym (c.ended.ensures.changes ∙ ap (λ xs. changes_below xs c.children.so_far.changes.items) c.children.invariant.steps))

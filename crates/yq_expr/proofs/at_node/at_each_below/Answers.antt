@@ -1,10 +1,11 @@
-use Rattle.std.{proofs.Common.{Err, List, map, ap, sym, ◌∙◌, subst, arith, ◌≤◌, length}, proofs.lemmas.Result.err_from_is_err_and}
+use Rattle.std.{proofs.Common.{List, [], ◌∷◌, ◌++◌, map, ap, sym, ◌∙◌, subst, arith, ◌≤◌, length}, proofs.lemmas.Result.err_from_is_err_and}
 use Rattle.yq_core.specs.Entries.{tree_step}
 use Rattle.yq_semantics.{specs.Changes.{Changed, all_allowed}, specs.Judgement.{Judgement, and_then, gives}, specs.PlacesApart.AreIn}
 use Rattle.yq_semantics.specs.Places.{FoundPlace}
 use Rattle.yq_planner.specs.ChangeView.{changes_below}
 use Rattle.yq_expr.{specs.JudgedChanges.effect_of, proofs.AllChanges.each_done}
-use Rattle.yq_eval.{specs.PlaceView.place_of, specs.TreeScalars.HaveScalars, proofs.EachLaws.{each_more, each_fails, reached}}
+use Rattle.yq_eval.{specs.PlaceView.{node_step_of, place_of}, specs.TreeScalars.HaveScalars}
+use Rattle.yq_eval.proofs.EachLaws.{each_more, each_fails, reached}
 use Rattle.yq_expr.proofs.at_node.at_each_below.Goals as goal
 
 pub push_below-requires-clause-scalars : goal.push_below-requires-clause-scalars
@@ -13,7 +14,7 @@ push_below-requires-clause-scalars c =
     (subst HaveScalars here c.places.invariant.scalars).0
 
 pub push_below-requires-clause-path : goal.push_below-requires-clause-path
-push_below-requires-clause-path c = c.in-Some.ensures ∙ λ i. sym c.places.invariant.steps i ++ _
+push_below-requires-clause-path c = c.in-Some.ensures ∙ ap (λ xs. map tree_step xs ++ node_step_of c.in-Some.step ∷ []) c.deref.ensures.value
 
 pub returns-in_err-push_below-clause-changes : goal.returns-in_err-push_below-clause-changes
 returns-in_err-push_below-clause-changes c = λ root named within.

@@ -1,4 +1,4 @@
-use Rattle.std.proofs.Common.{◌≡◌, ℕ, ◌∷◌, take, drop, ◌+◌, ◌<◌, ◌≤◌, ◌-◌, List, length, map, refl, sym, ap, ◌∙◌, subst, arith}
+use Rattle.std.proofs.Common.{◌≡◌, ℕ, ◌∷◌, take, drop, ◌+◌, ◌<◌, ◌≤◌, ◌-◌, List, length, refl, sym, ap, ◌∙◌, subst, arith}
 use Rattle.std.{proofs.lemmas.List.{length-map, take_rest}, proofs.lemmas.Result.err_from_is_err_and, proofs.lemmas.Bool.false≢true}
 use Rattle.yq_core.specs.Tree.{Node}
 use Rattle.yq_nodes.specs.Nodes.{node_of}
