@@ -2,7 +2,7 @@ use Rattle.std.{proofs.Common.{◌≤◌, List, ap, ◌∙◌, length, sym, subs
 use Rattle.std.specs.String.{string_bytes}
 use Rattle.yq_documents.specs.Reading.{documents_of}
 use Rattle.yq_semantics.{specs.Operations.operations_of, specs.View.program_of, specs.declared.op.Op.Op}
-use Rattle.yq_edit_laws.{specs.Answers.EditFails, specs.Carried.carry_all, specs.Edit.edit_after, specs.Valid.{AreServed, HaveOperands}}
+use Rattle.yq_edit_laws.{specs.Answers.EditFails, specs.Carried.carry_all, specs.Edit.edit_after, specs.Valid.AreServed}
 use Rattle.yq_edit_laws.proofs.UpdateLaws.{memory_fails, update_holds, update_there}
 use Rattle.yq_splice.proofs.PartLaws.{all_carried, begun, part_done, part_fails, part_served, unplanned}
 use Rattle.yq_splice.{proofs.OversizedParts.oversized_fails, proofs.ValidOperands.operands_valid}

@@ -1,4 +1,4 @@
-use Rattle.std.{proofs.Common.{List, ℕ, sym, subst}, specs.Prelude.{◌≡◌, IfErr, IfOk, IfSome}, specs.String.string_bytes}
+use Rattle.std.{proofs.Common.{List, sym, subst}, specs.Prelude.{◌≡◌, IfErr, IfOk, IfSome}, specs.String.string_bytes}
 use Rattle.yq_semantics.specs.Operations.{Operation}
 use Rattle.yq_edit_laws.{specs.Answers.EditFails, specs.Carried.carry_all, specs.Edit.gives, specs.Valid.AreServed}
 use Rattle.yq_splice.proofs.PlanLaws.{sole_part}

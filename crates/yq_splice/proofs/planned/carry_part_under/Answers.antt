@@ -1,4 +1,4 @@
-use Rattle.std.{proofs.Common.{◌≡◌, ◌∙◌, List, ℕ, Option, sym, ap, subst}, specs.Prelude.{IfSome, Vec}}
+use Rattle.std.{proofs.Common.{◌≡◌, ◌∙◌, List, Option, sym, ap, subst}, specs.Prelude.{IfSome, Vec}}
 use Rattle.std.{proofs.lemmas.Result.err_from_is_err_and, specs.declared.alloc.Global.Global}
 use Rattle.yq_semantics.{specs.Operations.{Operation, operations_of}, specs.Under.{ops_under, part_ops}, specs.declared.op.Op.Op}
 use Rattle.yq_edit_laws.{specs.Answers.EditFails, specs.Carried.carry_all, specs.Valid.AreServed}
@@ -22,8 +22,8 @@ pub with_others-requires : goal.with_others-requires
 with_others-requires c =
     let h = subst (MayCarryUnder c.deref.result.now c.deref-2.result.now c.args.cut.now) c.in-Some.is c.in_ok-found.ensures.ok in
     let left : List Op = c.in-Some.together.left.now in
-    let given : operations_of c.in-Some-2.ops.items ≡ ops_under c.deref-3.result.now left =
-    subst (λ (o : Option (Vec Op Global)). IfSome o (λ v. operations_of v.items ≡ ops_under c.deref-3.result.now left)) c.in-Some-2.is c.in_ok-whole.ensures in
+    let given : operations_of c.in-Some-whole.ops.items ≡ ops_under c.deref-3.result.now left =
+    subst (λ (o : Option (Vec Op Global)). IfSome o (λ v. operations_of v.items ≡ ops_under c.deref-3.result.now left)) c.in-Some-whole.is c.in_ok-whole.ensures in
     let is : operations_of c.deref-4.result.now ≡ ops_under c.deref.result.now left =
     ap operations_of c.deref-4.ensures.value ∙ (given ∙ ap (λ (front : List declared.Step). ops_under front left) (c.deref-3.ensures.value ∙ sym c.deref.ensures.value)) in
     left_served c.deref.result.now c.deref-2.result.now c.args.cut.now c.in-Some.together h c.deref-4.result.now is
@@ -33,8 +33,8 @@ returns-clause-ok c =
     let both : ops_under c.deref.result.now c.deref-2.result.now ≡ part_ops c.args.part.now = λ i. ops_under (c.deref.ensures.value i) (c.deref-2.ensures.value i) in
     let h = subst (MayCarryUnder c.deref.result.now c.deref-2.result.now c.args.cut.now) c.in-Some.is c.in_ok-found.ensures.ok in
     let left : List Op = c.in-Some.together.left.now in
-    let given : operations_of c.in-Some-2.ops.items ≡ ops_under c.deref-3.result.now left =
-    subst (λ (o : Option (Vec Op Global)). IfSome o (λ v. operations_of v.items ≡ ops_under c.deref-3.result.now left)) c.in-Some-2.is c.in_ok-whole.ensures in
+    let given : operations_of c.in-Some-whole.ops.items ≡ ops_under c.deref-3.result.now left =
+    subst (λ (o : Option (Vec Op Global)). IfSome o (λ v. operations_of v.items ≡ ops_under c.deref-3.result.now left)) c.in-Some-whole.is c.in_ok-whole.ensures in
     let is : operations_of c.deref-4.result.now ≡ ops_under c.deref.result.now left =
     ap operations_of c.deref-4.ensures.value ∙ (given ∙ ap (λ (front : List declared.Step). ops_under front left) (c.deref-3.ensures.value ∙ sym c.deref.ensures.value)) in
     ap (λ (os : List Operation). carry_all os c.args.cut.now) (sym both)
@@ -45,8 +45,8 @@ returns-in_err-carried-clause-err c =
     let both : ops_under c.deref.result.now c.deref-2.result.now ≡ part_ops c.args.part.now = λ i. ops_under (c.deref.ensures.value i) (c.deref-2.ensures.value i) in
     let h = subst (MayCarryUnder c.deref.result.now c.deref-2.result.now c.args.cut.now) c.in-Some.is c.in_ok-found.ensures.ok in
     let left : List Op = c.in-Some.together.left.now in
-    let given : operations_of c.in-Some-2.ops.items ≡ ops_under c.deref-3.result.now left =
-    subst (λ (o : Option (Vec Op Global)). IfSome o (λ v. operations_of v.items ≡ ops_under c.deref-3.result.now left)) c.in-Some-2.is c.in_ok-whole.ensures in
+    let given : operations_of c.in-Some-whole.ops.items ≡ ops_under c.deref-3.result.now left =
+    subst (λ (o : Option (Vec Op Global)). IfSome o (λ v. operations_of v.items ≡ ops_under c.deref-3.result.now left)) c.in-Some-whole.is c.in_ok-whole.ensures in
     let is : operations_of c.deref-4.result.now ≡ ops_under c.deref.result.now left =
     ap operations_of c.deref-4.ensures.value ∙ (given ∙ ap (λ (front : List declared.Step). ops_under front left) (c.deref-3.ensures.value ∙ sym c.deref.ensures.value)) in
     let p = err_from_is_err_and c.from_residual-in_err-carried.result c.from_residual-in_err-carried.ensures.1 in
