@@ -28,6 +28,7 @@ mod PartAnswers
 pub mod AppendAnswers
 mod RemoveAnswers
 pub mod EmptyingAnswers
+pub mod SoleInFlow
 pub mod FlowHeldNodes
 pub mod FlowHeldLines
 pub mod CollectionCases

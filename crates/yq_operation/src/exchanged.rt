@@ -18,7 +18,9 @@ use yq_block_edits::{
 };
 use yq_core::Value;
 use yq_documents::Path;
-use yq_edit_laws::{append_in_flow, emptying, last_step, put_in_flow, remove_in_flow, unchanged};
+use yq_edit_laws::{
+    append_in_flow, emptying, last_step, put_in_flow, read_above, remove_in_flow, unchanged,
+};
 use yq_lookup::{CutText, NodeAt};
 use yq_semantics::Op;
 use yq_text::Segments;
@@ -151,7 +153,7 @@ fn removed<'d>(
     if let Some(segments) = inside {
         return Ok(Some(segments));
     }
-    let above = found.read(alloc)?;
+    let above = read_above(alloc, path, found)?;
     match above {
         Some(above) => rows_or_sole(alloc, cut, path, &above),
         None => Ok(None),
