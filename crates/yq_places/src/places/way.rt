@@ -61,6 +61,15 @@ fn known_by(walk: &Walk<'_, '_>, from: Option<Position>, at: Position) -> Option
     known_to(walk, under, floor, at.row)
 }
 
+/// Whether the item of a row is known already after so many others.
+#[inline(always)]
+fn is_row_there(known: &[KnownItem], count: usize, row: usize) -> bool {
+    match known.get(count) {
+        Some(there) => there.row == row,
+        None => false,
+    }
+}
+
 /// How many of the items that are known begin no later than a line.
 #[inline(always)]
 fn count_upto(known: &[KnownItem], at: Option<Position>) -> usize {
@@ -95,6 +104,9 @@ fn step_along(
     let Some(Next::Line(at)) = next_at(&here, from, step) else {
         return None;
     };
+    if is_row_there(known.as_slice(), count, at.row) {
+        return Some((count.saturating_add(1), at));
+    }
     match known_by(&here, from, at) {
         Some(item) => Some((put_item(known, count, item), at)),
         None => Some((count, at)),
