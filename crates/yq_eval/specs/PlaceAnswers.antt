@@ -27,6 +27,10 @@ PutsPlaces r old new ps = OnOk r (places_of new.items ≡ places_of old.items ++
 abbrev pub JudgesWhether : Result Bool ExprError → Judgement Bool → Type 0
 JudgesWhether r j = Judges (λ b. b) r j
 
+-- the places after a call are those that come of something; or its refusal is the one that does
+abbrev pub FillsPlaces : {T : Type 0} → Result T ExprError → (new : Vec FoundPlace Global) → Judgement (List Place) → Type 0
+FillsPlaces r new j = Judges (λ _. places_of new.items) r j
+
 -- the places of a vector
 abbrev pub places_in : Vec FoundPlace Global → List Place
 places_in v = places_of v.items

@@ -90,6 +90,9 @@ fn value_is<'a, 't>(
 ) -> Result<bool, ExprError>
     ensures { JudgesWhether result (value_equals steps.now scalar.now (place_of place.now)) }
 {
+    if let [] = steps {
+        return place_is(place, scalar);
+    }
     let places = traverse(alloc, bump, steps, place.alone(alloc)?)?;
     first_is(&places, scalar)
 }

@@ -2,7 +2,7 @@
 ghost use Rattle.std.specs.Prelude.{map};
 ghost use Rattle.yq_semantics.{specs.Places.for_each, specs.View.stage_of};
 ghost use Rattle.yq_eval.specs.PlaceView.{place_of, places_of};
-ghost use Rattle.yq_eval.specs.PlaceAnswers.{JudgesPlaces, AddsPlaces, places_in, pipe_places, kept_if};
+ghost use Rattle.yq_eval.specs.PlaceAnswers.{JudgesPlaces, AddsPlaces, FillsPlaces, places_in, pipe_places, kept_if};
 ghost use Rattle.yq_semantics.specs.Pipes as spec;
 
 use crate::matching::condition::holds;
@@ -10,6 +10,7 @@ use crate::matching::place::FoundPlace;
 use crate::matching::traverse::traverse;
 use bumpalo::Bump;
 use std::alloc::Global;
+use std::mem;
 use yq_nodes::Node;
 use yq_semantics::{Condition, ExprError, Stage};
 
@@ -30,20 +31,36 @@ fn push_kept<'a, 't>(
     Ok(())
 }
 
-/// The places for which the condition holds.
+/// Puts the places for which the condition holds into a list, in the place of what was there.
 fn select_each<'a, 't>(
     alloc: Global,
     doc: usize,
     condition: &'a Condition,
     places: &[FoundPlace<'a, 't>],
-) -> Result<Vec<FoundPlace<'a, 't>>, ExprError>
-    ensures { JudgesPlaces result (for_each (kept_if doc condition.now) (places_of places.now)) }
+    kept: &mut Vec<FoundPlace<'a, 't>>,
+) -> Result<(), ExprError>
+    ensures { FillsPlaces result kept.new (for_each (kept_if doc condition.now) (places_of places.now)) }
 {
-    let mut kept = Vec::new(alloc);
+    kept.clear();
     'places: for place in places {
-        push_kept(alloc, doc, condition, place, &mut kept)?;
+        push_kept(alloc, doc, condition, place, kept)?;
     }
-    Ok(kept)
+    Ok(())
+}
+
+/// The places for which the condition holds. A list that isn't used any more becomes that of them, and theirs isn't
+/// used after it.
+fn select<'a, 't>(
+    alloc: Global,
+    doc: usize,
+    condition: &'a Condition,
+    places: Vec<FoundPlace<'a, 't>>,
+    unused: &mut Vec<FoundPlace<'a, 't>>,
+) -> Result<Vec<FoundPlace<'a, 't>>, ExprError>
+    ensures { JudgesPlaces result (for_each (kept_if doc condition.now) (places_in places.entry)) }
+{
+    select_each(alloc, doc, condition, &places, unused)?;
+    Ok(mem::replace(unused, places))
 }
 
 /// Where a stage leads from places.
@@ -53,16 +70,17 @@ fn stage_on<'a, 't>(
     doc: usize,
     stage: &'a Stage,
     places: Vec<FoundPlace<'a, 't>>,
+    unused: &mut Vec<FoundPlace<'a, 't>>,
 ) -> Result<Vec<FoundPlace<'a, 't>>, ExprError>
     ensures { JudgesPlaces result (spec.stage_on doc (stage_of stage.now) (places_in places.entry)) }
 {
     match stage {
         Stage::Path(steps) => traverse(alloc, bump, steps, places),
-        Stage::Select(condition) => select_each(alloc, doc, condition, &places),
+        Stage::Select(condition) => select(alloc, doc, condition, places, unused),
     }
 }
 
-/// Where a pipe leads from places.
+/// Where a pipe leads from places. Two lists serve all conditions.
 pub fn pipe_on<'a, 't>(
     alloc: Global,
     bump: &'a Bump,
@@ -73,8 +91,9 @@ pub fn pipe_on<'a, 't>(
     ensures { JudgesPlaces result (spec.pipe_on doc (map stage_of pipe.now) (places_in start.entry)) }
 {
     let mut places = start;
+    let mut unused = Vec::new(alloc);
     'stages: for stage in pipe {
-        places = stage_on(alloc, bump, doc, stage, places)?;
+        places = stage_on(alloc, bump, doc, stage, places, &mut unused)?;
     }
     Ok(places)
 }
