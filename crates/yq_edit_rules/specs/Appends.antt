@@ -1,15 +1,13 @@
 -- One item or entry more in a block collection that has some (own).
 use Rattle.std.specs.Prelude.{◌≡◌, ℕ, suc, ◌+◌, List, [], ◌∷◌, ◌++◌, length, true, false}
 use Rattle.yq_core.{specs.Keys.keys_of, specs.Paths.{Step, append_child, changed_at, within}}
-use Rattle.yq_row_table.{specs.Exchange.asked_behind, specs.Grammar.{unlimited, AreRows, no_rows}, specs.Rows.{Row, Part, Cut, cut_text}}
+use Rattle.yq_row_table.{specs.Exchange.asked_behind, specs.Grammar.{unlimited, AreRows, no_rows}, specs.Rows.{Row, Part, Cut}}
 use Rattle.yq_row_table.{specs.Splices.{behind_first, first_gap}, specs.Seams.{ends_in_block, ends_in_line}}
 use Rattle.yq_outline.{specs.LineAnchors.HaveOneAnchorEach, specs.Lines.lines_of_rows}
 use Rattle.yq_outline.{specs.Outline.{Line, Outline, flatten, children, label}, specs.Places.{lines_before, content_under}}
 use Rattle.yq_documents.{specs.Documents.{HaveFitKeys, lead_of}, specs.Reading.part_outline}
-use Rattle.yq_places.specs.RowPaths.{IsReadable}
-use Rattle.yq_edit_rules.{specs.Changed.{IsChanged, put_document}, specs.SoundRoots.{IsNewValue, IsNewKey}}
-use Rattle.yq_edit_rules.specs.Siblings.{NodeLines, IsCollectionAt, EntryFits}
-use Rattle.yq_edit_rules.specs.DocumentRows.{IsDocumentPart, behind_document, put_rows}
+use Rattle.yq_edit_rules.{specs.SoundRoots.{IsNewValue, IsNewKey}, specs.Siblings.{NodeLines, IsCollectionAt, EntryFits}}
+use Rattle.yq_edit_rules.{specs.DocumentRows.{IsDocumentPart, behind_document, put_rows}, specs.Changed.ChangesIfReadable}
 
 -- Rows that are written for one more item or entry of a collection at a path of this length: a line at its level and those under it, with a value and a new
 -- key.
@@ -39,5 +37,5 @@ BlockAppended =
     IsDocumentPart t c k p →
     IsCollectionAt steps (part_outline p) h → length (lines_of_rows front) ≡ length (lines_before h.place) + length (flatten h.lines) →
     AreAppendedRows h new m l u (length steps) →
-    TakesRows p front new back (behind_document k c) → IsReadable (cut_text (put_document k (inserted front new back p) c)) →
-    IsChanged c (put_document k (inserted front new back p) c) k (lead_of p) (changed_at steps (within (append_child (label l) (content_under l u))))
+    TakesRows p front new back (behind_document k c) →
+    ChangesIfReadable c k (inserted front new back p) (lead_of p) (changed_at steps (within (append_child (label l) (content_under l u))))

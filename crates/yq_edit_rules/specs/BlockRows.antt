@@ -74,5 +74,6 @@ unfoldable mutual
   pub children_rows : Layout → ℕ → List ℕ → Children → List Row
   children_rows l column end tree.none = []
   children_rows l column end (tree.child label n cs) =
-      entry_rows l column (end_of_line_before l end cs) label.key (inline_of n) (node_rows l (column_below l column label.key n) (end_of_line_before l end cs) n)
+      entry_rows l column (end_of_line_before l end cs) label.key (inline_of n)
+      (node_rows l (column_below l column label.key n) (end_of_line_before l end cs) n)
       ++ children_rows l column end cs

@@ -6,6 +6,7 @@ use Rattle.yq_row_table.{specs.Grammar.{IsCut, no_rows}, specs.Rows.{Part, Cut, 
 use Rattle.yq_documents.specs.Documents.{Document, HaveFitKeys, HasShortRoot, IsDocument, document_parts, lead_of}
 use Rattle.yq_documents.{specs.PartNumbers.part_number, specs.Reading.{documents, read_at, root_of}, specs.TreeEdits.change_nth}
 use Rattle.yq_edit_rules.specs.Siblings.{StandsSomewhere}
+use Rattle.yq_places.specs.RowPaths.{IsReadable}
 
 -- a cut with another part i, or another last one
 abbrev pub put_part : ℕ → Part → Cut → Cut
@@ -23,7 +24,9 @@ KeepsRows p q = no_rows q.rows ≡ true → no_rows p.rows ≡ true
 
 -- A part that keeps rows where document k has some is document k instead, and the other documents stay.
 abbrev pub DocumentPut : Type 0
-DocumentPut = (c : Cut) (k : ℕ) (p q : Part) → slice_get (document_parts c) k ≡ Some p → KeepsRows p q → document_parts (put_document k q c) ≡ change_nth k (λ x. q) (document_parts c)
+DocumentPut =
+    (c : Cut) (k : ℕ) (p q : Part) → slice_get (document_parts c) k ≡ Some p → KeepsRows p q →
+    document_parts (put_document k q c) ≡ change_nth k (λ x. q) (document_parts c)
 
 -- a document with another lead, and its root changed
 abbrev pub changed : List (List ℕ) → (Node → Node) → Document → Document
@@ -33,6 +36,14 @@ changed lead f d = record { lead = lead; root = f d.root }
 pub record IsChanged (c new : Cut) (k : ℕ) (lead : List (List ℕ)) (f : Node → Node) : Type 0 where
   pub read : read_at (cut_text new) ≡ Some new
   pub documents_are : documents new ≡ change_nth k (changed lead f) (documents c)
+
+-- so reads a cut with another part for document k
+abbrev pub IsChangedBy : Cut → ℕ → Part → List (List ℕ) → (Node → Node) → Type 0
+IsChangedBy c k q lead f = IsChanged c (put_document k q c) k lead f
+
+-- it reads so where its text is one that can be read
+abbrev pub ChangesIfReadable : Cut → ℕ → Part → List (List ℕ) → (Node → Node) → Type 0
+ChangesIfReadable c k q lead f = IsReadable (cut_text (put_document k q c)) → IsChangedBy c k q lead f
 
 -- The rows of a part mean a root as is asked of a document's.
 pub record HasRoot (q : Part) (root : Node) : Type 0 where
@@ -54,7 +65,7 @@ abbrev pub DocumentChanged : Type 0
 DocumentChanged =
     (t : List ℕ) (c : Cut) (k : ℕ) (p q : Part) (f : Node → Node) → read_at t ≡ Some c → slice_get (document_parts c) k ≡ Some p → KeepsRows p q →
     is_utf8 (cut_text (put_document k q c)) ≡ true → IsCut (cut_text (put_document k q c)) (put_document k q c) →
-    HasRoot q (f (root_of p)) → IsChanged c (put_document k q c) k (lead_of q) f
+    HasRoot q (f (root_of p)) → IsChangedBy c k q (lead_of q) f
 
 -- the head comment of the first line, or another one where there are no lines
 abbrev pub first_comment : List (List ℕ) → List Line → List (List ℕ)

@@ -9,8 +9,8 @@ use Rattle.yq_edit_rules.specs.LineRows.{AreClosed, AreDeep, Begins, StandApart}
 -- After rows whose lines are all deeper than the next row's first one, that row may be.
 abbrev pub NextAllowed : Type 0
 NextAllowed =
-    (n : ℕ) (limit : Limit) (new back : List Row) (end rest : List ℕ) → AreRows limit new end rest → no_rows new ≡ false → AreDeep n (lines_of_rows new) → (m : ℕ) →
-    m < n → Begins m (lines_of_rows back) →
+    (n : ℕ) (limit : Limit) (new back : List Row) (end rest : List ℕ) → AreRows limit new end rest → no_rows new ≡ false → AreDeep n (lines_of_rows new) →
+    (m : ℕ) → m < n → Begins m (lines_of_rows back) →
     allows_first (asked_behind limit new) back ≡ true
 
 -- Where rows are, others may be whose first line is no deeper than theirs.

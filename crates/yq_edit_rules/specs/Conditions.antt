@@ -60,7 +60,9 @@ BoundChanged =
 
 -- A node changed for one with unique keys leaves all keys unique (3.2.1.3).
 abbrev pub UniqueChanged : Type 0
-UniqueChanged = (steps : List Step) (n old : Node) (f : Node → Node) → node_at steps n ≡ Some old → HasUniqueKeys n → HasUniqueKeys (f old) → HasUniqueKeys (changed_at steps f n)
+UniqueChanged =
+    (steps : List Step) (n old : Node) (f : Node → Node) → node_at steps n ≡ Some old → HasUniqueKeys n → HasUniqueKeys (f old) →
+    HasUniqueKeys (changed_at steps f n)
 
 -- A node changed for one that isn't too deep for its path leaves the whole not too deep.
 abbrev pub DepthChanged : Type 0

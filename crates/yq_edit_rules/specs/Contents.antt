@@ -8,7 +8,7 @@ use Rattle.yq_row_table.{specs.Rows.{Bare, Content, Row, rows_text, Part, Cut, c
 use Rattle.yq_documents.{specs.Documents.{ContentHasFitKeys, is_long_plain, lead_of}, specs.Reading.{part_outline, root_of}}
 use Rattle.yq_documents.specs.TreeEdits.{replaced_node}
 use Rattle.yq_places.specs.RowPaths.{IsReadable}
-use Rattle.yq_edit_rules.{specs.Appends.inserted, specs.Changed.{IsChanged, put_document}}
+use Rattle.yq_edit_rules.{specs.Appends.inserted, specs.Changed.{put_document, IsChangedBy}}
 use Rattle.yq_edit_rules.{specs.DocumentRows.{IsDocumentPart, behind_document}, specs.SoundRoots.MayReplace}
 
 -- a part in which one row has another content
@@ -36,11 +36,11 @@ LowerContentReplaced =
     find s ss (part_outline p) ≡ Some (f, []) → f.line.head ≡ None → length (flatten f.under) ≡ 1 → r.mark ≡ Bare →
     length (lines_of_rows front) + length r.dashes ≡ suc (length (lines_before f.place)) →
     MayReplace v (content_under f.line f.under) (root_of p) (length (s ∷ ss)) →
-    IsChanged c (put_document k (recontent front r back new p) c) k (lead_of p) (changed_at (s ∷ ss) (replaced_node v))
+    IsChangedBy c k (recontent front r back new p) (lead_of p) (changed_at (s ∷ ss) (replaced_node v))
 
 -- A root that is alone on its line is replaced.
 abbrev pub RootContentReplaced : Type 0
 RootContentReplaced =
     (t : List ℕ) (c : Cut) (k : ℕ) (p : Part) (front back : List Row) (r : Row) (v : Node) (new : Content) → TakesContent t c k p front r back v new →
     length (lines_of_rows p.rows) ≡ 1 → r.mark ≡ Bare →
-    MayReplace v (root_of p) (root_of p) 0 → IsChanged c (put_document k (recontent front r back new p) c) k (lead_of p) (changed_at [] (replaced_node v))
+    MayReplace v (root_of p) (root_of p) 0 → IsChangedBy c k (recontent front r back new p) (lead_of p) (changed_at [] (replaced_node v))

@@ -9,7 +9,7 @@ use Rattle.yq_outline.specs.Outline.{Line, level, Outline, end, row, flatten, Is
 use Rattle.yq_outline.specs.Places.{lines_before, plug, FoundLine, find, content_under}
 use Rattle.yq_documents.specs.Documents.{HaveFitKeys, HasShortRoot, document_parts, lead_of}
 use Rattle.yq_documents.{specs.Reading.{part_outline, read_at, root_of}, specs.TreeEdits.headed}
-use Rattle.yq_edit_rules.{specs.Changed.{IsChanged, KeepsRows, put_document}, specs.Conditions.last_anchor, specs.SoundRoots.IsSoundRoot}
+use Rattle.yq_edit_rules.{specs.Changed.{KeepsRows, put_document, IsChangedBy}, specs.Conditions.last_anchor, specs.SoundRoots.IsSoundRoot}
 use Rattle.yq_edit_rules.specs.Siblings.{HasEntries, NodeLines, lines_at, put_lines, IsCollectionAt, IsEntryAt, LinesFit, EntryFits}
 use Rattle.yq_edit_rules.specs.Siblings.{IsRelabelled}
 
@@ -31,9 +31,14 @@ OldIsSound = (t : List ℕ) (c : Cut) (k : ℕ) (p q : Part) → IsPut t c k p q
 abbrev pub OldIsEven : Type 0
 OldIsEven = (t : List ℕ) (c : Cut) (k : ℕ) (p q : Part) → IsPut t c k p q → IsEven (level_or 0 (part_outline p)) (part_outline p)
 
+-- with another part for document k its root is changed by a function, if what that gives is sound
+abbrev pub ChangesIfSound : Cut → ℕ → (p q : Part) → List (List ℕ) → (Node → Node) → Type 0
+ChangesIfSound c k p q lead f = IsSoundRoot (f (root_of p)) → IsChangedBy c k q lead f
+
 -- The lines of a node at a path mean that node.
 abbrev pub LinesAreThere : Type 0
-LinesAreThere = (steps : List Step) (o : Outline) (h : NodeLines) → lines_at steps o ≡ Some h → node_at steps (value o) ≡ Some (anchored h.anchor (value h.lines))
+LinesAreThere =
+    (steps : List Step) (o : Outline) (h : NodeLines) → lines_at steps o ≡ Some h → node_at steps (value o) ≡ Some (anchored h.anchor (value h.lines))
 
 -- A line, with an outline under it, may be in the place of one that was found, where the node to which steps lead in its head is changed by a function.
 pub record LineFits (rest : List Step) (f : FoundLine) (g : Node → Node) (m : ℕ) (l : Line) (u : Outline) : Type 0 where
@@ -56,15 +61,14 @@ LineExchanged =
     IsPut t c k p q →
     find s ss (part_outline p) ≡ Some (f, rest) → LineFits rest f g m l u → IsWhole l.mark l.head f.after →
     AnchorsFit (last_anchor (lines_before f.place)) (l ∷ flatten u) →
-    lines_of_rows q.rows ≡ with_lines f (l ∷ flatten u) → IsSoundRoot (changed_at (s ∷ ss) g (root_of p)) →
-    IsChanged c (put_document k q c) k (lead_of p) (changed_at (s ∷ ss) g)
+    lines_of_rows q.rows ≡ with_lines f (l ∷ flatten u) → ChangesIfSound c k p q (lead_of p) (changed_at (s ∷ ss) g)
 
 -- All lines of the node at a path are exchanged: at the root, or under a line that stays.
 abbrev pub LinesExchanged : Type 0
 LinesExchanged =
     (t : List ℕ) (c : Cut) (k : ℕ) (p q : Part) (steps : List Step) (h : NodeLines) (g : Node → Node) (m : ℕ) (u : Outline) → IsPut t c k p q →
     lines_at steps (part_outline p) ≡ Some h → LinesFit h g m u → AnchorsFit h.anchor (flatten u) →
-    lines_of_rows q.rows ≡ put_lines h (flatten u) → IsSoundRoot (changed_at steps g (root_of p)) → IsChanged c (put_document k q c) k (lead_of q) (changed_at steps g)
+    lines_of_rows q.rows ≡ put_lines h (flatten u) → ChangesIfSound c k p q (lead_of q) (changed_at steps g)
 
 -- The lines of one item or entry more are put after those of the collection at a path.
 abbrev pub LinesAppended : Type 0
@@ -72,15 +76,14 @@ LinesAppended =
     (t : List ℕ) (c : Cut) (k : ℕ) (p q : Part) (steps : List Step) (h : NodeLines) (m : ℕ) (l : Line) (v : Outline) → IsPut t c k p q →
     IsCollectionAt steps (part_outline p) h → EntryFits h m l v → HaveOneAnchorEach (l ∷ flatten v) →
     lines_of_rows q.rows ≡ put_lines h (flatten h.lines ++ (l ∷ flatten v)) →
-    IsSoundRoot (changed_at steps (within (append_child (label l) (content_under l v))) (root_of p)) →
-    IsChanged c (put_document k q c) k (lead_of p) (changed_at steps (within (append_child (label l) (content_under l v))))
+    ChangesIfSound c k p q (lead_of p) (changed_at steps (within (append_child (label l) (content_under l v))))
 
 -- The lines of one of several items or entries of the collection at a path are taken out.
 abbrev pub LinesRemoved : Type 0
 LinesRemoved =
     (t : List ℕ) (c : Cut) (k : ℕ) (p q : Part) (steps : List Step) (h : NodeLines) (s : Step) (f : FoundLine) → IsPut t c k p q →
     IsEntryAt steps s (part_outline p) h f → HasEntries (plug f.place f.after) → lines_of_rows q.rows ≡ put_lines h (with_lines f []) →
-    IsSoundRoot (changed_at steps (within (remove_child s)) (root_of p)) → IsChanged c (put_document k q c) k (lead_of q) (changed_at steps (within (remove_child s)))
+    ChangesIfSound c k p q (lead_of q) (changed_at steps (within (remove_child s)))
 
 -- The line of an item or entry of the collection at a path gets other comments.
 abbrev pub LineRelabelled : Type 0
@@ -88,8 +91,7 @@ LineRelabelled =
     (t : List ℕ) (c : Cut) (k : ℕ) (p q : Part) (steps : List Step) (h : NodeLines) (s : Step) (f : FoundLine) (g : Label → Label) (l : Line) →
     IsPut t c k p q →
     IsEntryAt steps s (part_outline p) h f → IsRelabelled g f.line l → lines_of_rows q.rows ≡ put_lines h (with_lines f (l ∷ flatten f.under)) →
-    IsSoundRoot (changed_at steps (within (relabel_child s g)) (root_of p)) →
-    IsChanged c (put_document k q c) k (lead_of q) (changed_at steps (within (relabel_child s g)))
+    ChangesIfSound c k p q (lead_of q) (changed_at steps (within (relabel_child s g)))
 
 -- an outline whose first line has this head comment
 abbrev pub with_lead : List (List ℕ) → Outline → Outline
@@ -98,7 +100,9 @@ with_lead above (row l u a) = row (record l { head_comment = above }) u a
 
 -- A block collection with a lead above it has that as the head comment of its first item or entry.
 abbrev pub LeadIsAbove : Type 0
-LeadIsAbove = (above : List (List ℕ)) (n : ℕ) (o : Outline) → HasEntries o → IsEven n o → IsEven n (with_lead above o) × (value (with_lead above o) ≡ within (headed above) (value o))
+LeadIsAbove =
+    (above : List (List ℕ)) (n : ℕ) (o : Outline) → HasEntries o → IsEven n o →
+    IsEven n (with_lead above o) × (value (with_lead above o) ≡ within (headed above) (value o))
 
 -- the head comment of the first of items or entries, if there are any
 abbrev pub first_above : Children → Option (List (List ℕ))

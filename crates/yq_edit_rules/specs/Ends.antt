@@ -1,13 +1,11 @@
 -- One item or entry more at the end of a text without a final break (own).
 use Rattle.std.specs.Prelude.{◌≡◌, ℕ, ◌+◌, List, [], ◌∷◌, ◌++◌, length}
 use Rattle.yq_core.specs.Paths.{Step, append_child, changed_at, within}
-use Rattle.yq_row_table.{specs.Grammar.{AreRows, limit_after}, specs.Rows.{Row, Part, Cut, cut_text}}
-use Rattle.yq_row_table.specs.Appending.{closed_by, TakesBreak}
+use Rattle.yq_row_table.{specs.Grammar.{AreRows, limit_after}, specs.Rows.{Row, Part, Cut}, specs.Appending.{closed_by, TakesBreak}}
 use Rattle.yq_documents.{specs.Documents.lead_of, specs.Reading.part_outline}
 use Rattle.yq_outline.{specs.Lines.lines_of_rows, specs.Outline.{Line, Outline, flatten, label}, specs.Places.{lines_before, content_under}}
-use Rattle.yq_places.specs.RowPaths.{IsReadable}
-use Rattle.yq_edit_rules.{specs.Changed.{IsChanged, put_document}, specs.Siblings.{NodeLines, IsCollectionAt}}
-use Rattle.yq_edit_rules.{specs.Appends.AreAppendedRows, specs.DocumentRows.{IsDocumentPart, behind_document, put_rows}}
+use Rattle.yq_edit_rules.{specs.Siblings.{NodeLines, IsCollectionAt}, specs.Appends.AreAppendedRows}
+use Rattle.yq_edit_rules.{specs.DocumentRows.{IsDocumentPart, behind_document, put_rows}, specs.Changed.ChangesIfReadable}
 
 -- a part whose last row gets a break, and rows after it
 abbrev pub closed_with : (front : List Row) → Row → (break : List ℕ) → (new : List Row) → Part → Part
@@ -28,5 +26,5 @@ EndAppended =
     (u : Outline) → IsDocumentPart t c k p →
     IsCollectionAt steps (part_outline p) h → length (lines_of_rows p.rows) ≡ length (lines_before h.place) + length (flatten h.lines) →
     AreAppendedRows h new m l u (length steps) →
-    TakesRowsLast p front r break new (behind_document k c) → IsReadable (cut_text (put_document k (closed_with front r break new p) c)) →
-    IsChanged c (put_document k (closed_with front r break new p) c) k (lead_of p) (changed_at steps (within (append_child (label l) (content_under l u))))
+    TakesRowsLast p front r break new (behind_document k c) →
+    ChangesIfReadable c k (closed_with front r break new p) (lead_of p) (changed_at steps (within (append_child (label l) (content_under l u))))

@@ -22,5 +22,6 @@ pub record RowsFrom (p : Part) (h : NodeLines) (f : FoundLine) (before : ℕ) : 
 
 -- An item or entry whose line is the first of its row has rows of its own.
 abbrev pub EntryRows : Type 0
-EntryRows = (p : Part) (n : ℕ) (steps : List Step) (s : Step) (h : NodeLines) (f : FoundLine) (x : RowLine) → IsEven n (part_outline p) → IsEntryAt steps s (part_outline p) h f →
-    row_line (lines_before_entry h f) p.rows ≡ Some x → x.line ≡ 0 → RowsFrom p h f x.before
+EntryRows =
+    (p : Part) (n : ℕ) (steps : List Step) (s : Step) (h : NodeLines) (f : FoundLine) (x : RowLine) → IsEven n (part_outline p) →
+    IsEntryAt steps s (part_outline p) h f → row_line (lines_before_entry h f) p.rows ≡ Some x → x.line ≡ 0 → RowsFrom p h f x.before

@@ -6,8 +6,8 @@ use Rattle.yq_flow_edits.specs.FlowEdits.{FlowEdit, IsFlowEdited, edited_node}
 use Rattle.yq_outline.{specs.Places.{lines_before, FoundLine}, specs.Lines.lines_of_rows}
 use Rattle.yq_row_table.{specs.Exchange.with_content, specs.Rows.{Inline, Row, parent_indent, rows_text, Part, Cut, cut_text}}
 use Rattle.yq_documents.{specs.Documents.{HasFitKeys, document_parts, lead_of}, specs.Reading.{part_outline, read_at, root_of}}
-use Rattle.yq_places.{specs.FlowNodes.{find_head, flow_collection}, specs.RowPaths.IsReadable}
-use Rattle.yq_edit_rules.{specs.Appends.inserted, specs.Changed.{IsChanged, put_document}}
+use Rattle.yq_places.specs.FlowNodes.{find_head, flow_collection}
+use Rattle.yq_edit_rules.{specs.Appends.inserted, specs.Changed.{put_document, ChangesIfReadable}}
 use Rattle.yq_edit_rules.{specs.DocumentRows.{IsDocumentPart, behind_document}, specs.SoundRoots.IsSoundRoot}
 use Rattle.yq_core.specs.declared.style.Place.TheVariants as places
 
@@ -26,11 +26,23 @@ behind_node c k p i = i.tail ++ rows_text i.back (p.end ++ behind_document k c)
 
 -- a collection in the inline node of a row in document k
 abbrev pub row_collection : Cut → ℕ → Part → InlineRow → List Step → CollPieces → CollAt
-row_collection c k p i steps w = record { place = places.Block; indent = parent_indent i.row; around = 0; node = i.node; rest = behind_node c k p i; steps = steps; coll = w }
+row_collection c k p i steps w = record {
+  place = places.Block;
+  indent = parent_indent i.row;
+  around = 0;
+  node = i.node;
+  rest = behind_node c k p i;
+  steps = steps;
+  coll = w;
+}
 
 -- a part with another inline node in that row
 abbrev pub with_node : Part → InlineRow → FlowNode → Part
 with_node p i m = inserted i.front (with_content (Inline i.space m i.tail) i.row ∷ []) i.back p
+
+-- the same with that collection edited
+abbrev pub with_edit : Cut → ℕ → Part → InlineRow → List Step → CollPieces → FlowEdit → Part
+with_edit c k p i steps w e = with_node p i (edited_node (row_collection c k p i steps w) e)
 
 -- A path of a document leads to a collection in the inline node of a row, by these steps in the node.
 pub record IsFlowAt (c : Cut) (k : ℕ) (p : Part) (steps : List Step) (f : FoundLine) (rest : List Step) (i : InlineRow) (w : CollPieces) : Type 0 where
@@ -54,8 +66,7 @@ FlowEdited =
     (h : Children → Children) →
     IsDocumentPart t c k p → IsFlowAt c k p steps f rest i w → IsFlowEdited (row_collection c k p i rest w) e (changed_at rest (within h)) →
     HasFitKeys (edited_node (row_collection c k p i rest w) e) →
-    IsSoundRoot (changed_at steps (within h) (root_of p)) → IsReadable (cut_text (put_document k (with_node p i (edited_node (row_collection c k p i rest w) e)) c)) →
-    IsChanged c (put_document k (with_node p i (edited_node (row_collection c k p i rest w) e)) c) k (lead_of p) (changed_at steps (within h))
+    IsSoundRoot (changed_at steps (within h) (root_of p)) → ChangesIfReadable c k (with_edit c k p i rest w e) (lead_of p) (changed_at steps (within h))
 
 -- A path of document k leads to a flow collection, in a row of its part.
 pub record FlowAt (c : Cut) (k : ℕ) (steps : List Step) (w : CollPieces) : Type 0 where
@@ -78,4 +89,6 @@ pub record NodeStands (c : Cut) (k : ℕ) (p : Part) (i : InlineRow) : Type 0 wh
 
 -- With another inline node in a row the text of a cut is the same outside that node.
 abbrev pub RowTexts : Type 0
-RowTexts = (c : Cut) (k : ℕ) (p : Part) (i : InlineRow) → slice_get (document_parts c) k ≡ Some p → p.rows ≡ i.front ++ (i.row ∷ i.back) → i.row.content ≡ Inline i.space i.node i.tail → NodeStands c k p i
+RowTexts =
+    (c : Cut) (k : ℕ) (p : Part) (i : InlineRow) → slice_get (document_parts c) k ≡ Some p → p.rows ≡ i.front ++ (i.row ∷ i.back) →
+    i.row.content ≡ Inline i.space i.node i.tail → NodeStands c k p i

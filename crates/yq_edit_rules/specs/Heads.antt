@@ -2,11 +2,10 @@
 use Rattle.std.specs.Prelude.{◌≡◌, ◌⊎◌, ℕ, List, [], ◌∷◌, ◌++◌, length, replicate}
 use Rattle.yq_core.{specs.Paths.{Step, changed_at, relabel_child, within}, specs.Text.{joined, text_lines}}
 use Rattle.yq_outline.{specs.Comments.head_comment, specs.Lines.lines_of_rows, specs.Places.FoundLine}
-use Rattle.yq_row_table.{specs.Gap.IsGap, specs.Rows.{Row, behind_gap, rows_text, Part, Cut, cut_text}}
+use Rattle.yq_row_table.{specs.Gap.IsGap, specs.Rows.{Row, behind_gap, rows_text, Part, Cut}}
 use Rattle.yq_documents.{specs.Pieces.before_run, specs.Documents.lead_of, specs.Reading.part_outline, specs.TreeEdits.with_head_comment}
-use Rattle.yq_places.specs.RowPaths.{IsReadable}
-use Rattle.yq_edit_rules.{specs.Changed.{IsChanged, put_document}, specs.Siblings.{IsEntryAt, NodeLines}, specs.LineRows.lines_before_entry}
-use Rattle.yq_edit_rules.specs.DocumentRows.{IsDocumentPart, behind_document, put_rows}
+use Rattle.yq_edit_rules.{specs.Siblings.{IsEntryAt, NodeLines}, specs.LineRows.lines_before_entry}
+use Rattle.yq_edit_rules.{specs.DocumentRows.{IsDocumentPart, behind_document, put_rows}, specs.Changed.ChangesIfReadable}
 
 -- What is written for a head comment before a rest: comment lines of which the first begins in a column, or nothing.
 pub record IsHeadCommentRun (column : ℕ) (run rest : List ℕ) : Type 0 where
@@ -32,6 +31,5 @@ HeadCommented =
     (t : List ℕ) (c : Cut) (k : ℕ) (p : Part) (steps : List Step) (s : Step) (h : NodeLines) (f : FoundLine) (front back : List Row) (r : Row) (run : List ℕ) →
     IsDocumentPart t c k p →
     IsEntryAt steps s (part_outline p) h f → TakesRun p front r back run (behind_document k c) → length (lines_of_rows front) ≡ lines_before_entry h f →
-    IsReadable (cut_text (put_document k (rerun front r back run p) c)) →
-    IsChanged c (put_document k (rerun front r back run p) c) k (lead_of (rerun front r back run p))
+    ChangesIfReadable c k (rerun front r back run p) (lead_of (rerun front r back run p))
     (changed_at steps (within (relabel_child s (with_head_comment (head_comment run)))))

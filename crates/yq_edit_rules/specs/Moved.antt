@@ -17,6 +17,14 @@ moved_up r dashes b = record b { gap = r.gap; column = r.column; dashes = dashes
 abbrev pub emptied_row : Row → List ℕ → List ℕ → Row
 emptied_row r dashes tail = record r { dashes = dashes; mark = rows.Dash; content = Nothing tail }
 
+-- the lines before a row, and those of its first dashes, which begin with the comments above it
+abbrev pub lines_to_dashes : List Row → Row → List ℕ → List Line
+lines_to_dashes before r dashes = lines_of_rows before ++ dash_lines (head_comment r.gap) r.column dashes
+
+-- the lines of what a row has after its first dashes, from a column on, and those of the rows after it
+abbrev pub lines_after_dashes : (column : ℕ) → List ℕ → Row → List Row → List Line
+lines_after_dashes column dashes r gone = lines_from [] column dashes r.mark r.content ++ lines_of_rows gone
+
 -- Where the next entry's row b, in the same column and with no comment above it, comes after the first dashes of row r, the lines are the old ones without
 -- those of the first entry.
 abbrev pub FirstMoved : Type 0
@@ -24,16 +32,16 @@ FirstMoved =
     (before gone behind : List Row) (r b : Row) (n : ℕ) (ns es : List ℕ) → r.dashes ≡ n ∷ (ns ++ es) → b.column ≡ behind_columns r.column (n ∷ ns) →
     head_comment b.gap ≡ [] →
     (lines_of_rows (before ++ (r ∷ (gone ++ (b ∷ behind)))) ≡
-    (lines_of_rows before ++ dash_lines (head_comment r.gap) r.column (n ∷ ns)) ++ ((lines_from [] b.column es r.mark r.content ++ lines_of_rows gone) ++ lines_of_rows (b ∷ behind))) ×
-    (lines_of_rows (before ++ (moved_up r (n ∷ ns) b ∷ behind)) ≡ (lines_of_rows before ++ dash_lines (head_comment r.gap) r.column (n ∷ ns)) ++ lines_of_rows (b ∷ behind))
+    lines_to_dashes before r (n ∷ ns) ++ (lines_after_dashes b.column es r gone ++ lines_of_rows (b ∷ behind))) ×
+    (lines_of_rows (before ++ (moved_up r (n ∷ ns) b ∷ behind)) ≡ lines_to_dashes before r (n ∷ ns) ++ lines_of_rows (b ∷ behind))
 
 -- The same where nothing but a tail without a comment stays after the dashes, and the rows after the first entry keep their places.
 abbrev pub FirstEmptied : Type 0
 FirstEmptied =
     (before gone behind : List Row) (r : Row) (n : ℕ) (ns es tail : List ℕ) → r.dashes ≡ (ns ++ (n ∷ [])) ++ es → line_comment tail ≡ None →
     (lines_of_rows (before ++ (r ∷ (gone ++ behind))) ≡
-    (lines_of_rows before ++ dash_lines (head_comment r.gap) r.column (ns ++ (n ∷ []))) ++ ((lines_from [] (behind_columns r.column (ns ++ (n ∷ []))) es r.mark r.content ++ lines_of_rows gone) ++ lines_of_rows behind)) ×
-    (lines_of_rows (before ++ (emptied_row r ns tail ∷ behind)) ≡ (lines_of_rows before ++ dash_lines (head_comment r.gap) r.column (ns ++ (n ∷ []))) ++ lines_of_rows behind)
+    lines_to_dashes before r (ns ++ (n ∷ [])) ++ (lines_after_dashes (behind_columns r.column (ns ++ (n ∷ []))) es r gone ++ lines_of_rows behind)) ×
+    (lines_of_rows (before ++ (emptied_row r ns tail ∷ behind)) ≡ lines_to_dashes before r (ns ++ (n ∷ [])) ++ lines_of_rows behind)
 
 -- The lines of a row are those of its first dashes, and then those of a row that begins after them and has no comment above it.
 abbrev pub DashesFirst : Type 0

@@ -1,13 +1,11 @@
--- The line comment of an item or entry at a path, whatever its row holds: a tail after what is written on its line, which for a block scalar is its header (6.6, 8.1.1; own).
+-- The line comment of an item or entry at a path: a tail after what its line has, which for a block scalar is its header (6.6, 8.1.1; own).
 use Rattle.std.specs.Prelude.{◌≡◌, ℕ, List, [], ◌∷◌, ◌++◌, length, Some, true}
 use Rattle.yq_core.{specs.Block.is_tail, specs.Paths.{Step, changed_at, relabel_child, within}}
 use Rattle.yq_outline.specs.Comments.{line_comment}
 use Rattle.yq_row_table.{specs.Exchange.with_content, specs.Grammar.IsTail}
-use Rattle.yq_row_table.specs.Rows.{Content, Nothing, Inline, Block, Row, rows_text, Part, Cut, cut_text}
+use Rattle.yq_row_table.specs.Rows.{Content, Nothing, Inline, Block, Row, rows_text, Part, Cut}
 use Rattle.yq_documents.{specs.Documents.lead_of, specs.LinesInRows.{RowLine, row_line_of}, specs.TreeEdits.with_line_comment}
-use Rattle.yq_places.specs.RowPaths.{IsReadable}
-use Rattle.yq_edit_rules.{specs.Appends.inserted, specs.Changed.{IsChanged, put_document}}
-use Rattle.yq_edit_rules.specs.DocumentRows.{IsDocumentPart, behind_document}
+use Rattle.yq_edit_rules.{specs.Appends.inserted, specs.DocumentRows.{IsDocumentPart, behind_document}, specs.Changed.ChangesIfReadable}
 
 -- a content with another end of its line: a block scalar has that in its header
 abbrev pub with_line_tail : List ℕ → Content → Content
@@ -36,6 +34,5 @@ PathTailPut =
     (t : List ℕ) (c : Cut) (k : ℕ) (p : Part) (steps : List Step) (s : Step) (x : RowLine) (front back : List Row) (tail : List ℕ) → IsDocumentPart t c k p →
     row_line_of (steps ++ (s ∷ [])) p.rows ≡ Some x → x.line ≡ length x.row.dashes → TakesLineTail p front x.row back tail (behind_document k c) →
     length front ≡ x.before →
-    IsReadable (cut_text (put_document k (inserted front (tailed tail x.row ∷ []) back p) c)) →
-    IsChanged c (put_document k (inserted front (tailed tail x.row ∷ []) back p) c) k (lead_of p)
+    ChangesIfReadable c k (inserted front (tailed tail x.row ∷ []) back p) (lead_of p)
     (changed_at steps (within (relabel_child s (with_line_comment (line_comment tail)))))

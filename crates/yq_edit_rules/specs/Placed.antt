@@ -39,4 +39,6 @@ EntryPlaced =
 
 -- Where no steps are left, the line that was found is an entry's or item's.
 abbrev pub FoundIsEntry : Type 0
-FoundIsEntry = (n : ℕ) (p : Part) (s : Step) (ss : List Step) (f : FoundLine) → IsEven n (part_outline p) → find s ss (part_outline p) ≡ Some (f, []) → IsEntry f.line.mark
+FoundIsEntry =
+    (n : ℕ) (p : Part) (s : Step) (ss : List Step) (f : FoundLine) → IsEven n (part_outline p) → find s ss (part_outline p) ≡ Some (f, []) →
+    IsEntry f.line.mark

@@ -7,8 +7,9 @@ use Rattle.yq_row_table.specs.Rows.{Part, Cut, cut_text}
 use Rattle.yq_documents.{specs.Documents.{document_parts, lead_of}, specs.Reading.{part_outline, read_at, root_of}, specs.TreeEdits.at_end}
 use Rattle.yq_documents.specs.Pieces.{TextPiece}
 use Rattle.yq_places.{specs.FirstPlaces.first_removal, specs.RemovalPlaces.{OwnRows, own_rows, Seam, Removal, removal_place, has_others}}
-use Rattle.yq_edit_rules.{specs.Changed.{IsChanged, KeepsRows, put_document}, specs.Conditions.AreSpared, specs.DocumentRows.IsDocumentPart}
-use Rattle.yq_edit_rules.{specs.EntryRows.HasWholeRows, specs.Rooms.is_block_root, specs.Siblings.{HasEntries, IsEntryAt, NodeLines}}
+use Rattle.yq_edit_rules.{specs.Changed.{KeepsRows, put_document, IsChangedBy}, specs.Conditions.AreSpared}
+use Rattle.yq_edit_rules.{specs.DocumentRows.IsDocumentPart, specs.EntryRows.HasWholeRows, specs.Rooms.is_block_root}
+use Rattle.yq_edit_rules.specs.Siblings.{HasEntries, IsEntryAt, NodeLines}
 
 -- An item or entry to which a path leads has these rows as its own.
 pub record HasOwnRows (p : Part) (steps : List Step) (s : Step) (x : OwnRows) : Type 0 where
@@ -19,7 +20,9 @@ pub record HasOwnRows (p : Part) (steps : List Step) (s : Step) (x : OwnRows) : 
 
 -- The rows that are found for an item or entry are its own.
 abbrev pub OwnRowsStand : Type 0
-OwnRowsStand = (t : List ℕ) (c : Cut) (k : ℕ) (p : Part) (steps : List Step) (s : Step) (x : OwnRows) → IsDocumentPart t c k p → own_rows (steps ++ (s ∷ [])) p.rows ≡ Some x → HasOwnRows p steps s x
+OwnRowsStand =
+    (t : List ℕ) (c : Cut) (k : ℕ) (p : Part) (steps : List Step) (s : Step) (x : OwnRows) → IsDocumentPart t c k p →
+    own_rows (steps ++ (s ∷ [])) p.rows ≡ Some x → HasOwnRows p steps s x
 
 -- a gap at a seam, if there is one: repaired after a block scalar
 abbrev pub mended : Option Seam → List ℕ → List ℕ
@@ -28,7 +31,9 @@ mended (Some s) gap = joined (repair s.keeps s.indent s.column (text_lines gap))
 
 -- What is taken out with an item or entry is in the text between its gap and the text before it.
 abbrev pub RemovalStands : Type 0
-RemovalStands = (c : Cut) (k : ℕ) (steps : List Step) (x : Removal) → read_at (cut_text c) ≡ Some c → removal_place k steps c ≡ Some x → cut_text c ≡ x.before ++ (x.gone ++ (x.gap ++ x.behind))
+RemovalStands =
+    (c : Cut) (k : ℕ) (steps : List Step) (x : Removal) → read_at (cut_text c) ≡ Some c → removal_place k steps c ≡ Some x →
+    cut_text c ≡ x.before ++ (x.gone ++ (x.gap ++ x.behind))
 
 -- With another part for document k, which keeps rows, a cut is this text, and reads without the item or entry.
 pub record IsTakenOut (c : Cut) (k : ℕ) (steps : List Step) (t : List ℕ) : Type 0 where
@@ -37,7 +42,7 @@ pub record IsTakenOut (c : Cut) (k : ℕ) (steps : List Step) (t : List ℕ) : T
   pub there : slice_get (document_parts c) k ≡ Some old
   pub rows : KeepsRows old new
   pub text : cut_text (put_document k new c) ≡ t
-  pub changed : IsChanged c (put_document k new c) k (lead_of new) (at_end remove_child steps)
+  pub changed : IsChangedBy c k new (lead_of new) (at_end remove_child steps)
   pub old_block : is_block_root old ≡ true
   pub new_block : is_block_root new ≡ true
   pub new_entries : HasEntries (part_outline new)

@@ -54,7 +54,8 @@ raw_put h space head raw = keep h.before ∷ (space ∷ (head ∷ (keep h.white 
 
 -- a text as a literal block scalar in the place of another block scalar: header and lines (8.1.2)
 abbrev pub literal_put : List ℕ → Held → ℕ → List ℕ → List Segment
-literal_put br h indent t = raw_put h (keep h.space) (put h.head (header_text (chomping_of (text_lines t)))) (joined (literal.raw_written indent br (text_lines t)))
+literal_put br h indent t =
+    raw_put h (keep h.space) (put h.head (header_text (chomping_of (text_lines t)))) (joined (literal.raw_written indent br (text_lines t)))
 
 -- a string in the place of a block scalar with a text line: a literal one, if it can be, else in double quotes (8.1)
 abbrev pub string_put : List ℕ → Held → ℕ → ScalarText → List Segment

@@ -10,7 +10,7 @@ use Rattle.yq_documents.{specs.Documents.{HaveFitKeys, HasShortRoot, lead_of}, s
 use Rattle.yq_documents.{specs.TreeEdits.replaced_node, specs.PartNumbers.part_number}
 use Rattle.yq_places.specs.RowPaths.{IsReadable}
 use Rattle.yq_edit_rules.{specs.Appends.inserted, specs.BlockChanges.{AreCounted, MovesUp, RootFits, StaysEmpty}}
-use Rattle.yq_edit_rules.{specs.Changed.{IsChanged, put_document}, specs.Conditions.AreSpared}
+use Rattle.yq_edit_rules.{specs.Changed.{put_document, ChangesIfReadable}, specs.Conditions.AreSpared}
 use Rattle.yq_edit_rules.{specs.DocumentRows.{IsDocumentPart, behind_document, put_rows}, specs.Edited.LineFits}
 use Rattle.yq_edit_rules.{specs.Moved.{moved_up, emptied_row}, specs.Siblings.{HasEntries, IsEntryAt, NodeLines}}
 use Rattle.yq_edit_rules.specs.SoundRoots.{MayReplace}
@@ -48,8 +48,7 @@ NodeRowsReplaced =
     (l : Line) (u : Outline) →
     IsDocumentPart t c k p → find s ss (part_outline p) ≡ Some (f, []) → RowsReplace front gone new back (first_gap back p.end) p (behind_document k c) →
     TakesLines f front gone new x y l u → LineFits [] f (replaced_node v) m l u → MayReplace v (content_under f.line f.under) (root_of p) (length (s ∷ ss)) →
-    IsReadable (cut_text (put_document k (inserted front new back p) c)) →
-    IsChanged c (put_document k (inserted front new back p) c) k (lead_of p) (changed_at (s ∷ ss) (replaced_node v))
+    ChangesIfReadable c k (inserted front new back p) (lead_of p) (changed_at (s ∷ ss) (replaced_node v))
 
 -- a part with these rows, and this gap after them
 abbrev pub rooted : List Row → List ℕ → Part → Part
@@ -75,8 +74,7 @@ RootRowsReplaced =
     (t : List ℕ) (c : Cut) (k : ℕ) (p : Part) (v : Node) (new : List Row) (gap : List ℕ) (m : ℕ) (u : Outline) → IsDocumentPart t c k p →
     TakesRoot c k p new gap →
     RootFits m u (replaced_node v (root_of p)) → lines_of_rows new ≡ flatten u → MayReplace v (root_of p) (root_of p) 0 →
-    IsReadable (cut_text (put_document k (rooted new gap p) c)) →
-    IsChanged c (put_document k (rooted new gap p) c) k (lead_of (rooted new gap p)) (replaced_node v)
+    ChangesIfReadable c k (rooted new gap p) (lead_of (rooted new gap p)) (replaced_node v)
 
 -- The first item or entry of a compact collection is removed: the next one's row b comes after the dash.
 abbrev pub FirstRowMoved : Type 0
@@ -87,8 +85,7 @@ FirstRowMoved =
     RowsReplace front (r ∷ (gone ++ (b ∷ []))) (moved_up r (n ∷ ns) b ∷ []) back (first_gap back p.end) p (behind_document k c) → MovesUp r b n ns es →
     AreCounted h f (length (lines_of_rows front) + length (n ∷ ns)) (length (lines_from [] b.column es r.mark r.content ++ lines_of_rows gone)) →
     AreSpared (names_of (content_under f.line f.under)) [] (names_of (root_of p)) →
-    IsReadable (cut_text (put_document k (inserted front (moved_up r (n ∷ ns) b ∷ []) back p) c)) →
-    IsChanged c (put_document k (inserted front (moved_up r (n ∷ ns) b ∷ []) back p) c) k (lead_of (inserted front (moved_up r (n ∷ ns) b ∷ []) back p))
+    ChangesIfReadable c k (inserted front (moved_up r (n ∷ ns) b ∷ []) back p) (lead_of (inserted front (moved_up r (n ∷ ns) b ∷ []) back p))
     (changed_at steps (within (remove_child s)))
 
 -- The same where nothing but a tail stays after the dash, and the next one's row keeps its place below it.
@@ -102,6 +99,5 @@ FirstRowDropped =
     AreCounted h f (length (lines_of_rows front) + length (ns ++ (n ∷ [])))
     (length (lines_from [] (behind_columns r.column (ns ++ (n ∷ []))) es r.mark r.content ++ lines_of_rows gone)) →
     AreSpared (names_of (content_under f.line f.under)) [] (names_of (root_of p)) →
-    IsReadable (cut_text (put_document k (inserted front (emptied_row r ns tail ∷ []) back p) c)) →
-    IsChanged c (put_document k (inserted front (emptied_row r ns tail ∷ []) back p) c) k (lead_of (inserted front (emptied_row r ns tail ∷ []) back p))
+    ChangesIfReadable c k (inserted front (emptied_row r ns tail ∷ []) back p) (lead_of (inserted front (emptied_row r ns tail ∷ []) back p))
     (changed_at steps (within (remove_child s)))

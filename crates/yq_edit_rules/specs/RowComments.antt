@@ -1,15 +1,13 @@
--- One row in the place of another one, and the line comments of rows of which a tail alone doesn't tell: block scalars have theirs in the header (8.1.1; own).
-use Rattle.std.specs.Prelude.{◌≡◌, ℕ, ◌+◌, List, [], ◌∷◌, ◌++◌, length, Option, true, false}
+-- One row in the place of another one, and line comments that no tail alone has: those of block scalars are in the header (8.1.1; own).
+use Rattle.std.specs.Prelude.{◌≡◌, ℕ, List, [], ◌∷◌, ◌++◌, Option, true, false}
 use Rattle.yq_core.{specs.Block.BlockText, specs.Paths.{Step, changed_at, relabel_child, within}}
-use Rattle.yq_outline.{specs.Comments.line_comment, specs.Places.FoundLine, specs.Lines.{content_anchor, head_of, tail_of, lines_of_rows}}
+use Rattle.yq_outline.{specs.Comments.line_comment, specs.Places.FoundLine, specs.Lines.{content_anchor, head_of, tail_of}}
 use Rattle.yq_row_table.{specs.Exchange.{allows_first, asked_behind, with_content}, specs.Grammar.{unlimited, limit_after}}
-use Rattle.yq_row_table.{specs.Rows.{Content, Block, Row, rows_text, Part, Cut, cut_text}, specs.Seams.TakesPlace, specs.Splices.first_gap}
+use Rattle.yq_row_table.{specs.Rows.{Content, Block, Row, rows_text, Part, Cut}, specs.Seams.TakesPlace, specs.Splices.first_gap}
 use Rattle.yq_documents.{specs.Documents.{ContentHasFitKeys, is_long_plain, lead_of}, specs.Reading.part_outline}
 use Rattle.yq_documents.specs.TreeEdits.{with_line_comment}
-use Rattle.yq_places.specs.RowPaths.{IsReadable}
-use Rattle.yq_edit_rules.{specs.Appends.inserted, specs.Changed.{IsChanged, put_document}}
-use Rattle.yq_edit_rules.{specs.DocumentRows.{IsDocumentPart, behind_document}, specs.LineRows.lines_before_entry}
-use Rattle.yq_edit_rules.{specs.Replaces.RowsReplace, specs.Siblings.{IsEntryAt, NodeLines}}
+use Rattle.yq_edit_rules.{specs.Appends.inserted, specs.DocumentRows.{IsDocumentPart, behind_document}, specs.Replaces.RowsReplace}
+use Rattle.yq_edit_rules.{specs.Siblings.{IsEntryAt, NodeLines}, specs.LineComments.IsMarkLine, specs.Changed.ChangesIfReadable}
 use Rattle.yq_row_table.specs.Rows as rows
 
 -- A row takes the place of one of a part before a rest, and the next row may follow it.
@@ -38,8 +36,7 @@ ContentCommented =
     (t : List ℕ) (c : Cut) (k : ℕ) (p : Part) (steps : List Step) (s : Step) (h : NodeLines) (f : FoundLine) (front back : List Row) (r : Row)
     (new : Content) → IsDocumentPart t c k p →
     IsEntryAt steps s (part_outline p) h f → TakesRow p front r (with_content new r) back (behind_document k c) → SpellsAlike r.mark r.content new →
-    length (lines_of_rows front) + length r.dashes ≡ lines_before_entry h f → IsReadable (cut_text (put_document k (inserted front (with_content new r ∷ []) back p) c)) →
-    IsChanged c (put_document k (inserted front (with_content new r ∷ []) back p) c) k (lead_of p)
+    IsMarkLine front r h f → ChangesIfReadable c k (inserted front (with_content new r ∷ []) back p) (lead_of p)
     (changed_at steps (within (relabel_child s (with_line_comment (line_comment (tail_of new))))))
 
 -- a block scalar whose header has another tail
@@ -53,7 +50,6 @@ BlockCommented =
     (anchor : Option rows.Anchor) (block : BlockText)
     (tail : List ℕ) → IsDocumentPart t c k p → IsEntryAt steps s (part_outline p) h f → r.content ≡ Block space anchor block →
     TakesRow p front r (with_content (with_header_tail tail space anchor block) r) back (behind_document k c) →
-    length (lines_of_rows front) + length r.dashes ≡ lines_before_entry h f →
-    IsReadable (cut_text (put_document k (inserted front (with_content (with_header_tail tail space anchor block) r ∷ []) back p) c)) →
-    IsChanged c (put_document k (inserted front (with_content (with_header_tail tail space anchor block) r ∷ []) back p) c) k (lead_of p)
+    IsMarkLine front r h f →
+    ChangesIfReadable c k (inserted front (with_content (with_header_tail tail space anchor block) r ∷ []) back p) (lead_of p)
     (changed_at steps (within (relabel_child s (with_line_comment (line_comment tail)))))

@@ -14,11 +14,21 @@ use Rattle.yq_edit_rules.{specs.Changed.put_document, specs.DocumentRows.{IsDocu
 abbrev pub RootsStand : Type 0
 RootsStand = (n : ℕ) (c : Cut) (p : Part) → slice_get (document_parts c) n ≡ Some p → (s : Standing) × (standing_at n [] c ≡ Some s)
 
+-- an item or entry has rows
+abbrev pub HasEntryRows : ℕ → List Step → Cut → Type 0
+HasEntryRows n steps c = (e : RowsOfEntry) × (rows_of_entry n steps c ≡ Some e)
+
+-- the last of steps leads to a part of a flow collection, which says whether the item or entry has others beside it
+abbrev pub HasFlowPart : ℕ → Step → List Step → Cut → Type 0
+HasFlowPart n s ss c =
+    (x : FlowPart) × (flow_standing n c (last_step (s ∷ ss)) ≡ Some x) ×
+    (has_others_at n (s ∷ ss) c ≡ nat_lt 1 (count (items_tree x.collection.items)))
+
 -- Where a node is below the root, there are the rows of an item or entry, or a part of a flow collection, which tells whether it has others beside it.
 abbrev pub EntriesStand : Type 0
 EntriesStand =
     (n : ℕ) (s : Step) (ss : List Step) (c : Cut) (v : Node) → read_at (cut_text c) ≡ Some c → node_in n (s ∷ ss) c ≡ Some v →
-    ((e : RowsOfEntry) × (rows_of_entry n (s ∷ ss) c ≡ Some e)) ⊎ ((x : FlowPart) × (flow_standing n c (last_step (s ∷ ss)) ≡ Some x) × (has_others_at n (s ∷ ss) c ≡ nat_lt 1 (count (items_tree x.collection.items))))
+    HasEntryRows n (s ∷ ss) c ⊎ HasFlowPart n s ss c
 
 -- ---- rows in their document
 

@@ -19,21 +19,39 @@ use Rattle.yq_expr.specs.declared.document.DocumentRoot.{DocumentRoot}
 use Rattle.yq_expr.specs.declared.effect.Action as effect
 use Rattle.yq_eval.specs.declared.matching.place.FoundPlace as place
 
+-- a document's aliases, each with what it names (own)
+abbrev pub AliasMap : Type 0 → Type 0
+AliasMap X = BTreeMap (Bor (List ℕ)) X
+
+-- what is changed at a place, if nothing refuses it (own)
+abbrev pub ChangesOfPlace : Type 0
+ChangesOfPlace = FoundPlace → Judgement (List Changed)
+
+-- it is so in every tree that has the places and whose anchors' names have these aliases (own)
+abbrev pub InTreesOf : {X : Type 0} → AliasMap X → List FoundPlace → (Node → Type 0) → Type 0
+InTreesOf aliases ps is_so = (root : Node) → HasAliases (names_of root) aliases → AreIn root ps → is_so root
+
+-- the same of one place (own)
+abbrev pub InTreesAt : {X : Type 0} → AliasMap X → FoundPlace → (Node → Type 0) → Type 0
+InTreesAt aliases p is_so = (root : Node) → HasAliases (names_of root) aliases → IsIn root p → is_so root
+
 -- an answer's changes are those of a judgement, or its refusal is that of the judgement (own)
 abbrev pub JudgesChanges : Result ChangesUnder ExprError → Judgement (List Changed) → Type 0
 JudgesChanges result j = Judges changes_under result j
 
--- An answer's changes are those at each of places, judged in every tree that has the places and whose anchors' names have these aliases; or
--- its refusal is the one that comes there (own).
-abbrev pub JudgesEach : {X : Type 0} → BTreeMap (Bor (List ℕ)) X → List FoundPlace → (FoundPlace → Judgement (List Changed)) → Result ChangesUnder ExprError → Type 0
-JudgesEach aliases ps f result = (root : Node) → HasAliases (names_of root) aliases → AreIn root ps → JudgesChanges result (at_each root f ps)
+-- an answer's changes are those at each of places, as judged in these trees, or its refusal is the one that comes there (own)
+abbrev pub JudgesEach : {X : Type 0} → AliasMap X → List FoundPlace → ChangesOfPlace → Result ChangesUnder ExprError → Type 0
+JudgesEach aliases ps f result = InTreesOf aliases ps (λ root. JudgesChanges result (at_each root f ps))
 
--- The changes after a call are those before it, and then those of a judgement, if they are allowed in every tree that has the place and whose
--- anchors' names have these aliases; or its refusal is the one that comes there (own).
-abbrev pub JudgesAllowed : {X Y : Type 0} → BTreeMap (Bor (List ℕ)) X → FoundPlace → Judgement (List Changed) → (before after : List PlacedChange) → Result Y ExprError → Type 0
-JudgesAllowed aliases p j before after result =
-    (root : Node) → HasAliases (names_of root) aliases → IsIn root p →
+-- The changes after a call are those before it, and then those of a judgement, if they are allowed; or its refusal is the one that comes (own).
+abbrev pub PutsAllowed : {Y : Type 0} → Node → Judgement (List Changed) → (before after : List PlacedChange) → Result Y ExprError → Type 0
+PutsAllowed root j before after result =
     Judges (λ _. map changed_of after) result (put_behind (map changed_of before) (and_then (all_allowed root) j))
+
+-- the same as judged in every tree that has a place and whose anchors' names have these aliases (own)
+abbrev pub JudgesAllowed : {X Y : Type 0} → AliasMap X → FoundPlace → Judgement (List Changed) → (before after : List PlacedChange) →
+    Result Y ExprError → Type 0
+JudgesAllowed aliases p j before after result = InTreesAt aliases p (λ root. PutsAllowed root j before after result)
 
 -- what a right side gives at a document's root (own)
 abbrev pub right_at_root : ℕ → List Term → Node → Judgement Node
@@ -48,12 +66,12 @@ abbrev pub JudgesVerdict : {X A : Type 0} → Result X ExprError → Judgement A
 JudgesVerdict result j = Judges (λ _. tt) result (verdict j)
 
 -- the same of changes at each of places, in every tree that has the places and whose anchors' names have these aliases (own)
-abbrev pub JudgesEachVerdict : {X Y : Type 0} → BTreeMap (Bor (List ℕ)) X → List FoundPlace → (FoundPlace → Judgement (List Changed)) → Result Y ExprError → Type 0
-JudgesEachVerdict aliases ps f result = (root : Node) → HasAliases (names_of root) aliases → AreIn root ps → JudgesVerdict result (at_each root f ps)
+abbrev pub JudgesEachVerdict : {X Y : Type 0} → AliasMap X → List FoundPlace → ChangesOfPlace → Result Y ExprError → Type 0
+JudgesEachVerdict aliases ps f result = InTreesOf aliases ps (λ root. JudgesVerdict result (at_each root f ps))
 
 -- an answer is whether anything refuses changes at a place, in every tree that has the place and whose anchors' names have these aliases (own)
-abbrev pub JudgesAt : {X Y : Type 0} → BTreeMap (Bor (List ℕ)) X → FoundPlace → Judgement (List Changed) → Result Y ExprError → Type 0
-JudgesAt aliases p j result = (root : Node) → HasAliases (names_of root) aliases → IsIn root p → JudgesVerdict result (and_then (all_allowed root) j)
+abbrev pub JudgesAt : {X Y : Type 0} → AliasMap X → FoundPlace → Judgement (List Changed) → Result Y ExprError → Type 0
+JudgesAt aliases p j result = InTreesAt aliases p (λ root. JudgesVerdict result (and_then (all_allowed root) j))
 
 -- what an update changes at places of a document, by the room that the text has (own)
 abbrev pub changes_there : DocumentPlaces → Update → Judgement (List Changed)
@@ -82,26 +100,27 @@ effect_of e t = effect_at e.doc (room_of t e.doc) e.action
 abbrev pub JudgesEachOf : DocumentEffect → List ℕ → List FoundPlace → Result ChangesUnder ExprError → Type 0
 JudgesEachOf e t ps result = JudgesEach e.aliases.now ps (effect_of e t) result
 
--- the same of an answer that may have none (own)
+-- an answer's changes, if it has any, are those of a judgement, or its refusal is that of the judgement (own)
+abbrev pub MayJudgeChanges : Result (Option ChangesUnder) ExprError → Judgement (List Changed) → Type 0
+MayJudgeChanges result j = MatchResult result (λ o. IfSome o (λ x. j ≡ gives (changes_under x))) (λ why. MatchFails why j)
+
+-- the same of what an update does at each of places of a document of a text (own)
 abbrev pub MayJudgeEachOf : DocumentEffect → List ℕ → List FoundPlace → Result (Option ChangesUnder) ExprError → Type 0
-MayJudgeEachOf e t ps result =
-    (root : Node) → HasAliases (names_of root) e.aliases.now → AreIn root ps →
-    MatchResult result (λ o. IfSome o (λ x. at_each root (effect_of e t) ps ≡ gives (changes_under x))) (λ why. MatchFails why (at_each root (effect_of e t) ps))
+MayJudgeEachOf e t ps result = InTreesOf e.aliases.now ps (λ root. MayJudgeChanges result (at_each root (effect_of e t) ps))
 
 -- an answer is that there is a change at a place, or none, as an update does it if that is allowed, in every tree that has the place and whose anchors' names
 -- have these aliases; or its refusal is the one that comes there (own)
 abbrev pub JudgesAllowedPut : DocumentEffect → List ℕ → place.FoundPlace → Result (Option Change) ExprError → Type 0
 JudgesAllowedPut e t p result =
-    (root : Node) → HasAliases (names_of root) e.aliases.now → IsIn root (place_of p) →
-    JudgesPut p result (and_then (all_allowed root) (effect_of e t (place_of p)))
+    InTreesAt e.aliases.now (place_of p) (λ root. JudgesPut p result (and_then (all_allowed root) (effect_of e t (place_of p))))
 
 -- The changes at items or values of a node after a call are those before it, and then what an update does at a place, if that is allowed in every tree that
 -- has the place and whose anchors' names have these aliases; or its refusal is the one that comes there (own).
 abbrev pub JudgesBelow : {Y : Type 0} → DocumentEffect → place.FoundPlace → (before after : ChildChanges) → Result Y ExprError → Type 0
 JudgesBelow e p before after result =
-    (root : Node) → HasAliases (names_of root) e.aliases.now → IsIn root (place_of p) →
-    Judges (λ _. changes_below (steps_of before.node) after.changes.items) result
-    (put_behind (changes_below (steps_of before.node) before.changes.items) (and_then (all_allowed root) (effect_of e before.cut (place_of p))))
+    InTreesAt e.aliases.now (place_of p)
+    (λ root. Judges (λ _. changes_below (steps_of before.node) after.changes.items) result
+    (put_behind (changes_below (steps_of before.node) before.changes.items) (and_then (all_allowed root) (effect_of e before.cut (place_of p)))))
 
 -- nothing but the changes is another one there (own)
 abbrev pub StaysAtNode : (before after : ChildChanges) → Type 0
@@ -124,9 +143,9 @@ abbrev pub JudgesThere : {X : Type 0} → DocumentPlaces → Update → Result X
 JudgesThere ps u result = JudgesVerdict result (changes_there ps u)
 
 -- a document with these aliases has none (own)
-abbrev pub HasNone : {X : Type 0} → BTreeMap (Bor (List ℕ)) X → Type 0
+abbrev pub HasNone : {X : Type 0} → AliasMap X → Type 0
 HasNone aliases = (names : List Name) → HasAliases names aliases → HaveNoAlias names
 
 -- a small value may be judged in the place of one that is added: that is no mapping, or no alias is in the document (own)
-abbrev pub MayStandIn : {X : Type 0} → Node → BTreeMap (Bor (List ℕ)) X → Type 0
+abbrev pub MayStandIn : {X : Type 0} → Node → AliasMap X → Type 0
 MayStandIn v aliases = is_mapping v ≡ true → HasNone aliases

@@ -110,8 +110,10 @@ item_ops doc path items = map (add_op doc path) (additions none items)
 -- Operations begin with one that puts or adds more items and entries than a text may have, or with some that append so many (own).
 pub data BeginsOversized : List Operation → Type 0 where
   puts : {doc : ℕ} {path : List Step} {v : Node} {ops : List Operation} → IsValueTree v → items_limit < items_in v → BeginsOversized (replace doc path v ∷ ops)
-  adds : {doc : ℕ} {path : List Step} {k : Option (List ℕ)} {v : Node} {ops : List Operation} → MayBeUtf8 k → IsValueTree v → items_limit < items_in v → BeginsOversized (append doc path k v ∷ ops)
-  appends : {all : List Operation} (doc : ℕ) (path : List Step) (items : Children) (ops : List Operation) → AreValueTrees false items → items_limit < items_among items → all ≡ item_ops doc path items ++ ops → BeginsOversized all
+  adds : {doc : ℕ} {path : List Step} {k : Option (List ℕ)} {v : Node} {ops : List Operation} → MayBeUtf8 k → IsValueTree v → items_limit < items_in v →
+      BeginsOversized (append doc path k v ∷ ops)
+  appends : {all : List Operation} (doc : ℕ) (path : List Step) (items : Children) (ops : List Operation) → AreValueTrees false items →
+      items_limit < items_among items → all ≡ item_ops doc path items ++ ops → BeginsOversized all
 
 -- the operations that a judgement gives, if it does, begin so (own)
 abbrev pub GivesOversizedOps : Judgement (List Operation) → Type 0

@@ -1,9 +1,9 @@
 -- What calls that read and keep rows answer (own; a reader of the contracts may skip it).
 use Rattle.std.specs.Borrow.{Bor}
-use Rattle.std.specs.Prelude.{◌≡◌, ◌-◌, ◌==◌, ◌&&◌, ◌||◌, ℕ, Bool, List, Option, Some, None, IfOk, OnOk, Result, Vec, [], is_ok, length}
-use Rattle.std.{specs.Prelude.{nat_lt, not, option_map, if◌then◌else◌, IfSome, ℤ, true, false}, specs.declared.alloc.Global.Global}
-use Rattle.yq_core.{specs.Answers.{Gives, ReadError}, specs.Text.{is_empty, is_marker}, specs.Piece.deeper, specs.Reading.read_scalar}
-use Rattle.yq_core.specs.Scalars.{begins_scalar}
+use Rattle.std.specs.Prelude.{◌≡◌, ◌-◌, ◌==◌, ◌&&◌, ◌||◌, ℕ, Bool, List, Option, Some, None, IfOk, OnOk, Result, Ok, Err, Vec, [], is_ok}
+use Rattle.std.{specs.Prelude.{length, nat_lt, not, option_map, if◌then◌else◌, IfSome, ℤ, true, false}, specs.declared.alloc.Global.Global}
+use Rattle.yq_core.{specs.Answers.{Gives, IsOfText, ReadError}, specs.Text.{is_empty, is_marker}, specs.Piece.deeper}
+use Rattle.yq_core.{specs.Reading.read_scalar, specs.Scalars.begins_scalar}
 use Rattle.yq_row_table.{specs.Grammar.allows, specs.Items.{Item, items_text, view_of_items}, specs.Kept.{kept_rows, rows_placed}}
 use Rattle.yq_row_table.{specs.Meter.{begins_line, count_after, line_count}, specs.Offsets.{offsets_of, rows_in, slices_in}}
 use Rattle.yq_row_table.{specs.Reading.{begins_block, read_row_key}, specs.Regions.{IsReadAlone, region_items}, specs.Rows.{Part, RowMark}}
@@ -65,6 +65,11 @@ KnowsRowHead whole x = KnowsHead x.4 (slices_in whole x.0).head
 abbrev pub KnowsFilling : Filling → Type 0
 KnowsFilling f = KnowsHead f.depth f.head.now
 
+-- an answer says so of what comes after a mark, or names a fault of the text
+abbrev pub KnowsContent : Result Filling ReadError → Type 0
+KnowsContent (Ok f) = KnowsFilling f
+KnowsContent (Err e) = IsOfText e
+
 -- the key of a mark, if it has one, begins with a letter, a digit or no ASCII
 abbrev pub is_word_mark : RowMark → Bool
 is_word_mark m = is_word_key (key_of_mark m) (colon_of m)
@@ -77,10 +82,15 @@ pub record IsFrontScalar (spaces : Option ℕ) (t head behind : List ℕ) (is_wo
   pub read : read_scalar false spaces t ≡ Some (head, behind)
   pub word : is_word ≡ true → is_word_head head ≡ true
 
+-- where a text begins with a scalar that reads with this head, what is found is what reading gives
+abbrev pub FindsAsRead : (n : ℤ) (space t head behind : List ℕ) → Filling → Type 0
+FindsAsRead n space t head behind f =
+    begins_other t ≡ false → begins_scalar false t ≡ true → read_scalar false (Some (deeper n)) t ≡ Some (head, behind) →
+    inline_sliced n space t ≡ Some (filling_view f)
+
 -- a scalar after white space and its tail are found as reading gives them
 abbrev pub FindsScalar : (space head behind : List ℕ) → Option Filling → Type 0
-FindsScalar space head behind found =
-    IfSome found (λ f. (n : ℤ) (t : List ℕ) → begins_other t ≡ false → begins_scalar false t ≡ true → read_scalar false (Some (deeper n)) t ≡ Some (head, behind) → inline_sliced n space t ≡ Some (filling_view f))
+FindsScalar space head behind found = IfSome found (λ f. (n : ℤ) (t : List ℕ) → FindsAsRead n space t head behind f)
 
 -- the same of pieces as the code read them
 abbrev pub offsets_found : List ℕ → RowFront → ℕ → Begin → Filling → Offsets
@@ -102,9 +112,13 @@ GivesRows whole rows r read = Gives (λ x. (rows_in whole x.0.items, x.1.now, x.
 abbrev pub PlacesRows : (whole text : List ℕ) → Vec Offsets Global → Result RowsRead ReadError → Option (Part × List ℕ) → Type 0
 PlacesRows whole text rows r read = Gives (λ x. x.0.items) r (rows_placed rows.items (length whole - length text) read)
 
--- where all rows that are no word rows are known before, they are known after
+-- the rows that are no word rows are known, of rows in a whole text
+abbrev pub KnowsOthersOf : List ℕ → Vec Offsets Global → Notes → Type 0
+KnowsOthersOf whole rows notes = AreOtherRows (rows_in whole rows.items) 0 notes.others.items
+
+-- where they are known before, they are known after
 abbrev pub KeepOthers : List ℕ → Vec Offsets Global → Notes → Result RowsRead ReadError → Notes → Type 0
-KeepOthers whole rows before r after = AreOtherRows (rows_in whole rows.items) 0 before.others.items → IfOk r (λ x. AreOtherRows (rows_in whole x.0.items) 0 after.others.items)
+KeepOthers whole rows before r after = KnowsOthersOf whole rows before → IfOk r (λ x. KnowsOthersOf whole x.0 after)
 
 -- the key after a dash and these spaces, with what comes after it up to its `:`, and what follows; a key needs spaces
 abbrev pub key_after : (spaces next : List ℕ) → Option (List ℕ × List ℕ × List ℕ)

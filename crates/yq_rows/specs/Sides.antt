@@ -89,4 +89,5 @@ IsSideBefore p at side = (xs : List Item) → AreAt p xs → IsSplitAt at (text_
 
 -- this is what is in front of the first item that is nearer to the end than so many bytes, where the split is in front of it (own)
 abbrev pub IsSideBehind : Places → (len back : ℕ) → Side → Type 0
-IsSideBehind p len back side = (xs : List Item) (at : ℕ) → AreAt p xs → IsSplitAt at len p → at + back ≤ len → len ≡ text_length xs → side ≡ side_of (not_in_back back xs)
+IsSideBehind p len back side =
+    (xs : List Item) (at : ℕ) → AreAt p xs → IsSplitAt at len p → at + back ≤ len → len ≡ text_length xs → side ≡ side_of (not_in_back back xs)

@@ -1,7 +1,7 @@
 //! What comes after a row's mark.
-ghost use Rattle.std.{specs.Option.option_map, specs.Prelude.{◌≡◌, ◌≤◌, ◌==◌, ◌||◌, ◌&&◌, not, length, true, false, IfErr, IfOk}};
-ghost use Rattle.yq_core.{specs.Answers.{Gives, IsOfText}, specs.Text.{front, is_empty}};
-ghost use Rattle.yq_rows.{specs.ReadPieces.{is_plain_kind, filling_view}, specs.RowAnswers.KnowsFilling};
+ghost use Rattle.std.{specs.Option.option_map, specs.Prelude.{◌≡◌, ◌≤◌, ◌==◌, ◌||◌, ◌&&◌, not, length, true, false}};
+ghost use Rattle.yq_core.{specs.Answers.Gives, specs.Text.{front, is_empty}};
+ghost use Rattle.yq_rows.{specs.ReadPieces.{is_plain_kind, filling_view}, specs.RowAnswers.KnowsContent};
 ghost use Rattle.yq_row_table.specs.Slicing.{filled_at};
 ghost use Rattle.yq_inline.specs.Measured as measured;
 ghost use Rattle.yq_core.specs.Scalars as scalars;
@@ -113,8 +113,7 @@ fn read_block_content<'t>(
     text: &'t str,
 ) -> Result<Filling<'t>, ReadError>
     ensures read { Gives filling_view result (slicing.block_sliced parent space.now text.now) }
-    ensures known { IfOk result KnowsFilling }
-    ensures fault { IfErr result IsOfText }
+    ensures known { KnowsContent result }
 {
     let (anchor, apart, rest) = split_apart(text);
     if anchor.len() == 1 {
@@ -183,8 +182,7 @@ fn read_inline_content<'t>(
     text: &'t str,
 ) -> Result<Filling<'t>, ReadError>
     ensures read { Gives filling_view result (slicing.inline_sliced parent space.now text.now) }
-    ensures known { IfOk result KnowsFilling }
-    ensures fault { IfErr result IsOfText }
+    ensures known { KnowsContent result }
 {
     let spaces = further_spaces(Place::Block, parent);
     let found = match measure_head(keys, spaces, whole, text) {
@@ -229,8 +227,7 @@ fn read_scalar_content<'t>(
     requires { (slicing.begins_other text.now ≡ false) ×
         (scalars.begins_scalar false text.now ≡ true) }
     ensures read { Gives filling_view result (slicing.inline_sliced parent space.now text.now) }
-    ensures known { IfOk result KnowsFilling }
-    ensures fault { IfErr result IsOfText }
+    ensures known { KnowsContent result }
 {
     let spaces = further_spaces(Place::Block, parent);
     let (head, behind) = match read_front(spaces, whole, text) {
@@ -266,8 +263,7 @@ pub(crate) fn read_content<'t>(
     text: &'t str,
 ) -> Result<Filling<'t>, ReadError>
     ensures read { Gives filling_view result (filled_at parent text.now) }
-    ensures known { IfOk result KnowsFilling }
-    ensures fault { IfErr result IsOfText }
+    ensures known { KnowsContent result }
 {
     let (space, rest) = split_white(text);
     if begins_word(rest.as_bytes()) {

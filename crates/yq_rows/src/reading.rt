@@ -2,7 +2,7 @@
 ghost use Rattle.std.specs.Prelude.{◌≡◌, ◌≢◌, ◌<◌, ◌≤◌, ◌+◌, ◌++◌, ◌^◌, ◌||◌, [], ◌∷◌, if◌then◌else◌, length, true, IfErr, IfOk, OnOk};
 ghost use Rattle.yq_core.{specs.Answers.{IsOfText, ReadsAs}, specs.declared.fault.FaultKind.TheVariants.NotUtf8};
 ghost use Rattle.yq_row_table.{specs.Grammar.{unlimited, ends_part}, specs.Offsets.{Ends, Stand, IsCutIn}};
-ghost use Rattle.yq_rows.specs.RowAnswers.{BeginsInFront, ReadsMarked, may_be_at, GivesRow, GivesRows, KeepOthers, KnowsFilling};
+ghost use Rattle.yq_rows.specs.RowAnswers.{BeginsInFront, ReadsMarked, may_be_at, GivesRow, GivesRows, KeepOthers, KnowsContent};
 ghost use Rattle.yq_rows.specs.RowAnswers.{KnowsRowHead, MayBeWordRow, PlacesRows, row_in_front};
 ghost use Rattle.yq_core.specs.Text;
 ghost use Rattle.yq_row_table.specs.Reading as spec;
@@ -50,8 +50,7 @@ fn read_marked<'t>(
 ) -> Result<Filling<'t>, ReadError>
     requires columns { column + begin.now.columns < 2 ^ 32 }
     ensures read { ReadsMarked column begin.now result }
-    ensures known { IfOk result KnowsFilling }
-    ensures fault { IfErr result IsOfText }
+    ensures known { KnowsContent result }
 {
     let parent = parent_of(begin.mark, column + begin.columns);
     let content = read_content(keys, whole, begin.mark, parent, begin.rest)?;

@@ -1,11 +1,11 @@
 //! Carrying out: operations done on a text, one after the other.
-ghost use Rattle.std.specs.Prelude.{◌≡◌, ◌++◌, Some, IfErr, IfOk, IfSome, string_bytes};
+ghost use Rattle.std.specs.Prelude.{◌≡◌, ◌++◌, Some, IfErr, IfOk, string_bytes};
 ghost use Rattle.yq_semantics.specs.Operations.{operation_of, operations_of};
 ghost use Rattle.yq_documents.specs.Reading.{cut_of, read_at};
 ghost use Rattle.yq_row_table.specs.View.{rows_view};
-ghost use Rattle.yq_edit_laws.{specs.Answers.{Edits, EditFails}, specs.Edit.{edit_after, gives}};
-ghost use Rattle.yq_edit_laws.{specs.Theorems.{HasReading, IsApplied, IsFitting, OpRefused}, specs.Valid.AreServed};
-ghost use Rattle.yq_splice.specs.Session.{HasPlaces};
+ghost use Rattle.yq_edit_laws.{specs.Answers.Edits, specs.Edit.edit_after, specs.Theorems.{HasReading, IsApplied, IsFitting, OpRefused}};
+ghost use Rattle.yq_edit_laws.specs.Valid.{AreServed};
+ghost use Rattle.yq_splice.{specs.Answers.MayEdit, specs.Session.HasPlaces};
 ghost use Rattle.yq_edit_laws.specs.Carried as spec;
 
 use crate::others::{is_worth, with_others};
@@ -107,10 +107,7 @@ fn carry_at_once<'d>(
 ) -> Result<Option<Edited>, ExprError>
     requires read { read_at cut.now ≡ Some (cut_of cut.now) }
     requires serves { AreServed (operations_of ops.now) cut.now }
-    ensures ok { IfOk result (λ o. IfSome o (λ e. spec.carry_all (operations_of ops.now) cut.now ≡
-        gives (string_bytes e.text) e.splices.items)) }
-    ensures err { IfErr result (λ e. EditFails e (spec.carry_all (operations_of ops.now)
-        cut.now)) }
+    ensures { MayEdit result (spec.carry_all (operations_of ops.now) cut.now) }
 {
     if let [op] = ops {
         let edited = carry_one(alloc, cut, op)?;

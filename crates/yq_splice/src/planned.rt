@@ -1,9 +1,10 @@
 //! Plans carried out: operations of each document at and below one node.
-ghost use Rattle.std.specs.Prelude.{◌≡◌, Some, IfErr, IfOk, IfSome, string_bytes};
+ghost use Rattle.std.specs.Prelude.{◌≡◌, Some};
 ghost use Rattle.yq_documents.specs.Reading.{cut_of, read_at};
 ghost use Rattle.yq_row_table.specs.View.{rows_view};
 ghost use Rattle.yq_semantics.specs.Under.{all_under, part_ops};
-ghost use Rattle.yq_edit_laws.{specs.Answers.{Edits, EditFails}, specs.Edit.{edit_after, gives}, specs.Valid.AreServed};
+ghost use Rattle.yq_edit_laws.{specs.Answers.Edits, specs.Edit.edit_after, specs.Valid.AreServed};
+ghost use Rattle.yq_splice.specs.Answers.{MayEdit};
 ghost use Rattle.yq_edit_laws.specs.Carried as spec;
 
 use crate::carrying::{carry_rows, edited_behind};
@@ -24,9 +25,7 @@ fn carry_part_under<'d>(
     part: &'d OpsUnder,
 ) -> Result<Option<Edited>, ExprError>
     requires { AreServed (part_ops part.now) cut.now }
-    ensures ok { IfOk result (λ o. IfSome o (λ e. spec.carry_all (part_ops part.now) cut.now ≡
-        gives (string_bytes e.text) e.splices.items)) }
-    ensures err { IfErr result (λ e. EditFails e (spec.carry_all (part_ops part.now) cut.now)) }
+    ensures { MayEdit result (spec.carry_all (part_ops part.now) cut.now) }
 {
     let count = part.ops.len();
     let found = carry_under(alloc, cut, &part.front, &part.ops)?;
@@ -53,9 +52,7 @@ fn carry_below<'d>(
     plan: &'d [OpsUnder],
 ) -> Result<Option<Edited>, ExprError>
     requires { AreServed (all_under plan.now) cut.now }
-    ensures ok { IfOk result (λ o. IfSome o (λ e. spec.carry_all (all_under plan.now) cut.now ≡
-        gives (string_bytes e.text) e.splices.items)) }
-    ensures err { IfErr result (λ e. EditFails e (spec.carry_all (all_under plan.now) cut.now)) }
+    ensures { MayEdit result (spec.carry_all (all_under plan.now) cut.now) }
 {
     let [part] = plan else {
         return Ok(None);

@@ -48,8 +48,8 @@ returns-after-no_further_line-clause-read c =
     let k = known c.args.parent c.further_spaces-spaces.result c.args.text.now c.in-Ok.found.node.rest.now c.in-Ok.found.node.anchored c.in-Ok.found.node.kind spaces c.in-Ok.ensures.read in
     inline_no_tail c.args.parent c.args.space.now c.args.text.now c.in-Ok.found.node.rest.now k.node k.read (sym c.in-None.ensures)
 
-pub returns-after-no_further_line-clause-fault : goal.returns-after-no_further_line-clause-fault
-returns-after-no_further_line-clause-fault c = elim c.match-no_further_line.branch [
+pub returns-after-no_further_line-clause-known : goal.returns-after-no_further_line-clause-known
+returns-after-no_further_line-clause-known c = elim c.match-no_further_line.branch [
   | in-Some-no_further_line w ↦ rw w.result-is (λ is. w.in-Some-no_further_line.ensures (sym w.fault.ensures.kind ∙ is))
   | in-None-no_further_line w ↦ rw w.result-is (λ is. w.no_tail.ensures (sym w.fault-in-None-no_further_line.ensures.kind ∙ is))
 ]

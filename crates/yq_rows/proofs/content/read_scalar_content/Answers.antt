@@ -21,8 +21,8 @@ returns-after-no_further_line-clause-read c =
     let spaces : c.further_spaces-spaces.result ≡ Some (deeper c.args.parent) = rw (to_z-of_z w64 c.args.parent c.ranges.parent) at c.further_spaces-spaces.ensures in
     scalar_no_tail c.args.parent c.args.space.now c.args.text.now c.in-Ok.found.0.now c.in-Ok.found.1.now c.requires.0 c.requires.1 (rw spaces at c.in-Ok.ensures.read) (sym c.in-None.ensures)
 
-pub returns-after-no_further_line-clause-fault : goal.returns-after-no_further_line-clause-fault
-returns-after-no_further_line-clause-fault c = elim c.match-no_further_line.branch [
+pub returns-after-no_further_line-clause-known : goal.returns-after-no_further_line-clause-known
+returns-after-no_further_line-clause-known c = elim c.match-no_further_line.branch [
   | in-Some-no_further_line w ↦ rw w.result-is (λ is. w.in-Some-no_further_line.ensures (sym w.fault.ensures.kind ∙ is))
   | in-None-no_further_line w ↦ rw w.result-is (λ is. w.no_tail.ensures (sym w.fault-in-None-no_further_line.ensures.kind ∙ is))
 ]

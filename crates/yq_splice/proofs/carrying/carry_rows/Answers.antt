@@ -1,11 +1,11 @@
-use Rattle.std.{proofs.Common.{◌≡◌, ℕ, List, Option, Some, sym, ap, ◌∙◌, subst}, specs.Prelude.IfSome, specs.String.string_bytes}
+use Rattle.std.{proofs.Common.{◌≡◌, ℕ, List, Option, Some, Ok, sym, ap, ◌∙◌, subst}, specs.String.string_bytes}
 use Rattle.std.proofs.lemmas.Result.{err_from_is_err_and}
 use Rattle.yq_semantics.specs.Operations.{operations_of}
 use Rattle.yq_documents.specs.Reading.{cut_of, read_at}
 use Rattle.yq_text.specs.declared.edited.Edited.{Edited}
 use Rattle.yq_edit_laws.{specs.Answers.EditFails, specs.Carried.carry_all, specs.Edit.{edit_after, gives}, specs.Valid.AreServed}
 use Rattle.yq_edit_laws.proofs.OrderLaws.{fails_behind}
-use Rattle.yq_splice.proofs.SessionLaws.{has_cut}
+use Rattle.yq_splice.{specs.Answers.MayEdit, proofs.SessionLaws.has_cut}
 use Rattle.yq_splice.proofs.carrying.carry_rows.Goals as goal
 
 pub new-requires : goal.new-requires
@@ -20,7 +20,7 @@ carry_at_once-requires-clause-serves c = subst (AreServed (operations_of c.args.
 pub returns-in-Some : goal.returns-in-Some
 returns-in-Some c =
     let one =
-    subst (λ (o : Option Edited). IfSome o (λ e. carry_all (operations_of c.args.ops.now) c.new.result ≡ gives (string_bytes e.text) e.splices.items)) c.in-Some.is c.in_ok-at_once.ensures.ok in
+    subst (λ (o : Option Edited). MayEdit (Ok o) (carry_all (operations_of c.args.ops.now) c.new.result)) c.in-Some.is c.in_ok-at_once.ensures in
     ap (edit_after c.args.splices.items) (ap (carry_all (operations_of c.args.ops.now)) (sym c.new.ensures) ∙ one)
     ∙ λ i. gives (string_bytes (sym c.in_ok-edited_behind.ensures.0 i)) (sym c.in_ok-edited_behind.ensures.1 i)
 
@@ -29,4 +29,4 @@ returns-in_err-at_once c =
     let p = err_from_is_err_and c.from_residual.result c.from_residual.ensures.1 in
     rw (p.1, p.2)
     (fails_behind c.in_err-at_once.field-0.0 c.args.splices.items (carry_all (operations_of c.args.ops.now) c.args.text.now)
-    (subst (λ (t : List ℕ). EditFails c.in_err-at_once.field-0.0 (carry_all (operations_of c.args.ops.now) t)) c.new.ensures c.in_err-at_once.ensures.err))
+    (subst (λ (t : List ℕ). EditFails c.in_err-at_once.field-0.0 (carry_all (operations_of c.args.ops.now) t)) c.new.ensures c.in_err-at_once.ensures))

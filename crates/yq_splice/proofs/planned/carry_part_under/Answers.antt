@@ -12,8 +12,8 @@ carry_under-requires c =
     let both : ops_under c.deref.result.now c.deref-2.result.now ≡ part_ops c.args.part.now = λ i. ops_under (c.deref.ensures.value i) (c.deref-2.ensures.value i) in
     subst (λ (os : List Operation). AreServed os c.args.cut.now) (sym both) c.requires
 
-pub returns-in_err-found-clause-err : goal.returns-in_err-found-clause-err
-returns-in_err-found-clause-err c =
+pub returns-in_err-found : goal.returns-in_err-found
+returns-in_err-found c =
     let both : ops_under c.deref.result.now c.deref-2.result.now ≡ part_ops c.args.part.now = λ i. ops_under (c.deref.ensures.value i) (c.deref-2.ensures.value i) in
     let p = err_from_is_err_and c.from_residual.result c.from_residual.ensures.1 in
     rw (p.1, p.2) (subst (λ (os : List Operation). EditFails c.in_err-found.field-0.0 (carry_all os c.args.cut.now)) both c.in_err-found.ensures.err)
@@ -28,8 +28,8 @@ with_others-requires c =
     ap operations_of c.deref-4.ensures.value ∙ (given ∙ ap (λ (front : List declared.Step). ops_under front left) (c.deref-3.ensures.value ∙ sym c.deref.ensures.value)) in
     left_served c.deref.result.now c.deref-2.result.now c.args.cut.now c.in-Some.together h c.deref-4.result.now is
 
-pub returns-clause-ok : goal.returns-clause-ok
-returns-clause-ok c =
+pub returns : goal.returns
+returns c =
     let both : ops_under c.deref.result.now c.deref-2.result.now ≡ part_ops c.args.part.now = λ i. ops_under (c.deref.ensures.value i) (c.deref-2.ensures.value i) in
     let h = subst (MayCarryUnder c.deref.result.now c.deref-2.result.now c.args.cut.now) c.in-Some.is c.in_ok-found.ensures.ok in
     let left : List Op = c.in-Some.together.left.now in
@@ -40,8 +40,8 @@ returns-clause-ok c =
     ap (λ (os : List Operation). carry_all os c.args.cut.now) (sym both)
     ∙ (sym (left_give c.deref.result.now c.deref-2.result.now c.args.cut.now c.in-Some.together h c.deref-4.result.now is) ∙ c.in_ok-carried.ensures)
 
-pub returns-in_err-carried-clause-err : goal.returns-in_err-carried-clause-err
-returns-in_err-carried-clause-err c =
+pub returns-in_err-carried : goal.returns-in_err-carried
+returns-in_err-carried c =
     let both : ops_under c.deref.result.now c.deref-2.result.now ≡ part_ops c.args.part.now = λ i. ops_under (c.deref.ensures.value i) (c.deref-2.ensures.value i) in
     let h = subst (MayCarryUnder c.deref.result.now c.deref-2.result.now c.args.cut.now) c.in-Some.is c.in_ok-found.ensures.ok in
     let left : List Op = c.in-Some.together.left.now in
