@@ -30,17 +30,21 @@ pub(crate) struct FilledRun<'s> {
 }
 
 impl<'s> FilledRun<'s> {
-    /// Nothing yet.
-    pub(crate) fn new(alloc: Global) -> FilledRun<'s>
-        ensures text { string_bytes result.run.text ≡ [] }
-        ensures done { result.run.done ≡ 0 }
-        ensures splices { result.run.splices.items ≡ [] }
-        ensures filled { result.filled ≡ None }
+    /// Nothing yet, with room for a text of so many bytes and so many splices.
+    pub(crate) fn with_room(
+        alloc: Global,
+        size: usize,
+        count: usize,
+    ) -> Result<FilledRun<'s>, AllocError>
+        ensures text { IfOk result (λ r. string_bytes r.run.text ≡ []) }
+        ensures done { IfOk result (λ r. r.run.done ≡ 0) }
+        ensures splices { IfOk result (λ r. r.run.splices.items ≡ []) }
+        ensures filled { IfOk result (λ r. r.filled ≡ None) }
     {
-        FilledRun {
-            run: PutRun::new(alloc),
+        Ok(FilledRun {
+            run: PutRun::with_room(alloc, size, count)?,
             filled: None,
-        }
+        })
     }
 }
 
@@ -69,6 +73,9 @@ fn filled_now<'s>(lead: &str, steps: &'s [Step], more: bool) -> Option<Filled<'s
 fn joined(alloc: Global, lead: &str, written: String) -> Result<String, AllocError>
     ensures { IfOk result (λ s. string_bytes s ≡ lead.now ++ string_bytes written) }
 {
+    if lead.is_empty() {
+        return Ok(written);
+    }
     let mut new = String::from_str(alloc, lead)?;
     new.push_str(&written)?;
     Ok(new)

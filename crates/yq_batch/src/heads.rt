@@ -196,7 +196,7 @@ pub(crate) fn put_in_heads<'o>(
         stem,
         head,
     };
-    let mut run = FilledRun::new(alloc);
+    let mut run = FilledRun::with_room(alloc, text.len(), ops.len())?;
     let Some(left) = put_in_head(alloc, &at, ops, &mut run)? else {
         return Ok(put_in_any_order(alloc, &at, ops)?);
     };

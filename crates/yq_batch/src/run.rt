@@ -58,19 +58,6 @@ pub(crate) fn push_splice(
 }
 
 impl PutRun {
-    /// Nothing yet.
-    pub(crate) fn new(alloc: Global) -> PutRun
-        ensures text { string_bytes result.text ≡ [] }
-        ensures done { result.done ≡ 0 }
-        ensures splices { result.splices.items ≡ [] }
-    {
-        PutRun {
-            text: String::new(alloc),
-            done: 0,
-            splices: Vec::new(alloc),
-        }
-    }
-
     /// Nothing yet, with room for a text of so many bytes and so many splices.
     pub(crate) fn with_room(alloc: Global, size: usize, count: usize) -> Result<PutRun, AllocError>
         ensures text { IfOk result (λ r. string_bytes r.text ≡ []) }

@@ -115,7 +115,7 @@ fn document_ops(
     ensures { IfOk result (λ x. part_ops x ≡ ops_in_order doc removal changed) }
 {
     let ChangesUnder { front, changes } = changed;
-    let mut ops = Vec::new(alloc);
+    let mut ops = Vec::with_capacity(alloc, changes.len())?;
     push_each(alloc, doc, ordered(removal, changes), &mut ops)?;
     Ok(OpsUnder { front, ops })
 }

@@ -8,6 +8,7 @@ ghost use Rattle.yq_core.specs.SchemaReading as numbers;
 ghost use Rattle.yq_semantics.specs.RightValues as spec;
 
 use crate::updating::key_numbers::{KeyNumbers, keep_number, number_of, numbers_of};
+use itoa::Buffer;
 use std::alloc::{AllocError, Global};
 use yq_core::{Kind, Scalar, Value};
 use yq_scalar_reader::int_value;
@@ -17,8 +18,9 @@ use yq_semantics::{ExprError, Refusal};
 fn int(alloc: Global, number: i64) -> Result<Value, AllocError>
     ensures { IfOk result (λ v. value_node v ≡ scalar None Int (signed_decimal number)) }
 {
-    let text = number.to_string(alloc)?;
-    Ok(Value::Scalar(Scalar::of_kind(Kind::Int, text)))
+    let mut digits = Buffer::new();
+    let scalar = Scalar::new(alloc, Kind::Int, digits.format(number))?;
+    Ok(Value::Scalar(scalar))
 }
 
 /// The sum of two ints.
