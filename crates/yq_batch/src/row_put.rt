@@ -3,19 +3,21 @@ ghost use Rattle.std.specs.Prelude.{◌≡◌, ◌+◌, ◌≤◌, length, true,
 ghost use Rattle.yq_text.specs.Limit.{text_limit};
 ghost use Rattle.yq_core.specs.Values.{value_node};
 ghost use Rattle.yq_documents.{specs.Located.steps_of, specs.Reading.cut_of};
+ghost use Rattle.yq_lookup.specs.PathLines.{IsLineOf};
 ghost use Rattle.yq_places.{specs.NodesAt.node_in, specs.StandingViews.IsHeldRow};
 ghost use Rattle.yq_semantics.specs.Operations.{head_comment, line_comment, replace};
 ghost use Rattle.yq_edit_rules.specs.Operands.{HasOperand};
 ghost use Rattle.yq_batch.specs.Under.{op_meant};
 ghost use Rattle.yq_batch.specs.RowRuns as spec;
 
-use crate::under::{OpAt, go_to};
+use crate::under::OpAt;
 use std::alloc::{AllocError, Global};
 use yq_block_edits::{comment_written, head_comment_written, is_kept_in_row};
 use yq_core::{Place, Value};
 use yq_documents::Path;
 use yq_edit_rules::{is_filled, value_text};
 use yq_lookup::CutText;
+use yq_outline::Position;
 use yq_places::{HeldRow, is_text, line_end};
 use yq_semantics::Op;
 use yq_text::Halves;
@@ -125,20 +127,22 @@ fn comment_in_row(
     }))
 }
 
-/// A head comment in the place of another one, or of none, above a row.
+/// A head comment in the place of another one, or of none, above a row. The line of its item or entry may be known.
 fn comment_above_row(
     alloc: Global,
     cut: &CutText<'_, '_>,
     path: &Path,
+    line: Option<Position>,
     text: &str,
 ) -> Result<Option<RowPut>, AllocError>
+    requires line { IfSome line (IsLineOf path.now (cut_of cut.now)) }
     requires operand { HasOperand (head_comment path.now.doc (steps_of path.now) text.now) }
     ensures { IfOk result (λ o. IfSome o (spec.PutsAbove path.now text.now cut.now)) }
 {
-    let Some(at) = cut.row_line(path) else {
+    let Some(at) = cut.line_from(path, line) else {
         return Ok(None);
     };
-    let Some((column, above)) = cut.lines_above(path) else {
+    let Some((column, above)) = cut.lines_above_from(path, Some(at)) else {
         return Ok(None);
     };
     let _text = cut.text();
@@ -179,8 +183,8 @@ pub(crate) fn row_put<'d>(
             None => Ok(None),
         },
         Op::HeadComment(_, text) => {
-            go_to(alloc, cut, at);
-            comment_above_row(alloc, cut, path, text)
+            let line = cut.go_along(alloc, path);
+            comment_above_row(alloc, cut, path, line, text)
         }
         Op::Append(_, _, _) | Op::Remove(_) => Ok(None),
     }

@@ -31,10 +31,12 @@ fn push_line(out: &mut String, column: usize, br: &str, text: &str) -> Result<()
 fn head_lines(alloc: Global, column: usize, br: &str, text: &str) -> Result<String, AllocError>
     ensures { GivesText result (spec.head_lines column br.now (head_comment_lines text.now)) }
 {
-    let mut out = String::new(alloc);
     if text.is_empty() {
-        return Ok(out);
+        return Ok(String::new(alloc));
     }
+    // Room for one line: with a `#`, a space and a break.
+    let size = column.saturating_add(text.len()).saturating_add(4);
+    let mut out = String::with_capacity(alloc, size)?;
     let mut rest = text;
     'lines: while let Some((line, after)) = rest.split_once('\n') {
         push_line(&mut out, column, br, line)?;

@@ -84,8 +84,8 @@ pub(crate) fn has_room(
     ensures same { cut.new ≡ cut.old }
     ensures room { result ≡ (room_of cut.old path.now.doc).has comment (steps_of path.now) }
 {
-    cut.go_along(alloc, path);
-    cut.has_room(path, part(comment))
+    let line = cut.go_along(alloc, path);
+    cut.has_room_from(path, line, part(comment))
 }
 
 /// The text of a comment that is set at a place.

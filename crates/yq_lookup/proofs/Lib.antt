@@ -5,3 +5,4 @@ mod RowItems
 pub mod RowParts
 mod RowFrontLaws
 mod RowNodes
+pub mod PathLineLaws

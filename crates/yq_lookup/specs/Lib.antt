@@ -1,4 +1,5 @@
 pub mod Knowledge
 pub mod KnownDocuments
 pub mod PartNodes
+pub mod PathLines
 pub mod RowFronts

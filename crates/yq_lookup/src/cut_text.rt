@@ -9,7 +9,7 @@ ghost use Rattle.yq_row_walk.specs.Walk.{IsKnownLine, IsLineAbove};
 ghost use Rattle.yq_lookup.{specs.Knowledge.{AreKnownInRows, IsKnowledge, IsWay}, specs.KnownDocuments.AreKnownDocuments};
 
 use crate::knowledge::{Knowledge, StepSearches};
-use crate::known_document::{KnownDocuments, find_document};
+use crate::known_document::{KnownDocuments, find_document, is_last};
 use crate::line_above::LineAbove;
 use std::alloc::Global;
 use std::marker::Model;
@@ -156,11 +156,11 @@ impl<'d, 't> CutText<'d, 't> {
         self.documents = documents;
     }
 
-    /// The documents that are known once document `doc` was looked for, if its rows aren't known already.
+    /// The documents that are known once document `doc` was looked for, if that isn't known already.
     fn documents_to(&self, doc: usize) -> KnownDocuments
         ensures { AreKnownDocuments (rows_view (cut_of self.now)).bounds result }
     {
-        if self.rows_known(doc).is_some() {
+        if self.rows_known(doc).is_some() || is_last(self.documents, doc) {
             return self.documents;
         }
         find_document(self.rows, self.documents, doc)

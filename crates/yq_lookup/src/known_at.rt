@@ -1,11 +1,11 @@
 //! The items on the way of a path from which later walks may go on, and the row of its key or dash.
-ghost use Rattle.std.specs.Prelude.{◌≡◌, IfSome};
+ghost use Rattle.std.specs.Prelude.{◌≡◌, IfSome, option_map};
 ghost use Rattle.yq_row_table.specs.View.{rows_view};
 ghost use Rattle.yq_documents.{specs.Located.steps_of, specs.Reading.cut_of};
 ghost use Rattle.yq_outline.specs.RowWalk.{AreKnown};
 ghost use Rattle.yq_places.specs.RowWalk.{StayKnown};
 ghost use Rattle.yq_row_walk.specs.Walk.{IsKnownLine, IsLineAbove};
-ghost use Rattle.yq_lookup.{specs.Knowledge.{KnowledgeStays, SearchesStay}, specs.KnownDocuments.DocumentsStay};
+ghost use Rattle.yq_lookup.{specs.Knowledge.{KnowledgeStays, SearchesStay}, specs.KnownDocuments.DocumentsStay, specs.PathLines.IsLineOf};
 ghost use Rattle.yq_places.specs.StandingViews as row_agrees;
 
 use crate::cut_text::CutText;
@@ -13,9 +13,20 @@ use crate::knowledge::{Knowledge, StepSearches, searches_in_front};
 use crate::known_document::{KnownDocuments, document_in_front};
 use std::alloc::Global;
 use yq_documents::Path;
-use yq_outline::KnownItem;
+use yq_outline::{KnownItem, Position};
 use yq_places::{HeldRow, Way, keep_in_front, known_along, known_end, put_item, row_of_last};
 use yq_row_walk::{KnownLine, Walk};
+
+/// Where a line is, if it is known.
+#[inline(always)]
+fn position_of(line: Option<KnownLine<'_>>) -> Option<Position>
+    ensures { result ≡ option_map (λ k. k.at) line.entry }
+{
+    match line {
+        Some(line) => Some(line.at),
+        None => None,
+    }
+}
 
 impl<'d, 't> CutText<'d, 't> {
     /// Puts the items on the way of a path in the place of the items that are known, and reports what is on its way.
@@ -25,6 +36,7 @@ impl<'d, 't> CutText<'d, 't> {
         ensures known { AreKnown (rows_view (cut_of self.now)).rows known.new.items }
         ensures line { IfSome result.line (IsKnownLine (rows_view (cut_of self.now))) }
         ensures above { IfSome result.above (IsLineAbove (rows_view (cut_of self.now))) }
+        ensures at { IfSome result.line (λ k. IsLineOf path.now (cut_of self.now) k.at) }
     {
         match self.walk(path.doc) {
             Some(walk) => known_along(&walk, known, &path.steps),
@@ -56,16 +68,18 @@ impl<'d, 't> CutText<'d, 't> {
     }
 
     /// From now on the document of a path is known, and of each collection on its way the item or entry:
-    /// walks along the path go on from there.
+    /// walks along the path go on from there. Reports the line of the item or entry at the path.
     #[inline(always)]
-    pub fn go_along(&mut self, alloc: Global, path: &Path)
-        ensures { self.new ≡ self.old }
+    pub fn go_along(&mut self, alloc: Global, path: &Path) -> Option<Position>
+        ensures same { self.new ≡ self.old }
+        ensures line { IfSome result (IsLineOf path.now (cut_of self.old)) }
     {
         self.to_document(path.doc);
         let mut known = self.take_items(alloc);
         let way = self.way_along(&mut known, path);
         self.put_items(known, Way::none());
         self.keep_above(alloc, way.above);
+        position_of(way.line)
     }
 
     /// The same, and the line to which the path leads is known as well, with that above it.

@@ -36,6 +36,15 @@ impl KnownDocuments {
     }
 }
 
+/// Whether document `doc` is the last one that is known.
+#[inline(always)]
+pub(crate) fn is_last(known: KnownDocuments, doc: usize) -> bool {
+    match known.last {
+        Some(last) => last.doc == doc,
+        None => false,
+    }
+}
+
 /// Of documents that are known the last one that isn't after document `doc`, and the one before it.
 fn known_upto(known: KnownDocuments, doc: usize) -> KnownDocuments
     ensures order { IfSome result.last (λ k. k.doc ≤ doc) }

@@ -27,6 +27,14 @@ fn is_at(line: Option<Position>, at: Position) -> bool {
     }
 }
 
+/// Whether as many steps lead to a line as to the one that is kept.
+fn is_as_deep(kept: &Option<LineAbove>, line: KnownLine<'_>) -> bool {
+    match kept {
+        Some(there) => there.steps.len() == line.steps.len(),
+        None => false,
+    }
+}
+
 impl LineAbove {
     /// A line with its own steps.
     fn of(alloc: Global, line: KnownLine<'_>) -> Result<LineAbove, AllocError>
@@ -82,7 +90,7 @@ impl CutText<'_, '_> {
     }
 
     /// From now on walks go on from the line to which the steps before the last one of a path lead, if those of
-    /// the path before it led there too.
+    /// the path before it led there too, or the line that is kept is as deep.
     pub(crate) fn keep_above(&mut self, alloc: Global, above: Option<KnownLine<'_>>)
         requires { IfSome above (IsLineAbove (rows_view (cut_of self.old))) }
         ensures { self.new ≡ self.old }
@@ -90,7 +98,7 @@ impl CutText<'_, '_> {
         let Some(line) = above else {
             return;
         };
-        if !is_at(self.parent, line.at) {
+        if !is_at(self.parent, line.at) && !is_as_deep(&self.above, line) {
             self.parent = Some(line.at);
             return;
         }

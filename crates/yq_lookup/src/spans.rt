@@ -1,9 +1,10 @@
 //! Where entries, contents and comments are; the first break of a text; and where it has room for comments.
-ghost use Rattle.std.specs.Prelude.{◌≡◌, ◌<◌, length, option_map, slice_get, Some};
+ghost use Rattle.std.specs.Prelude.{◌≡◌, ◌<◌, length, option_map, slice_get, IfSome, Some};
 ghost use Rattle.yq_outline.specs.Extents.{lines_before_mark};
 ghost use Rattle.yq_row_table.{specs.Rows.cut_text, specs.View.Slices};
 ghost use Rattle.yq_documents.{specs.Pieces.{piece_span, span}, specs.Reading.cut_of};
 ghost use Rattle.yq_places.specs.PathPieces.{path_piece};
+ghost use Rattle.yq_lookup.specs.PathLines.{IsLineOf};
 ghost use Rattle.yq_documents.specs.LinesInRows as lines;
 ghost use Rattle.yq_documents.specs.declared.path.Part.TheVariants as parts;
 ghost use Rattle.yq_places.specs.EntryReading as spec;
@@ -81,7 +82,15 @@ impl<'t> CutText<'_, 't> {
     pub fn has_room(&self, path: &Path, part: Part) -> bool
         ensures { result ≡ lines.has_room path.now part self.now }
     {
-        let Some(at) = self.row_line(path) else {
+        self.has_room_from(path, None, part)
+    }
+
+    /// The same, where the line of the entry or item may be known.
+    pub fn has_room_from(&self, path: &Path, line: Option<Position>, part: Part) -> bool
+        requires { IfSome line (IsLineOf path.now (cut_of self.now)) }
+        ensures { result ≡ lines.has_room path.now part self.now }
+    {
+        let Some(at) = self.line_from(path, line) else {
             return false;
         };
         line_has_room(self.rows(), at, part)

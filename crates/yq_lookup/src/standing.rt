@@ -1,6 +1,7 @@
 //! What is in a text where paths lead, outside flow collections: at items, entries and roots, with the lines above them.
-ghost use Rattle.std.specs.Prelude.{◌≡◌, [], option_map};
+ghost use Rattle.std.specs.Prelude.{◌≡◌, [], IfSome, option_map};
 ghost use Rattle.yq_documents.{specs.Located.steps_of, specs.Reading.cut_of};
+ghost use Rattle.yq_lookup.specs.PathLines.{IsLineOf};
 ghost use Rattle.yq_places.specs.CommentPlaces as comments;
 ghost use Rattle.yq_places.specs.RootReading as roots;
 ghost use Rattle.yq_places.specs.StandingReading as reading;
@@ -10,6 +11,7 @@ ghost use Rattle.yq_places.specs.StandingViews as row_agrees;
 use crate::cut_text::CutText;
 use crate::known_document::part_from;
 use yq_documents::{Path, rows_to};
+use yq_outline::Position;
 use yq_places::{
     Held, RowsOfEntry, Standing, TextPiece, above, entry_along, entry_standing, held_in,
     rows_standing,
@@ -104,8 +106,21 @@ impl<'t> CutText<'_, 't> {
         ensures { option_map (λ x. (x.0, row_agrees.piece_view x.1)) result ≡
             comments.lines_above path.now.doc (steps_of path.now) (cut_of self.now) }
     {
+        self.lines_above_from(path, None)
+    }
+
+    /// The same, where the line of the entry or item may be known.
+    pub fn lines_above_from(
+        &self,
+        path: &Path,
+        line: Option<Position>,
+    ) -> Option<(usize, TextPiece<'t>)>
+        requires { IfSome line (IsLineOf path.now (cut_of self.now)) }
+        ensures { option_map (λ x. (x.0, row_agrees.piece_view x.1)) result ≡
+            comments.lines_above path.now.doc (steps_of path.now) (cut_of self.now) }
+    {
         let whole = self.whole();
-        let at = self.row_line(path)?;
+        let at = self.line_from(path, line)?;
         if at.line != 0 {
             return None;
         }

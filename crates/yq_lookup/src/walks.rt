@@ -1,7 +1,7 @@
 //! The rows of documents among those of a text, with what is known of them, lines of them at paths, and how deep their collections are.
 ghost use Rattle.std.specs.Prelude.{◌≡◌, if◌then◌else◌, IfSome, option_map};
 ghost use Rattle.yq_documents.{specs.LinesInRows.{document_row, row_line_at}, specs.Reading.cut_of};
-ghost use Rattle.yq_lookup.specs.Knowledge.{AreSearches};
+ghost use Rattle.yq_lookup.{specs.Knowledge.AreSearches, specs.PathLines.IsLineOf};
 ghost use Rattle.yq_outline.specs.RowWalk.{stretch_view};
 ghost use Rattle.yq_places.{specs.RowLineReading.position_in, specs.Steps.document_steps};
 ghost use Rattle.yq_row_table.specs.View.{rows_view};
@@ -58,6 +58,19 @@ impl<'t> CutText<'_, 't> {
     {
         let walk = self.walk(path.doc)?;
         line_at(&walk, &path.steps)
+    }
+
+    /// The same, where the line may be known.
+    pub fn line_from(&self, path: &Path, known: Option<Position>) -> Option<Position>
+        requires { IfSome known (IsLineOf path.now (cut_of self.now)) }
+        ensures { result ≡
+            option_map (position_in (document_row path.now.doc (cut_of self.now)))
+            (row_line_at path.now (cut_of self.now)) }
+    {
+        match known {
+            Some(at) => Some(at),
+            None => self.row_line(path),
+        }
     }
 
     /// By how many columns the sequences, or mappings, of document `doc`, counted from 0, are deeper than

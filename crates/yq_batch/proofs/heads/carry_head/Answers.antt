@@ -7,7 +7,7 @@ use Rattle.yq_batch.proofs.heads.carry_head.Goals as goal
 pub put_in_found-requires-clause-run : goal.put_in_found-requires-clause-run
 put_in_found-requires-clause-run c =
     let t : List ℕ = c.args.cut.now in
-    let along : c.go_along.new.self ≡ t = c.go_along.ensures in
+    let along : c.go_along.new.self ≡ t = c.go_along.ensures.same in
     let same : c.row_at.new.cut ≡ t = c.row_at.ensures.same ∙ along in
     let read = subst (λ (u : List ℕ). read_at u ≡ Some (cut_of u)) same c.text-text.ensures.read in
     let steps : List Step = map tree_step c.in-Some.found.stem.now in
@@ -24,7 +24,7 @@ put_in_found-requires-clause-head c =
 pub returns-clause-ok : goal.returns-clause-ok
 returns-clause-ok c =
     let t : List ℕ = c.args.cut.now in
-    let along : c.go_along.new.self ≡ t = c.go_along.ensures in
+    let along : c.go_along.new.self ≡ t = c.go_along.ensures.same in
     let same : c.row_at.new.cut ≡ t = c.row_at.ensures.same ∙ along in
     let read = subst (λ (u : List ℕ). read_at u ≡ Some (cut_of u)) same c.text-text.ensures.read in
     let steps : List Step = map tree_step c.in-Some.found.stem.now in

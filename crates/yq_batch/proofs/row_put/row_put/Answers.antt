@@ -1,5 +1,6 @@
-use Rattle.std.proofs.Common.{ℕ, List, sym, subst}
+use Rattle.std.{proofs.Common.{ℕ, List, sym, subst}, specs.Prelude.IfSome}
 use Rattle.yq_documents.{specs.Located.steps_of, specs.Reading.cut_of}
+use Rattle.yq_lookup.specs.PathLines.{IsLineOf}
 use Rattle.yq_places.specs.StandingViews.{IsHeldRow}
 use Rattle.yq_batch.proofs.row_put.row_put.Goals as goal
 
@@ -11,3 +12,8 @@ pub comment_in_row-requires-clause-row : goal.comment_in_row-requires-clause-row
 comment_in_row-requires-clause-row c =
     let at = c.in-Some-to_held_row in
     subst (λ (u : List ℕ). IsHeldRow c.args.at.path.now.doc (steps_of c.args.at.path.now) (cut_of u) at.row) (sym at.ensures.same) at.ensures.row
+
+pub comment_above_row-requires-clause-line : goal.comment_above_row-requires-clause-line
+comment_above_row-requires-clause-line c =
+    let at = c.go_along-line in
+    subst (λ (u : List ℕ). IfSome at.result (IsLineOf c.args.at.path.now (cut_of u))) (sym at.ensures.same) at.ensures.line

@@ -20,4 +20,4 @@ returns c =
     c.lines.invariant.1 c.in_ok-push_line-2.ensures (some_left _ _ c.is_empty.ensures c.if-is_empty.false)
 
 pub lines-init : goal.lines-init
-lines-init c = (search rules, ap (λ (x : List ℕ). x ++ spec.head_lines c.args.column c.args.br.now (split_lines c.args.text.now)) c.new-out.ensures.bytes)
+lines-init c = (search rules, ap (λ (x : List ℕ). x ++ spec.head_lines c.args.column c.args.br.now (split_lines c.args.text.now)) c.in_ok-out.ensures.bytes)

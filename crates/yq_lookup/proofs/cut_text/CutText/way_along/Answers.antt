@@ -1,4 +1,6 @@
-use Rattle.yq_lookup.proofs.CutRows.{above_agrees, items_agree, items_known, line_agrees}
+use Rattle.std.proofs.Common.{map, ap}
+use Rattle.yq_core.specs.Entries.{tree_step}
+use Rattle.yq_lookup.{proofs.CutRows.{above_agrees, items_agree, items_known, line_agrees}, proofs.PathLineLaws.line_is_of}
 use Rattle.yq_lookup.proofs.cut_text.CutText.way_along.Goals as goal
 
 pub known_along-requires-clause-known : goal.known_along-requires-clause-known
@@ -12,3 +14,7 @@ returns-in-Some-clause-line c = line_agrees c.args.self.now c.in-Some.walk.rows.
 
 pub returns-in-Some-clause-above : goal.returns-in-Some-clause-above
 returns-in-Some-clause-above c = above_agrees c.args.self.now c.in-Some.walk.rows.now c.known_along.result.above c.in-Some.ensures.cut.rows c.known_along.ensures.above
+
+pub returns-in-Some-clause-at : goal.returns-in-Some-clause-at
+returns-in-Some-clause-at c =
+    line_is_of c.args.self.now c.args.path.now c.in-Some.walk (map tree_step c.deref.result.now) c.known_along.result.line c.in-Some.ensures.cut c.in-Some.ensures.place (ap (map tree_step) c.deref.ensures.value) c.known_along.ensures.at

@@ -5,7 +5,7 @@ use Rattle.yq_places.{proofs.CommentEndLaws.{no_lines_above, other_lines_above, 
 use Rattle.yq_documents.{specs.Located.steps_of, specs.Reading.cut_of, specs.LinesInRows.{document_row, row_line_at}}
 use Rattle.yq_row_table.specs.View.{Slices}
 use Rattle.yq_places.specs.CommentPlaces as spec
-use Rattle.yq_lookup.proofs.cut_text.CutText.lines_above.Goals as goal
+use Rattle.yq_lookup.proofs.cut_text.CutText.lines_above_from.Goals as goal
 
 pub returns-in_err-at : goal.returns-in_err-at
 returns-in_err-at c = ap (option_map (λ x. (x.0, piece_view x.1))) c.from_residual.ensures ∙ no_lines_above c.args.path.now (cut_of c.args.self.now) (document_row c.args.path.now.doc (cut_of c.args.self.now)) c.in_err-at.ensures

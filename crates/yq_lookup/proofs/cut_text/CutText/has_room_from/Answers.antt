@@ -1,6 +1,6 @@
 use Rattle.yq_text.proofs.PlaceInList.{get_some}
 use Rattle.yq_places.proofs.RowLineSpans.{room_agrees, row_within}
-use Rattle.yq_lookup.proofs.cut_text.CutText.has_room.Goals as goal
+use Rattle.yq_lookup.proofs.cut_text.CutText.has_room_from.Goals as goal
 
 pub line_has_room-requires : goal.line_has_room-requires
 line_has_room-requires c = row_within c.args.self.now c.rows.result.now c.args.path.now c.in-Some.at c.rows.ensures c.in-Some.ensures
