@@ -1,7 +1,9 @@
 -- Reading (own; a reader may skip it): documents whose parts are known, from which a search for later ones goes on.
 use Rattle.std.specs.Prelude.{◌≡◌, ℕ, ◌+◌, ◌||◌, Bool, not, IfSome, List, drop, Option, Some}
 use Rattle.yq_row_table.{specs.Rows.Cut, specs.Touched.TouchesOnly, specs.View.{Bound, rows_view}}
-use Rattle.yq_documents.specs.PartReading.{first_rows, number_in, some_begin}
+use Rattle.yq_documents.{specs.PartReading.{first_rows, number_in, some_begin}, specs.Reading.cut_of}
+use Rattle.yq_outline.{specs.RowWalk.stretch_view, specs.declared.line_position.Stretch.Stretch}
+use Rattle.yq_places.specs.RowWalk.{document_row_range}
 use Rattle.yq_lookup.specs.declared.known_document.KnownDocument.{KnownDocument}
 use Rattle.yq_lookup.specs.declared.known_document.KnownDocuments.{KnownDocuments}
 
@@ -28,3 +30,11 @@ DocumentStays front c k = (new : Cut) (back : ℕ) → TouchesOnly front back c 
 -- The same of several documents.
 abbrev pub DocumentsStay : ℕ → Cut → KnownDocuments → Type 0
 DocumentsStay front c ks = (new : Cut) (back : ℕ) → TouchesOnly front back c new → AreKnownDocuments (rows_view new).bounds ks
+
+-- The rows of a document of a text are these, if one is known.
+abbrev pub HasDocumentRows : Option (ℕ × Stretch) → List ℕ → Type 0
+HasDocumentRows o t = IfSome o (λ x. Some (stretch_view x.1) ≡ document_row_range x.0 (cut_of t))
+
+-- The documents, with the rows of the last one.
+abbrev pub KnowDocuments : List Bound → KnownDocuments → Option (ℕ × Stretch) → List ℕ → Type 0
+KnowDocuments bs ks o t = AreKnownDocuments bs ks × HasDocumentRows o t

@@ -6,7 +6,8 @@ ghost use Rattle.yq_documents.specs.Reading.{all_documents, cut_of, read_at};
 ghost use Rattle.yq_outline.specs.RowWalk.{AreKnown, stretch_view};
 ghost use Rattle.yq_places.specs.RowWalk.{HasCut, document_row_range};
 ghost use Rattle.yq_row_walk.specs.Walk.{IsKnownLine, IsLineAbove};
-ghost use Rattle.yq_lookup.{specs.Knowledge.{AreKnownInRows, IsKnowledge, IsWay}, specs.KnownDocuments.AreKnownDocuments};
+ghost use Rattle.yq_lookup.specs.Knowledge.{AreKnownInRows, IsKnowledge, IsWay};
+ghost use Rattle.yq_lookup.specs.KnownDocuments.{AreKnownDocuments, HasDocumentRows, KnowDocuments};
 
 use crate::knowledge::{Knowledge, StepSearches};
 use crate::known_document::{KnownDocuments, find_document, is_last};
@@ -35,6 +36,8 @@ pub struct CutText<'d, 't> {
     /// Where the line above the last path is.
     pub(crate) parent: Option<Position>,
     pub(crate) documents: KnownDocuments,
+    /// The rows of the document that was looked for last, with its number.
+    pub(crate) document: Option<(usize, Stretch)>,
     pub(crate) steps: StepSearches,
 }
 
@@ -45,7 +48,7 @@ impl<'d, 't> Model for CutText<'d, 't> {
 
     ghost invariant = { λ c. HasCut (whole c.text) c.rows.now ×
         AreKnownInRows c.rows.now c.known c.way c.above c.steps ×
-        AreKnownDocuments c.rows.now.bounds c.documents ×
+        KnowDocuments c.rows.now.bounds c.documents c.document (whole c.text) ×
         IfSome c.source (λ d. d.now ≡ whole c.text) };
 }
 
@@ -63,6 +66,7 @@ impl<'d, 't> CutText<'d, 't> {
             above: None,
             parent: None,
             documents: KnownDocuments::none(),
+            document: None,
             steps: StepSearches::none(),
         }
     }
@@ -81,6 +85,7 @@ impl<'d, 't> CutText<'d, 't> {
             above: None,
             parent: None,
             documents: KnownDocuments::none(),
+            document: None,
             steps: StepSearches::none(),
         }
     }
@@ -106,6 +111,7 @@ impl<'d, 't> CutText<'d, 't> {
             above: None,
             parent: None,
             documents,
+            document: None,
             steps,
         }
     }
@@ -123,6 +129,7 @@ impl<'d, 't> CutText<'d, 't> {
             above: None,
             parent: None,
             documents: self.documents,
+            document: self.document,
             steps: self.steps,
         }
     }
@@ -148,12 +155,25 @@ impl<'d, 't> CutText<'d, 't> {
         self.way = way;
     }
 
-    /// From now on document `doc` is known, if there is one, and the last one before it.
+    /// From now on document `doc` is known, if there is one, with its rows, and the last one before it.
     pub(crate) fn to_document(&mut self, doc: usize)
         ensures { self.new ≡ self.old }
     {
+        if self.rows_of_last(doc).is_some() {
+            return;
+        }
         let documents = self.documents_to(doc);
         self.documents = documents;
+        let document = self.numbered_rows(doc);
+        self.document = document;
+    }
+
+    /// The rows of document `doc`, if there is one, with its number.
+    fn numbered_rows(&self, doc: usize) -> Option<(usize, Stretch)>
+        ensures { HasDocumentRows result self.now }
+    {
+        let rows = self.stretch(doc)?;
+        Some((doc, rows))
     }
 
     /// The documents that are known once document `doc` was looked for, if that isn't known already.
@@ -224,17 +244,33 @@ impl<'d, 't> CutText<'d, 't> {
         self.source
     }
 
-    /// The rows of document `doc`, if the documents are there.
+    /// The rows of document `doc`, if they are known.
     pub(crate) fn rows_known(&self, doc: usize) -> Option<Stretch>
         ensures { IfSome result (λ d. Some (stretch_view d) ≡
             document_row_range doc (cut_of self.now)) }
     {
+        if let Some(rows) = self.rows_of_last(doc) {
+            return Some(rows);
+        }
         let documents = self.source()?;
         if doc >= documents.count() {
             return None;
         }
         let (_, stretch) = documents.document_rows(doc);
         Some(stretch)
+    }
+
+    /// The rows of document `doc`, if it was looked for last.
+    #[inline(always)]
+    fn rows_of_last(&self, doc: usize) -> Option<Stretch>
+        ensures { IfSome result (λ d. Some (stretch_view d) ≡
+            document_row_range doc (cut_of self.now)) }
+    {
+        let (last, rows) = self.document?;
+        if last != doc {
+            return None;
+        }
+        Some(rows)
     }
 
     /// The documents that are known.

@@ -135,6 +135,12 @@ pub(crate) fn part_from(rows: &Rows<'_>, known: KnownDocuments, doc: usize) -> O
     ensures value { (c : Cut) → rows.now ≡ rows_view c → result ≡ numbers.document_part doc c }
     ensures within { IfSome result (λ k. k < length rows.now.bounds) }
 {
+    if let Some(last) = known.last
+        && last.doc == doc
+        && last.part < rows.parts()
+    {
+        return Some(last.part);
+    }
     let found = find_document(rows, known, doc).last?;
     Some(found.part)
 }

@@ -19,7 +19,7 @@ use yq_row_walk::{Walk, line_at};
 impl<'t> CutText<'_, 't> {
     /// Where the rows of document `doc`, counted from 0, begin and end, if there is one.
     #[inline(always)]
-    fn stretch(&self, doc: usize) -> Option<Stretch>
+    pub(crate) fn stretch(&self, doc: usize) -> Option<Stretch>
         ensures { option_map stretch_view result ≡ spec.document_row_range doc (cut_of self.now) }
     {
         let rows = self.rows();
