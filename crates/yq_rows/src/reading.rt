@@ -71,7 +71,7 @@ pub(crate) fn may_stand(limit: Limit, column: usize, text: &[u8]) -> bool
 /// Where the row in front is, whose gap is read already, what it asks of the next one, what follows, and
 /// whether it is a word row for sure.
 #[tactic(auto, unfolding(yq_row_table::specs::Reading::row_at))]
-#[inline]
+#[inline(always)]
 fn read_row<'t>(
     keys: &mut Keys<'t>,
     whole: &'t str,
