@@ -3,7 +3,7 @@ use Rattle.std.specs.Prelude.{ℕ, suc, ◌+◌, Bool, true, false, ◌||◌, �
 use Rattle.std.specs.Prelude.{if◌then◌else◌, ℤ}
 use Rattle.yq_core.{specs.Answers.◌>>=◌, specs.Piece.deeper, specs.Text.{upto, cut, front, unless, no_white}}
 use Rattle.yq_core.{specs.declared.style.Style.Style, specs.Nodes.{begins_with, in_name}}
-use Rattle.yq_core.specs.Places.{Placed, placed, nothing, name, text, sequence, mapping, bare_in, CoreNode as Placement}
+use Rattle.yq_core.specs.Places.{Placed, placed, nothing, name, text, sequence, mapping, bare_in, CoreNode as PlacedNode}
 use Rattle.yq_row_table.specs.Grammar.{Limit, unlimited, limit_after, is_entry, is_plain_content, may_be_alone}
 use Rattle.yq_row_table.specs.Reading.{Marks, block_content_at, inline_content_at, read_content, row_at}
 use Rattle.yq_row_table.specs.Rows.{RowMark, Content, Nothing, Inline, Block, Row, dashes_text, behind_columns, parent_of, Part, Cut}
@@ -149,7 +149,7 @@ is_plain_style styles.Literal = false
 is_plain_style styles.Folded = false
 
 -- a plain scalar (own)
-abbrev pub plain_in : Placement → Bool
+abbrev pub plain_in : PlacedNode → Bool
 plain_in nothing = false
 plain_in (name n) = false
 plain_in (text s p) = is_plain_style p.style
