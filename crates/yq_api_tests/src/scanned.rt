@@ -10,7 +10,7 @@ use yq_splice::Session;
 
 /// Texts of several documents, or of a marker alone, updates whose first byte comes right after the line of
 /// a marker, and how many lines these count at most.
-static BEHIND_MARKERS: [(&str, &str, u64); 6] = [
+static AFTER_MARKERS: [(&str, &str, u64); 6] = [
     ("---\n", ". = []", 1),
     ("---", ". = []", 2),
     ("# a\n---\n# b\n", ". = 1", 2),
@@ -155,8 +155,8 @@ fn are_rows_counted(alloc: Global) -> bool {
 }
 
 #[test]
-fn lines_behind_markers(rt: HostRuntime) {
-    'updates: for (text, expr, most) in &BEHIND_MARKERS {
+fn lines_after_markers(rt: HostRuntime) {
+    'updates: for (text, expr, most) in &AFTER_MARKERS {
         assert!(rt; is_within(rt.alloc(), *text, *expr, *most), "{expr}");
     }
     assert!(rt; is_gap_passed(rt.alloc()));

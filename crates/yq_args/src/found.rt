@@ -17,7 +17,7 @@ pub struct Found<'w> {
     /// The line on an option that takes a value, where no word comes after it, or an option.
     pub lacking: Option<&'static str>,
     /// Whether the first of the words that are no options comes after `--`.
-    pub is_behind: bool,
+    pub comes_later: bool,
 }
 
 /// Whether a word begins with `-`, and is more than that.
@@ -32,7 +32,7 @@ pub fn find<'w>(command: &str, words: &[&'w str]) -> Found<'w> {
         names: [""; KEPT],
         count: 0,
         lacking: None,
-        is_behind: false,
+        comes_later: false,
     };
     let mut only_names = false;
     let mut before = None;
@@ -46,7 +46,7 @@ pub fn find<'w>(command: &str, words: &[&'w str]) -> Found<'w> {
             if found.count < KEPT {
                 found.names[found.count] = word;
             }
-            found.is_behind = found.is_behind || (only_names && found.count == 0);
+            found.comes_later = found.comes_later || (only_names && found.count == 0);
             found.count = found.count.saturating_add(1);
         } else if *word == "--" {
             only_names = true;

@@ -150,9 +150,9 @@ fn sub_command<'a>(alloc: Global, word: SubCommand) -> Result<Command<'a>, Alloc
     let (name, args) = parts_of(word);
     let mut command = Command::new(alloc, name);
     let mut rest = args;
-    'arguments: while let [arg, behind @ ..] = rest {
+    'arguments: while let [arg, after @ ..] = rest {
         command = command.arg(arg_of(alloc, *arg))?;
-        rest = behind;
+        rest = after;
     }
     Ok(command)
 }
@@ -170,9 +170,9 @@ fn line<'a>(alloc: Global) -> Result<Command<'a>, AllocError>
         SubCommand::History,
         SubCommand::Squash,
     ];
-    'commands: while let [word, behind @ ..] = rest {
+    'commands: while let [word, after @ ..] = rest {
         command = command.subcommand(sub_command(alloc, *word)?)?;
-        rest = behind;
+        rest = after;
     }
     Ok(command)
 }

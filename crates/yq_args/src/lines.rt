@@ -55,11 +55,11 @@ fn line_of_words<'w>(
     found: &Found<'w>,
 ) -> UsageLine<'w> {
     let first = found.names[0];
-    if !is_named && found.is_behind && is_command_word(first) {
+    if !is_named && found.comes_later && is_command_word(first) {
         return ("no command after '--':", Some(first), " is EXPR there");
     }
     if !is_named
-        && !found.is_behind
+        && !found.comes_later
         && let Some(end) = end_of_command(first)
     {
         return ("unknown command", Some(first), end);

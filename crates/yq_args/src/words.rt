@@ -35,11 +35,11 @@ fn asks_help(words: &[&str]) -> bool
     ensures { result ≡ spec.asks_help (map (λ w. w.now) words.now) }
 {
     let mut rest = words;
-    'words: while let [word, behind @ ..] = rest {
+    'words: while let [word, after @ ..] = rest {
         if is_help_word(word) {
             return true;
         }
-        rest = behind;
+        rest = after;
     }
     false
 }

@@ -13,7 +13,7 @@ use Rattle.yq_edit_laws.specs.Edit.{edit_of_segments, gives, refuses}
 use Rattle.yq_batch.{specs.RemovalRuns.{IsRemovalRun, text_exchanged}, proofs.PutComes.{made_text, new_is, segments_come, segments_large}}
 
 module _ (c : Cut) (n : ℕ) (stem : List Step) (keep : ℕ) (tail : List ℕ) (run : IsRemovalRun c n stem keep tail) (g : FlowEdit) (before : List ℕ)
-    (now_is : take keep (cut_text c) ++ tail ≡ before ++ (g.old ++ g.behind)) (start finish : ℕ) (start_is : start ≡ length before)
+    (now_is : take keep (cut_text c) ++ tail ≡ before ++ (g.old ++ g.after)) (start finish : ℕ) (start_is : start ≡ length before)
     (finish_is : finish ≡ length (before ++ g.old)) (short : start ≤ keep) where
   abbrev t : List ℕ
   t = cut_text c
@@ -27,25 +27,25 @@ module _ (c : Cut) (n : ℕ) (stem : List Step) (keep : ℕ) (tail : List ℕ) (
   text : cut_text run.cut ≡ now
   text = text_read now run.cut run.read
 
-  split : cut_text run.cut ≡ before ++ (g.old ++ g.behind)
+  split : cut_text run.cut ≡ before ++ (g.old ++ g.after)
   split = text ∙ now_is
 
-  whole_split : now ≡ (before ++ g.old) ++ g.behind
-  whole_split = now_is ∙ sym (append_assoc before g.old g.behind)
+  whole_split : now ≡ (before ++ g.old) ++ g.after
+  whole_split = now_is ∙ sym (append_assoc before g.old g.after)
 
   front_is : take start now ≡ before
-  front_is = (λ i. take (start_is i) (now_is i)) ∙ take-append_seam before (g.old ++ g.behind)
+  front_is = (λ i. take (start_is i) (now_is i)) ∙ take-append_seam before (g.old ++ g.after)
 
-  left_is : drop finish now ≡ g.behind
-  left_is = (λ i. drop (finish_is i) (whole_split i)) ∙ drop-append_seam (before ++ g.old) g.behind
+  left_is : drop finish now ≡ g.after
+  left_is = (λ i. drop (finish_is i) (whole_split i)) ∙ drop-append_seam (before ++ g.old) g.after
 
   old_is : drop start (take finish now) ≡ g.old
   old_is =
-      let front : take finish now ≡ before ++ g.old = (λ i. take (finish_is i) (whole_split i)) ∙ take-append_seam (before ++ g.old) g.behind in
+      let front : take finish now ≡ before ++ g.old = (λ i. take (finish_is i) (whole_split i)) ∙ take-append_seam (before ++ g.old) g.after in
       (λ i. drop (start_is i) (front i)) ∙ drop-append_seam before g.old
 
   made_is : made_text before g ≡ text_exchanged now start finish new
-  made_is = append_assoc before new g.behind ∙ λ i. sym front_is i ++ (new ++ sym left_is i)
+  made_is = append_assoc before new g.after ∙ λ i. sym front_is i ++ (new ++ sym left_is i)
 
   -- an operation that makes this edit
   module _ (op : Operation) (comes : carried op now ≡ edit_of_segments (flow_segments (cut_text run.cut) g)) where
@@ -63,13 +63,13 @@ module _ (c : Cut) (n : ℕ) (stem : List Step) (keep : ℕ) (tail : List ℕ) (
   module _ (bounds : HasBounds (cut_text run.cut) g) where
     pub back_start : IsCharBoundary now start
     back_start =
-        subst (IsCharBoundary now) (omega (arith, start_is, ap length split, length-append before (g.old ++ g.behind)))
-        (subst (λ (l : List ℕ). IsCharBoundary l (length (cut_text run.cut) - length (g.old ++ g.behind))) text bounds.0)
+        subst (IsCharBoundary now) (omega (arith, start_is, ap length split, length-append before (g.old ++ g.after)))
+        (subst (λ (l : List ℕ). IsCharBoundary l (length (cut_text run.cut) - length (g.old ++ g.after))) text bounds.0)
 
     pub back_finish : IsCharBoundary now finish
     back_finish =
-        subst (IsCharBoundary now) (omega (arith, finish_is, ap length split, length-append before (g.old ++ g.behind), length-append g.old g.behind, length-append before g.old))
-        (subst (λ (l : List ℕ). IsCharBoundary l (length (cut_text run.cut) - length g.behind)) text bounds.1)
+        subst (IsCharBoundary now) (omega (arith, finish_is, ap length split, length-append before (g.old ++ g.after), length-append g.old g.after, length-append before g.old))
+        (subst (λ (l : List ℕ). IsCharBoundary l (length (cut_text run.cut) - length g.after)) text bounds.1)
 
   pub back_order : start ≤ finish
   back_order = omega (arith, start_is, finish_is, length-append before g.old)
@@ -88,9 +88,9 @@ module _ (c : Cut) (n : ℕ) (stem : List Step) (keep : ℕ) (tail : List ℕ) (
   kept_is : take keep t ≡ before ++ gone_first
   kept_is = sym (take-append-drop start (take keep t)) ∙ ap (λ (l : List ℕ). l ++ gone_first) (kept_front ∙ own_front)
 
-  pub gone_is : gone_first ++ tail ≡ g.old ++ g.behind
+  pub gone_is : gone_first ++ tail ≡ g.old ++ g.after
   gone_is =
-      append_cancel_left before (gone_first ++ tail) (g.old ++ g.behind)
+      append_cancel_left before (gone_first ++ tail) (g.old ++ g.after)
       (sym (append_assoc before gone_first tail) ∙ (ap (λ (l : List ℕ). l ++ tail) (sym kept_is) ∙ now_is))
 
   all_is : t ≡ before ++ (gone_first ++ drop keep t)
@@ -100,7 +100,7 @@ module _ (c : Cut) (n : ℕ) (stem : List Step) (keep : ℕ) (tail : List ℕ) (
   drop_is = (λ i. drop (start_is i) (all_is i)) ∙ drop-append_seam before (gone_first ++ drop keep t)
 
   -- the text after it
-  pub back_text : text_exchanged now start finish new ≡ take start t ++ (new ++ g.behind)
+  pub back_text : text_exchanged now start finish new ≡ take start t ++ (new ++ g.after)
   back_text = λ i. (front_is ∙ sym own_front) i ++ (new ++ left_is i)
 
   pub back_new : new_text (flow_segments (cut_text run.cut) g) ≡ text_exchanged now start finish new

@@ -3,7 +3,7 @@ use Rattle.std.proofs.Common.{◌≡◌, ◌∙◌, ℕ, List, [], Some, sym, su
 use Rattle.yq_text.specs.Splice.{Splice}
 use Rattle.yq_documents.specs.Reading.{cut_of, read_at}
 use Rattle.yq_semantics.{specs.Operations.operations_of, specs.declared.op.Op.Op}
-use Rattle.yq_edit_laws.{specs.Carried.carry_all, specs.Edit.{Edit, edit_after}, specs.Valid.AreServed, proofs.OrderLaws.behind_none}
+use Rattle.yq_edit_laws.{specs.Carried.carry_all, specs.Edit.{Edit, edit_after}, specs.Valid.AreServed, proofs.OrderLaws.following_none}
 use Rattle.yq_batch.{specs.HeadRuns.all_on, specs.Together.CarriesSome, proofs.RunAnswers.begins_with, specs.declared.run.PutRun.PutRun}
 use Rattle.yq_batch.specs.declared.together.Together.{Together}
 
@@ -19,4 +19,4 @@ carries_some left u cs all x rest text splices whole serves = record {
 pub all_begin : (t : List ℕ) (r : PutRun) (ops : List Op) → read_at t ≡ Some (cut_of t) → string_bytes r.text ≡ [] → r.done ≡ 0 → r.splices.items ≡ [] →
     all_on ops (cut_of t) r ≡ carry_all (operations_of ops) t
 all_begin t r ops read text done splices =
-    (λ i. edit_after (splices i) (carry_all (operations_of ops) (begins_with t r read text done i))) ∙ behind_none (carry_all (operations_of ops) t)
+    (λ i. edit_after (splices i) (carry_all (operations_of ops) (begins_with t r read text done i))) ∙ following_none (carry_all (operations_of ops) t)

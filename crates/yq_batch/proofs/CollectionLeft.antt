@@ -5,14 +5,14 @@ use Rattle.yq_core.{specs.Paths.{Step, is_here, further}, specs.Collections.{Col
 use Rattle.yq_core.{specs.Tree.{Node, key_label}, specs.Entries.{EntryPieces, item_at}}
 use Rattle.yq_core.specs.Nodes.{FlowNode, Key, empty, alias, scalar, coll, anchored, Items, none, item, flow_items_text, sep_text}
 use Rattle.yq_core.{specs.Trees.key_content, proofs.PathLaws.then_some}
-use Rattle.yq_flow_edits.{specs.FlowEdits.{FlowEdit, add_item, behind_last, is_none}, specs.Removals.removing}
+use Rattle.yq_flow_edits.{specs.FlowEdits.{FlowEdit, add_item, after_last, is_none}, specs.Removals.removing}
 use Rattle.yq_row_table.specs.Rows.{Cut, cut_text, Part}
 use Rattle.yq_documents.specs.Reading.{read_at}
 use Rattle.yq_outline.specs.Lines.{lines_of_rows}
 use Rattle.yq_places.{specs.FlowNodes.flow_collection, specs.FlowViews.LeadsToHead, specs.NodeReading.head_line_of}
-use Rattle.yq_places.{specs.Standings.last_step, proofs.FlowViewLaws.{head_found, numbered}}
-use Rattle.yq_edit_rules.specs.FlowRows.{FlowAt, behind_node}
-use Rattle.yq_edit_laws.{proofs.FlowRemoveLaws.next, proofs.FlowStandings.at, specs.PartPuts.more_edit}
+use Rattle.yq_places.{specs.Placements.last_step, proofs.FlowViewLaws.{head_found, numbered}}
+use Rattle.yq_edit_rules.specs.FlowRows.{FlowAt, text_after_node}
+use Rattle.yq_edit_laws.{proofs.FlowRemoveLaws.next, proofs.FlowPlacements.at, specs.PartPuts.more_edit}
 use Rattle.yq_edit_laws.proofs.FlowAppendLaws as append
 use Rattle.yq_edit_rules.proofs.FlowStayLaws as stay
 
@@ -62,9 +62,9 @@ has_some key m gap (item j n sep none) = refl
 has_some key m gap (item j n sep (item j2 n2 sep2 is)) = refl
 
 -- what comes after the first one
-pub behind_first : (k : ℕ) (g gap : List ℕ) (key : Key) (m : FlowNode) (is : Items) (rest : List ℕ) → is_none is ≡ true → behind_last k g (add_item key m gap is) rest ≡ behind_last k gap is rest
-behind_first k g gap key m none rest h = refl
-behind_first k g gap key m (item j n sep is) rest h = absurd (false≢true h)
+pub after_first : (k : ℕ) (g gap : List ℕ) (key : Key) (m : FlowNode) (is : Items) (rest : List ℕ) → is_none is ≡ true → after_last k g (add_item key m gap is) rest ≡ after_last k gap is rest
+after_first k g gap key m none rest h = refl
+after_first k g gap key m (item j n sep is) rest h = absurd (false≢true h)
 
 -- ---- in a cut
 
@@ -81,16 +81,16 @@ module _ (c : Cut) (n : ℕ) (stem left : List Step) (w : CollPieces) (read : re
       (same_Some _ _ (sym (leads left) ∙ (sym (head_found (lines_of_rows a.part.rows) (stem ++ left)) ∙ ap (option_map numbered) a.at.found)))
 
   -- with another gap and other items in its head
-  put_there : (g : List ℕ) (is : Items) → coll_along left (collection_put a.rest g is a.row.node) (behind_node c n a.part a.row) ≡ Some (with_items g is w)
+  put_there : (g : List ℕ) (is : Items) → coll_along left (collection_put a.rest g is a.row.node) (text_after_node c n a.part a.row) ≡ Some (with_items g is w)
   put_there g is =
-      ap (λ (ss : List Step). coll_along ss (collection_put a.rest g is a.row.node) (behind_node c n a.part a.row)) rest_is
-      ∙ put_along a.rest a.row.node (behind_node c n a.part a.row) w g is a.at.along
+      ap (λ (ss : List Step). coll_along ss (collection_put a.rest g is a.row.node) (text_after_node c n a.part a.row)) rest_is
+      ∙ put_along a.rest a.row.node (text_after_node c n a.part a.row) w g is a.at.along
 
   -- the collection after an item or entry was taken out
   pub left_there : (path : List Step) (s : Step) (e : FlowEdit) (last : last_step path ≡ Some (stem ++ left, s)) (gone : removing s w ≡ Some e) →
       flow_collection n (stem ++ left) (next c n path (stem ++ left) s w e read last found gone stem left refl h) ≡ Some (with_items e.gap e.items w)
-  left_there path s e last gone = stay.collection_behind c n (stem ++ left) w a e.gap e.items stem left refl h left ∙ put_there e.gap e.items
+  left_there path s e last gone = stay.collection_after c n (stem ++ left) w a e.gap e.items stem left refl h left ∙ put_there e.gap e.items
 
   -- and after one more was put into it
   pub more_there : (key : Option (List ℕ)) (v : Node) → flow_collection n (stem ++ left) (append.next c n (stem ++ left) key v w read found stem left refl h) ≡ Some (with_items (more_edit key v w).gap (more_edit key v w).items w)
-  more_there key v = stay.collection_behind c n (stem ++ left) w a (more_edit key v w).gap (more_edit key v w).items stem left refl h left ∙ put_there (more_edit key v w).gap (more_edit key v w).items
+  more_there key v = stay.collection_after c n (stem ++ left) w a (more_edit key v w).gap (more_edit key v w).items stem left refl h left ∙ put_there (more_edit key v w).gap (more_edit key v w).items

@@ -7,9 +7,9 @@ use Rattle.yq_outline.{specs.Ends.{deeper_count, line_at_steps}, specs.Group.lev
 use Rattle.yq_outline.{specs.Outline.{Line, level, flatten, IsEven, row}, specs.Places.{FoundLine, find_row, lines_before}}
 use Rattle.yq_documents.specs.Reading.{part_outline}
 use Rattle.yq_places.{specs.RemovalPlaces.{OwnRows, own_rows}, proofs.UnderCounts.count_under, proofs.UnderExchange.lines_append}
-use Rattle.yq_edit_rules.{specs.DocumentRows.IsDocumentPart, specs.LineRows.{Begins, lines_before_entry, lines_behind}}
+use Rattle.yq_edit_rules.{specs.DocumentRows.IsDocumentPart, specs.LineRows.{Begins, lines_before_entry, following_lines}}
 use Rattle.yq_edit_rules.{specs.RemovalChanges.HasOwnRows, specs.Siblings.NodeLines, proofs.ApartLaws.entries_apart}
-use Rattle.yq_edit_rules.{proofs.CollectionLaws.some_at, proofs.NodeLineLaws.lines_even, proofs.OwnRowLaws.{lines_are, own_rows_stand}}
+use Rattle.yq_edit_rules.{proofs.CollectionLaws.some_at, proofs.NodeLineLaws.lines_even, proofs.OwnRowLaws.{lines_are, own_rows_are_there}}
 use Rattle.yq_edit_rules.{proofs.PartLaws.document_known, proofs.PathLaws.path_is_entry, proofs.PlacedLaws.{entry_placed, same_parts}}
 use Rattle.yq_edit_rules.proofs.SiblingLaws.{even_right}
 use Rattle.yq_batch.proofs.OwnRowsStay.{own_stays, row_size}
@@ -28,7 +28,7 @@ module _ (t : List ℕ) (c : Cut) (k : ℕ) (p : Part) (above : List Step) (s : 
   even = (document_known t c k p old).even
 
   pub has : HasOwnRows p above s x
-  has = own_rows_stand t c k p above s x old own
+  has = own_rows_are_there t c k p above s x old own
 
   abbrev pub lines : NodeLines
   lines = has.h
@@ -47,9 +47,9 @@ module _ (t : List ℕ) (c : Cut) (k : ℕ) (p : Part) (above : List Step) (s : 
   pub whole : lines_of_rows p.rows ≡ lines_of_rows x.front ++ (found.line ∷ (flatten found.under ++ lines_of_rows x.back))
   whole = split ∙ ap (λ (ls : List Line). lines_of_rows x.front ++ (ls ++ lines_of_rows x.back)) own_lines
 
-  pub back_lines : lines_of_rows x.back ≡ lines_behind lines found
+  pub back_lines : lines_of_rows x.back ≡ following_lines lines found
   back_lines =
-      (same_parts (lines_of_rows x.front) (lines_of_rows x.own) (lines_of_rows x.back) (lines_before lines.place ++ lines_before found.place) (found.line ∷ flatten found.under) (lines_behind lines found)
+      (same_parts (lines_of_rows x.front) (lines_of_rows x.own) (lines_of_rows x.back) (lines_before lines.place ++ lines_before found.place) (found.line ∷ flatten found.under) (following_lines lines found)
       (sym split ∙ lines_are p n above s lines found even has.entry)
       (has.rows.number ∙ sym (length-append (lines_before lines.place) (lines_before found.place))) has.rows.count).2
 
@@ -99,8 +99,8 @@ module _ (t : List ℕ) (c : Cut) (k : ℕ) (p : Part) (above : List Step) (s1 s
   abbrev f : FoundLine
   f = found t c k p above s1 x old own
 
-  pub rows_behind : x.back ≡ between ++ (y.own ++ y.back)
-  rows_behind =
+  pub following_rows : x.back ≡ between ++ (y.own ++ y.back)
+  following_rows =
       let whole : x.front ++ (x.own ++ x.back) ≡ x.front ++ (x.own ++ (between ++ (y.own ++ y.back))) =
       sym (has t c k p above s1 x old own).rows.rows_are
       ∙ ((has t c k p above s2 y old other).rows.rows_are
@@ -115,7 +115,7 @@ module _ (t : List ℕ) (c : Cut) (k : ℕ) (p : Part) (above : List Step) (s1 s
       ∙ sym (level_is t c k p above s1 x old own))
 
   left_begins : Begins (level f.line) (lines_of_rows left)
-  left_begins = go between rows_behind
+  left_begins = go between following_rows
     where
       go : (m : List Row) → x.back ≡ m ++ (y.own ++ y.back) → Begins (level f.line) (lines_of_rows (m ++ with_first_gap gap y.back))
       go [] e =

@@ -16,10 +16,10 @@ use Rattle.yq_batch.{specs.declared.gone.LeftOf.LeftOf, specs.declared.removals.
 use Rattle.yq_failure.specs.declared.failure.Failure.TheVariants as failure
 
 -- the text that a gap buffer makes of it
-pub exchanged : (t front behind new made left : List ℕ) (start end : ℕ) → start ≤ end → front ≡ take start t → behind ≡ drop start t → made ≡ front ++ new → left ≡ drop (end - start) behind → made ++ left ≡ text_exchanged t start end new
-exchanged t front behind new made left start end order front_is behind_is made_is left_is =
+pub exchanged : (t front after new made left : List ℕ) (start end : ℕ) → start ≤ end → front ≡ take start t → after ≡ drop start t → made ≡ front ++ new → left ≡ drop (end - start) after → made ++ left ≡ text_exchanged t start end new
+exchanged t front after new made left start end order front_is following_is made_is left_is =
     let whole : start + (end - start) ≡ end = omega (arith, order) in
-    let rest : left ≡ drop end t = left_is ∙ (ap (drop (end - start)) behind_is ∙ (drop-drop (end - start) start t ∙ ap (λ (k : ℕ). drop k t) whole)) in
+    let rest : left ≡ drop end t = left_is ∙ (ap (drop (end - start)) following_is ∙ (drop-drop (end - start) start t ∙ ap (λ (k : ℕ). drop k t) whole)) in
     (λ i. made_is i ++ rest i) ∙ (append_assoc front new (drop end t) ∙ ap (λ (l : List ℕ). l ++ (new ++ drop end t)) front_is)
 
 -- an operation is carried out by an exchange in the text of a run, which goes on after it

@@ -4,15 +4,15 @@ use Rattle.std.{proofs.Common.{sym, ap, ◌∙◌, append-nil, arith}, proofs.le
 use Rattle.std.{proofs.lemmas.List.{drop_all, length-drop, length-take-le}, specs.Option.option_or}
 use Rattle.yq_text.{specs.Limit.text_limit, specs.Script.{Segment, new_text, splice_at}}
 use Rattle.yq_core.{specs.Answers.◌>>=◌, specs.Paths.Step, specs.Tree.Node, specs.Collections.CollPieces}
-use Rattle.yq_flow_edits.specs.FlowEdits.{FlowEdit, behind_appended}
+use Rattle.yq_flow_edits.specs.FlowEdits.{FlowEdit, after_appended}
 use Rattle.yq_row_table.specs.Rows.{Cut, cut_text}
 use Rattle.yq_documents.specs.Reading.{read_at}
 use Rattle.yq_places.specs.FlowNodes.{flow_collection}
 use Rattle.yq_semantics.{specs.Operations.append, specs.declared.refusal.Refusal.TheVariants.TooLarge}
 use Rattle.yq_edit_rules.{specs.Edits.{op_edits, or_stay}, specs.FlowParts.{flow_more, flow_segments, takes_key}, specs.Operands.HasOperand}
 use Rattle.yq_edit_laws.{specs.PartPuts.more_edit, proofs.CutLaws.text_read}
-use Rattle.yq_edit_laws.proofs.FlowAppendLaws.{appended_reads, end_behind, head_behind, next, part_behind}
-use Rattle.yq_edit_laws.{proofs.HeadStandings.no_rows_more, proofs.LaterEnds.ends_on, specs.Carried.{carried, carry_one}}
+use Rattle.yq_edit_laws.proofs.FlowAppendLaws.{appended_reads, following_end, head_after, next, following_part}
+use Rattle.yq_edit_laws.{proofs.HeadPlacements.no_rows_more, proofs.LaterEnds.ends_on, specs.Carried.{carried, carry_one}}
 use Rattle.yq_edit_laws.{specs.Edit.{by_reading, edit_of_segments, gives, refuses}, specs.Theorems.IsFitting}
 use Rattle.yq_batch.{specs.FilledRuns.IsFilledCollection, specs.Runs.{IsPutRun, text_with_run}}
 use Rattle.yq_batch.{proofs.PutComes.{made_text, new_is, segments_come, segments_large}, proofs.RunEdits.{fits_now, run_out, run_splices}}
@@ -57,8 +57,8 @@ module _ (c : Cut) (n : ℕ) (stem left : List Step) (key : Option (List ℕ)) (
       ∙ (ap (by_reading (carry_one (append n path key v))) read ∙ ap (λ (o : Option (List Segment)). edit_of_segments (or_stay run.cut o)) edits)
 
   -- it comes where the run ends
-  split : cut_text run.cut ≡ out ++ (e.old ++ e.behind)
-  split = text ∙ ap (λ (l : List ℕ). out ++ l) (sym f.behind_is)
+  split : cut_text run.cut ≡ out ++ (e.old ++ e.after)
+  split = text ∙ ap (λ (l : List ℕ). out ++ l) (sym f.following_is)
 
   lead_is : e.lead ≡ 44 ∷ (32 ∷ [])
   lead_is = ap (λ (b : Bool). cond b [] (44 ∷ (32 ∷ []))) f.some
@@ -76,7 +76,7 @@ module _ (c : Cut) (n : ℕ) (stem left : List Step) (key : Option (List ℕ)) (
   new_out = run_out t out done done new
 
   made_is : made_text out e ≡ text_with_run t new_out done
-  made_is = λ i. (sym front_is i ++ (lead_is i ++ sym is i)) ++ f.behind_is i
+  made_is = λ i. (sym front_is i ++ (lead_is i ++ sym is i)) ++ f.following_is i
 
   cs_is : splice_at (length out) e.old (e.lead ++ e.written) ≡ run_splices t out done done done new
   cs_is = λ i. splice_at (length (sym front_is i)) (sym nothing i) (lead_is i ++ sym is i)
@@ -94,25 +94,25 @@ module _ (c : Cut) (n : ℕ) (stem left : List Step) (key : Option (List ℕ)) (
       let new_bytes : new_text (flow_segments (cut_text run.cut) e) ≡ text_with_run t new_out done = new_is (cut_text run.cut) out e split ∙ made_is in
       let fit = fits_now (append n path key v) now run.cut operand fitting run.read in
       let reads = appended_reads run.cut n path key v z read f.found operand.0 operand.1 takes_now fit (omega (arith, small, ap length new_bytes)) in
-      let size : length (behind_appended z) ≡ length t - done = ap length f.behind_is ∙ length-drop done t in
-      let own = end_behind run.cut n path key v z read f.found stem left refl run.leads left z f.found (omega arith, λ none. absurd (false≢true (sym f.some ∙ none))) in (
+      let size : length (after_appended z) ≡ length t - done = ap length f.following_is ∙ length-drop done t in
+      let own = following_end run.cut n path key v z read f.found stem left refl run.leads left z f.found (omega arith, λ none. absurd (false≢true (sym f.some ∙ none))) in (
         record {
           within = run.within;
           edge = run.edge;
           cut = next run.cut n path key v z read f.found stem left refl run.leads;
           read = ap read_at (sym new_bytes) ∙ reads;
-          leads = head_behind run.cut n path key v z read f.found stem left refl run.leads;
-          stays = λ ss r y part less begins. part_behind run.cut n path key v z read f.found stem left refl run.leads ss r y (run.stays ss r y part less begins) (omega (arith, less, size)) (omega (arith, begins, size));
+          leads = head_after run.cut n path key v z read f.found stem left refl run.leads;
+          stays = λ ss r y part less begins. following_part run.cut n path key v z read f.found stem left refl run.leads ss r y (run.stays ss r y part less begins) (omega (arith, less, size)) (omega (arith, begins, size));
           ends = λ ss u at_end after.
               let d = run.ends ss u at_end after in
-              let g = end_behind run.cut n path key v z read f.found stem left refl run.leads ss d.0 d.1 (
-                omega (arith, after.0, size, ap length d.2.behind),
-                λ none. omega (arith, after.1 (sym d.2.none ∙ none), size, ap length d.2.behind),
+              let g = following_end run.cut n path key v z read f.found stem left refl run.leads ss d.0 d.1 (
+                omega (arith, after.0, size, ap length d.2.after),
+                λ none. omega (arith, after.1 (sym d.2.none ∙ none), size, ap length d.2.after),
               ) in
               (g.0, g.1, ends_on u d.0 g.0 d.2 g.2);
           row =
               let y : FlowEdit = more.e run.cut n path key v z read f.found in
               head_row_on c run.cut n path z (more.at run.cut n path key v z read f.found) y.gap y.items stem left refl run.leads run.row;
         },
-        record { coll = own.0; found = own.1; close = own.2.close ∙ f.close; some = own.2.none ∙ f.some; behind_is = own.2.behind ∙ f.behind_is },
+        record { coll = own.0; found = own.1; close = own.2.close ∙ f.close; some = own.2.none ∙ f.some; following_is = own.2.after ∙ f.following_is },
       )

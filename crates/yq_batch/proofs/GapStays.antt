@@ -5,13 +5,13 @@ use Rattle.std.proofs.lemmas.List.{append_cancel_left}
 use Rattle.yq_text.specs.Limit.{text_limit}
 use Rattle.yq_text.specs.Script.{Segment, are_kept, changes, keep, keep_before, put, put_before, merged, new_text, old_text, splice_at}
 use Rattle.yq_text.specs.Script.{splices_at}
-use Rattle.yq_core.{specs.BlockRepair.{is_outdented_comment, is_short}, specs.Lines.{behind_spaces, is_blank, is_tab, spaces}}
+use Rattle.yq_core.{specs.BlockRepair.{is_outdented_comment, is_short}, specs.Lines.{without_spaces, is_blank, is_tab, spaces}}
 use Rattle.yq_core.{specs.Paths.Step, specs.Text.{ends_line, joined, text_lines}}
 use Rattle.yq_row_table.specs.Rows.{Cut, cut_text}
 use Rattle.yq_documents.specs.Reading.{read_at}
 use Rattle.yq_places.specs.RemovalPlaces.{Removal, Seam, has_others_at, removal_place}
 use Rattle.yq_edit_rules.specs.Removing.{blank_mended, comment_mended, gap_mended, lines_mended, put_indent, rows_removed}
-use Rattle.yq_edit_rules.proofs.RemovalChangeLaws.{removal_stands}
+use Rattle.yq_edit_rules.proofs.RemovalChangeLaws.{removal_is_there}
 use Rattle.yq_edit_laws.{proofs.RemovingLaws.rows_out, specs.Edit.{edit_of_segments, exchange_edit, gives}}
 use Rattle.yq_batch.specs.RowRemovals.{AreLow, StaysAt, is_spaced}
 use Rattle.yq_text.specs.Exchanging as exchange
@@ -64,7 +64,7 @@ line_kept s n l ls keeps deep spaced low rest = go (is_blank l) spaced
     short : leb (spaces l) s.indent ≡ true
     short = le-leb (spaces l) s.indent (omega (arith, deep, low))
 
-    go : (b : Bool) → cond b (ends_line (behind_spaces l)) (not (is_tab (behind_spaces l))) ≡ true → are_kept (cond b (blank_mended s l ++ lines_mended s ls) (comment_mended s l ++ (keep (joined ls) ∷ []))) ≡ true
+    go : (b : Bool) → cond b (ends_line (without_spaces l)) (not (is_tab (without_spaces l))) ≡ true → are_kept (cond b (blank_mended s l ++ lines_mended s ls) (comment_mended s l ++ (keep (joined ls) ∷ []))) ≡ true
     go true e =
         let is : is_short s.indent l ≡ true = (λ i. e i && short i) in
         let same : blank_mended s l ≡ keep l ∷ [] = (λ i. cond (keeps i) (put l [] ∷ []) (cond (is i) (keep l ∷ []) (put_indent 0 l))) in
@@ -91,24 +91,24 @@ gap_kept (Some s) n gap (inr deep) low = lines_kept s n (text_lines gap) deep.0 
 module _ (n : ℕ) (steps : List Step) (c : Cut) (x : Removal) (read : read_at (cut_text c) ≡ Some c) (others : has_others_at n steps c ≡ true) (place : removal_place n steps c ≡ Some x)
     (kept : are_kept (gap_mended x.seam x.gap) ≡ true) where
   abbrev tail : List Segment
-  tail = gap_mended x.seam x.gap ++ (keep x.behind ∷ [])
+  tail = gap_mended x.seam x.gap ++ (keep x.after ∷ [])
 
   tail_kept : are_kept tail ≡ true
-  tail_kept = kept_both (gap_mended x.seam x.gap) (keep x.behind ∷ []) kept refl
+  tail_kept = kept_both (gap_mended x.seam x.gap) (keep x.after ∷ []) kept refl
 
-  pub text : cut_text c ≡ x.before ++ (x.gone ++ (x.gap ++ x.behind))
-  text = removal_stands c n steps x read place
+  pub text : cut_text c ≡ x.before ++ (x.gone ++ (x.gap ++ x.after))
+  text = removal_is_there c n steps x read place
 
-  tail_is : old_text tail ≡ x.gap ++ x.behind
+  tail_is : old_text tail ≡ x.gap ++ x.after
   tail_is =
-      append_cancel_left x.gone (old_text tail) (x.gap ++ x.behind)
-      (append_cancel_left x.before (x.gone ++ old_text tail) (x.gone ++ (x.gap ++ x.behind)) ((rows_out n steps c x read others place).old ∙ text))
+      append_cancel_left x.gone (old_text tail) (x.gap ++ x.after)
+      (append_cancel_left x.before (x.gone ++ old_text tail) (x.gone ++ (x.gap ++ x.after)) ((rows_out n steps c x read others place).old ∙ text))
 
-  pub new_is : new_text (rows_removed x) ≡ x.before ++ (x.gap ++ x.behind)
+  pub new_is : new_text (rows_removed x) ≡ x.before ++ (x.gap ++ x.after)
   new_is = ap (λ (t : List ℕ). x.before ++ t) (kept_text_same tail tail_kept ∙ tail_is)
 
-  pub segments_come : length (x.before ++ (x.gap ++ x.behind)) ≤ text_limit → edit_of_segments (rows_removed x) ≡ gives (x.before ++ (x.gap ++ x.behind)) (splice_at (length x.before) x.gone [])
+  pub segments_come : length (x.before ++ (x.gap ++ x.after)) ≤ text_limit → edit_of_segments (rows_removed x) ≡ gives (x.before ++ (x.gap ++ x.after)) (splice_at (length x.before) x.gone [])
   segments_come size =
       (λ i. exchange_edit (cond (leb (length (new_is i)) text_limit) (exchange.gives (new_is i) (one_splice x.before x.gone [] tail tail_kept i)) exchange.too_large))
-      ∙ ap (λ (b : Bool). exchange_edit (cond b (exchange.gives (x.before ++ (x.gap ++ x.behind)) (splice_at (length x.before) x.gone [])) exchange.too_large))
-      (le-leb (length (x.before ++ (x.gap ++ x.behind))) text_limit size)
+      ∙ ap (λ (b : Bool). exchange_edit (cond b (exchange.gives (x.before ++ (x.gap ++ x.after)) (splice_at (length x.before) x.gone [])) exchange.too_large))
+      (le-leb (length (x.before ++ (x.gap ++ x.after))) text_limit size)

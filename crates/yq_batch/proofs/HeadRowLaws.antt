@@ -6,17 +6,17 @@ use Rattle.std.{proofs.lemmas.List.length-take-le, specs.List.slice_get}
 use Rattle.yq_core.{specs.Answers.◌>>=◌, specs.Paths.Step, proofs.Bools.bind_some}
 use Rattle.yq_outline.{specs.Ends.{found_line, line_at_steps}, specs.Group.group, specs.Outline.{Line, level}}
 use Rattle.yq_outline.{specs.Places.{FoundLine, find}, specs.Comments.head_comment, specs.Lines.{head_of, lines_of_rows}}
-use Rattle.yq_row_table.{specs.Exchange.behind_row, specs.Rows.{Cut, Part, Row, cut_text, rows_text}}
+use Rattle.yq_row_table.{specs.Exchange.after_row, specs.Rows.{Cut, Part, Row, cut_text, rows_text}}
 use Rattle.yq_documents.{specs.LinesInRows.{RowLine, document_row, row_line, row_line_of}, specs.Reading.read_at}
 use Rattle.yq_places.{specs.FlowNodes.{content_flow, flow_collection, line_collection}, specs.FlowViews.LeadsToHead}
 use Rattle.yq_places.specs.PlacedRows.{PlacedPart, placed_document}
 use Rattle.yq_places.specs.NodeReading.{at_head, at_lines, head_line_of, line_with_steps, place_line, with_steps}
-use Rattle.yq_places.{specs.Standings.{RowsOfEntry, entry_rows_at, rows_of_entry}, proofs.FlowNodeLaws.{collection_is, rows_collection}}
+use Rattle.yq_places.{specs.Placements.{RowsOfEntry, entry_rows_at, rows_of_entry}, proofs.FlowNodeLaws.{collection_is, rows_collection}}
 use Rattle.yq_places.{proofs.FlowViewLaws.numbered, proofs.FoundEntries.middle, proofs.HeadSteps.stem_at}
-use Rattle.yq_places.{proofs.PlacedPartLaws.{map_some, part_stands}, proofs.RowLineSpans.steps_row, proofs.RemovalViewLaws.slice_seam}
+use Rattle.yq_places.{proofs.PlacedPartLaws.{map_some, part_is_there}, proofs.RowLineSpans.steps_row, proofs.RemovalViewLaws.slice_seam}
 use Rattle.yq_places.proofs.WalkDocuments.{row_line_number}
 use Rattle.yq_edit_rules.{proofs.FlowPathLaws.row_in_cut, proofs.LineLaws.{dashes_count, row_line_splits}, proofs.CommentPutLaws.last_lines}
-use Rattle.yq_edit_rules.{proofs.StandingRows.rows_stand, proofs.UnderLaws.{dashes_of, line_with}, specs.StandingLaws.StandsThere}
+use Rattle.yq_edit_rules.{proofs.PlacementRows.rows_located, proofs.UnderLaws.{dashes_of, line_with}, specs.PlacementLaws.HasItsRows}
 use Rattle.yq_batch.specs.HeadRows.{IsHeadInRow}
 
 -- ---- among lines
@@ -87,12 +87,12 @@ module _ (c : Cut) (n : ℕ) (steps : List Step) (i : ℕ) (h : IsHeadInRow c n 
       (same_Some _ _ (sym (g.leads []) ∙ (ap (λ (p : Part). head_line_of (steps ++ []) (lines_of_rows p.rows)) same ∙ (ap (λ (ss : List Step). head_line_of ss ls) (append-nil steps) ∙ head_is))))
 
   -- the collections in it
-  pub collections : (left : List Step) → flow_collection n (steps ++ left) c ≡ content_flow left h.line.row.content (behind_row (document_row n c + h.line.before) c)
+  pub collections : (left : List Step) → flow_collection n (steps ++ left) c ≡ content_flow left h.line.row.content (after_row (document_row n c + h.line.before) c)
   collections left =
       sym (collection_is c n (steps ++ left))
       ∙ (ap (λ (o : Option Part). o >>= λ p. rows_collection (document_row n c) c p.rows (steps ++ left)) h.there
       ∙ (ap (λ (o : Option (ℕ × List Step)). o >>= λ x. line_collection (document_row n c) c h.part.rows x.0 x.1) (leads left)
-      ∙ ap (λ (o : Option RowLine). o >>= λ s. content_flow left s.row.content (behind_row (document_row n c + s.before) c)) number.2))
+      ∙ ap (λ (o : Option RowLine). o >>= λ s. content_flow left s.row.content (after_row (document_row n c + s.before) c)) number.2))
 
   -- it is in no other row
   pub same_row : (j : ℕ) → IsHeadInRow c n steps j → i ≡ j
@@ -124,7 +124,7 @@ module _ (c : Cut) (n : ℕ) (s : Step) (ss : List Step) (e : RowsOfEntry) (read
   abbrev pub entry_head : IsHeadInRow c n (s ∷ ss) (length e.front)
   entry_head = record {
     part = d.0.part;
-    there = (part_stands n c d.0 d.1).there;
+    there = (part_is_there n c d.0 d.1).there;
     line = x.0;
     found = x.1;
     last = ap (λ (y : RowsOfEntry). y.line) x.2 ∙ (last ∙ ap (λ (r : Row). length r.dashes) (sym row_is));
@@ -132,16 +132,16 @@ module _ (c : Cut) (n : ℕ) (s : Step) (ss : List Step) (e : RowsOfEntry) (read
     row = row_size;
   }
 
-  there : StandsThere n s ss c e
-  there = rows_stand n s ss c e read at
+  there : HasItsRows n s ss c e
+  there = rows_located n s ss c e read at
 
-  behind_is : behind_row (document_row n c + x.0.before) c ≡ rows_text (e.under ++ e.back) (e.end ++ e.behind)
-  behind_is =
-      ap (λ (k : ℕ). behind_row (document_row n c + k) c) row_size
-      ∙ ((row_in_cut c n there.part e.front e.row (e.under ++ e.back) there.old.there there.rows_are).behind ∙ (λ i. rows_text (e.under ++ e.back) (sym there.end_is i ++ sym there.behind_is i)))
+  following_is : after_row (document_row n c + x.0.before) c ≡ rows_text (e.under ++ e.back) (e.end ++ e.after)
+  following_is =
+      ap (λ (k : ℕ). after_row (document_row n c + k) c) row_size
+      ∙ ((row_in_cut c n there.part e.front e.row (e.under ++ e.back) there.old.there there.rows_are).after ∙ (λ i. rows_text (e.under ++ e.back) (sym there.end_is i ++ sym there.following_is i)))
 
-  pub entry_collections : (left : List Step) → flow_collection n ((s ∷ ss) ++ left) c ≡ content_flow left e.row.content (rows_text (e.under ++ e.back) (e.end ++ e.behind))
-  entry_collections left = own_collections left ∙ (λ i. content_flow left (row_is i).content (behind_is i))
+  pub entry_collections : (left : List Step) → flow_collection n ((s ∷ ss) ++ left) c ≡ content_flow left e.row.content (rows_text (e.under ++ e.back) (e.end ++ e.after))
+  entry_collections left = own_collections left ∙ (λ i. content_flow left (row_is i).content (following_is i))
     where
-      own_collections : (left : List Step) → flow_collection n ((s ∷ ss) ++ left) c ≡ content_flow left x.0.row.content (behind_row (document_row n c + x.0.before) c)
+      own_collections : (left : List Step) → flow_collection n ((s ∷ ss) ++ left) c ≡ content_flow left x.0.row.content (after_row (document_row n c + x.0.before) c)
       own_collections = collections c n (s ∷ ss) (length e.front) entry_head

@@ -8,17 +8,17 @@ use Rattle.yq_row_table.{specs.Exchange.with_content, specs.Rows.{Content, Cut, 
 use Rattle.yq_row_table.proofs.splices.SpliceTexts.{own_gap}
 use Rattle.yq_documents.{specs.LinesInRows.{RowLine, row_line}, specs.Reading.{cut_of, read_at}}
 use Rattle.yq_places.{specs.FlowNodes.flow_collection, specs.FlowViews.LeadsToHead, specs.NodeReading.head_line_of}
-use Rattle.yq_places.{specs.Standings.{RowsOfEntry, behind_entry, rows_of_entry}, specs.StandingViews.IsHeldRow}
+use Rattle.yq_places.{specs.Placements.{RowsOfEntry, after_entry, rows_of_entry}, specs.PlacementViews.IsHeldRow}
 use Rattle.yq_places.{specs.declared.places.held_row.HeldRow.HeldRow, proofs.HeldRowLaws.no_root_rows}
 use Rattle.yq_places.proofs.FlowViewLaws.{head_found, numbered}
-use Rattle.yq_edit_rules.{specs.Changed.put_document, specs.FlowRows.{FlowAt, InlineRow, behind_node, with_node}}
-use Rattle.yq_edit_rules.{specs.RowStays.{IsBehind, StandsStill, StaysFrom}, proofs.FlowRowLaws.node_holds}
-use Rattle.yq_edit_rules.{proofs.RowStayLaws.{rows_stay_there, there_still}, proofs.ShapeLaws.line_by_shape, proofs.StandingMarks.row_there}
-use Rattle.yq_edit_rules.proofs.StandingRows.{rows_stand}
+use Rattle.yq_edit_rules.{specs.Changed.put_document, specs.FlowRows.{FlowAt, InlineRow, text_after_node, with_node}}
+use Rattle.yq_edit_rules.{specs.RowStays.{IsAfter, StaysInRows, StaysFrom}, proofs.FlowRowLaws.node_holds}
+use Rattle.yq_edit_rules.{proofs.RowStayLaws.{rows_stay_there, there_still}, proofs.ShapeLaws.line_by_shape}
+use Rattle.yq_edit_rules.{proofs.PlacementMarks.row_there, proofs.PlacementRows.rows_located}
 use Rattle.yq_edit_laws.{proofs.CutLaws.text_read, proofs.HeldRows.head_there, proofs.LaterEnds.ends_same}
 use Rattle.yq_batch.{specs.HeadRows.{EntriesStayFrom, HeadRowStays, IsHeadInRow}, specs.RowRuns.{IsRowRun, rows_still, IsRowsRun, Passed}}
 use Rattle.yq_batch.{specs.HeadRuns.IsRowAt, specs.Runs.{IsPutRun, text_with_run}, specs.declared.run.PutRun.PutRun}
-use Rattle.yq_batch.{proofs.RowRunAnswers.behind_last, proofs.RowRunLaws.{behind_both, sized}}
+use Rattle.yq_batch.{proofs.RowRunAnswers.after_last, proofs.RowRunLaws.{after_both, sized}}
 use Rattle.yq_batch.proofs.HeadRowLaws.{entry_collections, entry_head, leads_there, mark_between, number, number_is, same_row}
 
 -- ---- another node in the row of a head
@@ -47,7 +47,7 @@ module _ (c d : Cut) (k : ℕ) (steps : List Step) (w : CollPieces) (at : FlowAt
 
   stays : StaysFrom (suc (length i.front)) p q
   stays =
-      let holds = node_holds at.rest i.node (behind_node d k p i) w gap is at.at.along in
+      let holds = node_holds at.rest i.node (text_after_node d k p i) w gap is at.at.along in
       let headed : is_some (head_of (Inline i.space m i.tail)) ≡ is_some (head_of i.row.content) =
       ap is_some holds.head.1 ∙ (sym (ap is_some holds.old_head.1) ∙ sym (ap (λ (x : Content). is_some (head_of x)) at.at.content_is)) in
       rows_stay_there.exchanges p i.front i.back i.row r at.at.rows_are (λ j. record { column = i.row.column; dashes = i.row.dashes; mark = i.row.mark; headed = headed j })
@@ -86,7 +86,7 @@ module _ (c d : Cut) (k : ℕ) (steps : List Step) (w : CollPieces) (at : FlowAt
           (line_by_shape p q stays.shapes stem ∙ (ap (λ (y : Part). line_at_steps stem (lines_of_rows y.rows)) (sym same_part) ∙ (own.1 ∙ ap Some line_number)))
           ∙ mark_between q.rows i.front r i.back rows_are;
       last = refl;
-      headed = ap is_some (node_holds at.rest i.node (behind_node d k p i) w gap is at.at.along).head.1;
+      headed = ap is_some (node_holds at.rest i.node (text_after_node d k p i) w gap is at.at.along).head.1;
       row = sym own_row;
     }
 
@@ -96,9 +96,9 @@ module _ (c d : Cut) (k : ℕ) (steps : List Step) (w : CollPieces) (at : FlowAt
       let b : IsHeadInRow d k stem n × EntriesStayFrom c d k (suc n) = before n x in (
         head_on n b.0,
         λ l path f found after.
-            let first : StandsStill f l path d = b.1 l path f found after in
-            let from : IsBehind k (suc (length i.front)) l (length first.front) =
-            subst (λ (a : ℕ). IsBehind k (suc a) l (length first.front)) (own_row n b.0)
+            let first : StaysInRows f l path d = b.1 l path f found after in
+            let from : IsAfter k (suc (length i.front)) l (length first.front) =
+            subst (λ (a : ℕ). IsAfter k (suc a) l (length first.front)) (own_row n b.0)
             (sized k (suc n) l (length f.front) (length first.front) (sym first.size) after) in
             let z = rows_stay_there.entries d k (suc (length i.front)) p q l path (record f { start = first.start; front = first.front }) at.there stays first.found from in
             record { start = z.start; front = z.front; found = z.found; size = z.size ∙ first.size },
@@ -107,11 +107,11 @@ module _ (c d : Cut) (k : ℕ) (steps : List Step) (w : CollPieces) (at : FlowAt
 -- ---- a run in a head, after the row that was changed last
 
 module _ (c : Cut) (k n : ℕ) (out : List ℕ) (done : ℕ) (run : IsRowRun c k n out done) (m : ℕ) (s : Step) (ss : List Step) (e : RowsOfEntry) (read : read_at (cut_text c) ≡ Some c) (at : rows_of_entry m (s ∷ ss) c ≡ Some e)
-    (last : e.line ≡ length e.row.dashes) (headed : is_some (head_of e.row.content) ≡ true) (later : IsBehind k n m (length e.front)) where
+    (last : e.line ≡ length e.row.dashes) (headed : is_some (head_of e.row.content) ≡ true) (later : IsAfter k n m (length e.front)) where
   abbrev stem : List Step
   stem = s ∷ ss
 
-  abbrev still : StandsStill e m stem run.cut
+  abbrev still : StaysInRows e m stem run.cut
   still = run.stays m stem e at later
 
   read_now : read_at (cut_text run.cut) ≡ Some run.cut
@@ -135,7 +135,7 @@ module _ (c : Cut) (k n : ℕ) (out : List ℕ) (done : ℕ) (run : IsRowRun c k
     row = λ i x.
         let same : length e.front ≡ i = same_row c m stem (length e.front) (entry_head c m s ss e read at last headed) i x in (
           subst (IsHeadInRow run.cut m stem) same head_now,
-          λ l path f found after. run.stays l path f found (behind_both k n m (length e.front) l (length f.front) later (subst (λ (a : ℕ). IsBehind m (suc a) l (length f.front)) (sym same) after)),
+          λ l path f found after. run.stays l path f found (after_both k n m (length e.front) l (length f.front) later (subst (λ (a : ℕ). IsAfter m (suc a) l (length f.front)) (sym same) after)),
         );
   }
 
@@ -151,12 +151,12 @@ row_found t n (s ∷ ss) x read is inline =
     let c : Cut = cut_of t in
     let again : read_at (cut_text c) ≡ Some c = ap read_at (text_read t c read) ∙ read in
     let e : RowsOfEntry = is.entry in
-    let there = rows_stand n s ss c e again is.found in
+    let there = rows_located n s ss c e again is.found in
     record {
       entry = e;
       found = is.found;
       last = is.last;
-      headed = head_there (parent_indent e.row) e.row.content (rows_text e.under (behind_entry e)) (row_there n s ss c e there).content (is.inline inline).1;
+      headed = head_there (parent_indent e.row) e.row.content (rows_text e.under (after_entry e)) (row_there n s ss c e there).content (is.inline inline).1;
       row_is = is.row;
     }
 
@@ -168,7 +168,7 @@ head_run t last r n row (s ∷ ss) read run at passed =
     let c : Cut = cut_of t in
     let again : read_at (cut_text c) ≡ Some c = ap read_at (text_read t c read) ∙ read in
     head_begins c run.document run.row (string_bytes r.text) r.done run.run n s ss at.entry again at.found at.last at.headed
-    (behind_last c last run.document run.row n (length at.entry.front) row run.last passed at.row_is)
+    (after_last c last run.document run.row n (length at.entry.front) row run.last passed at.row_is)
 
 -- and then goes on after the row of that
 pub rows_run : (t : List ℕ) (r : PutRun) (n row : ℕ) (steps : List Step) → read_at t ≡ Some (cut_of t) → IsPutRun (cut_of t) n steps (string_bytes r.text) r.done → IsRowAt (cut_of t) n steps row → IsRowsRun (cut_of t) (Some (n, row)) r

@@ -143,11 +143,11 @@ module _ (t : List ℕ) where
       front_of t p fs s.place.start ≡ drop p (take x t) ++ front_of t x fs s.place.start
   front_begins p x fs s bs le h =
       let front : List ℕ = drop p (take x t) in
-      let behind : List ℕ = slot_text t s ++ text_from t s.place.end bs in
-      append_cancel_right (front_of t p fs s.place.start) (front ++ front_of t x fs s.place.start) behind
+      let after : List ℕ = slot_text t s ++ text_from t s.place.end bs in
+      append_cancel_right (front_of t p fs s.place.start) (front ++ front_of t x fs s.place.start) after
       (sym (split_at t p fs s bs (order_from x p (length t) (slot_places (fs ++ (s ∷ bs))) le h))
       ∙ (starts_at t p x (fs ++ (s ∷ bs)) le h
-      ∙ (ap (λ (l : List ℕ). front ++ l) (split_at t x fs s bs h) ∙ sym (append_assoc front (front_of t x fs s.place.start) behind))))
+      ∙ (ap (λ (l : List ℕ). front ++ l) (split_at t x fs s bs h) ∙ sym (append_assoc front (front_of t x fs s.place.start) after))))
 
   -- a break is before the next place
   abbrev NextBreaks : (at : ℕ) (fs : List SlotView) (s : SlotView) (bs : List SlotView) → Type 0

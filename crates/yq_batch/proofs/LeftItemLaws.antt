@@ -49,11 +49,11 @@ own_gap (last b) = ap last (append-nil b)
 own_gap (comma b g) = refl
 
 -- an item in front of those from which one is taken out
-one_in_front : (k : ℕ) (rest g : List ℕ) (s : Step) (key : Key) (n : FlowNode) (sep : Sep) (left new : Items) (front upto : List ℕ) → is_here s (key_label (key_content key)) ≡ false →
+one_before_others : (k : ℕ) (rest g : List ℕ) (s : Step) (key : Key) (n : FlowNode) (sep : Sep) (left new : Items) (front upto : List ℕ) → is_here s (key_label (key_content key)) ≡ false →
     last_out k rest (further s) g key n sep left ≡ None → TakesOut k rest (gap_of sep) (further s) left new front upto →
     TakesOut k rest g s (item key n sep left) (item key n sep new) (key_text key (node_text n (sep_text sep [])) ++ front) (key_text key (node_text n (sep_text sep [])) ++ upto)
 unfolding flow_items_text
-one_in_front k rest g s key n sep left new front upto elsewhere not_last h =
+one_before_others k rest g s key n sep left new front upto elsewhere not_last h =
     let a : List ℕ = key_text key (node_text n (sep_text sep [])) in
     record {
       edit = edit_from_item g key n sep h.edit;
@@ -62,9 +62,9 @@ one_in_front k rest g s key n sep left new front upto elsewhere not_last h =
       gap = refl;
       items = (λ i. item key n (with_gap (h.gap i) sep) (h.items i)) ∙ ap (λ (x : Sep). item key n x new) (own_gap sep);
       lead = h.lead;
-      text = item_cut key n sep (flow_items_text k left rest) ∙ (ap (λ (l : List ℕ). a ++ l) h.text ∙ sym (append_assoc a front (h.edit.old ++ h.edit.behind)));
+      text = item_cut key n sep (flow_items_text k left rest) ∙ (ap (λ (l : List ℕ). a ++ l) h.text ∙ sym (append_assoc a front (h.edit.old ++ h.edit.after)));
       old = append_assoc a front h.edit.old ∙ ap (λ (l : List ℕ). a ++ l) h.old;
-      left_text = item_cut key n sep (flow_items_text k new rest) ∙ (ap (λ (l : List ℕ). a ++ l) h.left_text ∙ sym (append_assoc a front h.edit.behind));
+      left_text = item_cut key n sep (flow_items_text k new rest) ∙ (ap (λ (l : List ℕ). a ++ l) h.left_text ∙ sym (append_assoc a front h.edit.after));
     }
 
 -- ---- one that others follow
@@ -80,7 +80,7 @@ more_follow k rest g s zero (suc j) (item key n sep is) e key2 n2 sep2 os here a
     let space : space_to g next ≡ [] = ap (λ (b : Bool). cond b (32 ∷ []) []) apart in
     let a : List ℕ = key_text key (node_text n (sep_text sep [])) in
     record {
-      edit = record { gap = gap_to g next; items = item key2 n2 sep2 os; old = a; lead = space_to g next; written = []; behind = flow_items_text k (item key2 n2 sep2 os) rest };
+      edit = record { gap = gap_to g next; items = item key2 n2 sep2 os; old = a; lead = space_to g next; written = []; after = flow_items_text k (item key2 n2 sep2 os) rest };
       removes =
           (λ i. cond (here i) (before_next k rest g key n (same i) (after i))
           (option_or (last_out k rest (further s) g key n (same i) (after i))
@@ -96,7 +96,7 @@ more_follow k rest g s (suc i) (suc j) (item key n sep is) e key2 n2 sep2 os lea
     let x = some_left i j is e key2 n2 sep2 os after in
     let same : sep_left j sep e ≡ sep = sep_kept j sep is e x.0 x.1 x.2 x.3 x.4 in
     let h = more_follow k rest (gap_of sep) (further s) i j is e key2 n2 sep2 os leads.1 after apart in
-    let w = one_in_front k rest g s key n sep (left_items j is e) (left_items i is (others key2 n2 sep2 os)) (front_text i is) (front_text (suc i) is) leads.0
+    let w = one_before_others k rest g s key n sep (left_items j is e) (left_items i is (others key2 n2 sep2 os)) (front_text i is) (front_text (suc i) is) leads.0
     (two_left k rest (further s) g key n sep i j is e key2 n2 sep2 os after) h in
     subst (λ (x : Sep). TakesOut k rest g s (item key n x (left_items j is e))
     (item key n (sep_left i sep (others key2 n2 sep2 os)) (left_items i is (others key2 n2 sep2 os)))
@@ -140,7 +140,7 @@ none_follow k rest g s (suc i) (item key n sep (item key2 n2 sep2 (item key3 n3 
     let os : Items = item key2 n2 sep2 (item key3 n3 sep3 is) in
     let a : List ℕ = key_text key (node_text n (sep_text sep [])) in
     let h = none_follow k rest (gap_of sep) (further s) i os s2 leads.1 apart in
-    let w = one_in_front k rest g s key n sep (left_items (suc (suc i)) os (closing s2)) (left_items (suc i) os (closing s2)) (upto_text i os) (upto_text (suc i) os) leads.0 refl h in
+    let w = one_before_others k rest g s key n sep (left_items (suc (suc i)) os (closing s2)) (left_items (suc i) os (closing s2)) (upto_text i os) (upto_text (suc i) os) leads.0 refl h in
     subst (λ (l : List ℕ). TakesOut k rest g s (left_items (suc (suc (suc i))) (item key n sep os) (closing s2)) (left_items (suc (suc i)) (item key n sep os) (closing s2)) l (upto_text (suc (suc i)) (item key n sep os)))
     (sym (append_assoc a (front_text i os) (text_of_item i os)))
     (subst (λ (l : List ℕ). TakesOut k rest g s (left_items (suc (suc (suc i))) (item key n sep os) (closing s2)) (left_items (suc (suc i)) (item key n sep os) (closing s2)) (a ++ upto_text i os) l)

@@ -6,8 +6,8 @@ use Rattle.yq_core.{specs.PlainText.begins_marker, specs.Text.is_feed, specs.Ali
 use Rattle.yq_core.specs.Nodes.{Key, FlowNode, Sep, last, comma, Items, none, item, key_text, node_text, sep_text, flow_items_text}
 use Rattle.yq_core.{specs.Nodes.{is_close, AreFlowItems}, specs.Places.{Parts, locate_items}, specs.Tree.key_label}
 use Rattle.yq_core.{proofs.EditPlaces.{end_placed, entry_placed}, proofs.NodeAgain.item_front, proofs.TreeLaws.key_tree}
-use Rattle.yq_flow_edits.{specs.FlowPlaces.{behind_feed, marks_before}, specs.Removals.ends_marked, proofs.ItemSwaps.{item_cut, text_cut}}
-use Rattle.yq_flow_edits.proofs.Marks.{line_behind, marks_are}
+use Rattle.yq_flow_edits.{specs.FlowPlaces.{past_feed, marks_before}, specs.Removals.ends_marked, proofs.ItemSwaps.{item_cut, text_cut}}
+use Rattle.yq_flow_edits.proofs.Marks.{line_after, marks_are}
 use Rattle.yq_edit_laws.specs.NearParts.{LeadsToPart}
 use Rattle.yq_batch.specs.LeftItems.{Ending, ending_items, sep_left, left_items, items_after, LeadsToIndex, gap_at, front_text}
 use Rattle.yq_batch.specs.LeftItems.{text_of_item, upto_text, count_items, NeedsNoComma, place_of_part, count_parts}
@@ -83,13 +83,13 @@ after_ending total k (suc i) (item key n sep is) rest e p at = after_ending tota
 
 -- a line begins before an item by the gap there
 pub line_there : (d total k i : ℕ) (g : List ℕ) (is : Items) (rest t w : List ℕ) (b : ℕ) (p : ℕ × ℕ) → is_close k ≡ true → AreFlowItems d k is rest → is_feed b ≡ false → t ≡ w ++ (b ∷ (g ++ flow_items_text k is rest)) →
-    place_of_part i (locate_items total k is rest) ≡ Some p → behind_feed t (suc (length w + length g) + length (front_text i is)) ≡ fresh false (gap_at i g is)
+    place_of_part i (locate_items total k is rest) ≡ Some p → past_feed t (suc (length w + length g) + length (front_text i is)) ≡ fresh false (gap_at i g is)
 unfolding flow_items_text locate_items AreFlowItems
 line_there d total k i g none rest t w b p c are feed text at = absurd (none-some _ at)
 line_there d total k zero g (item key n sep is) rest t w b p c are feed text at =
     let x : List ℕ = flow_items_text k (item key n sep is) rest in
     let m : ℕ = suc (length w + length g) + length (front_text zero (item key n sep is)) in
-    ap (λ (l : List ℕ). behind_feed l m) text ∙ (line_behind g w b x m (omega arith) ∙ ap (λ (f : Bool). fresh f g) feed)
+    ap (λ (l : List ℕ). past_feed l m) text ∙ (line_after g w b x m (omega arith) ∙ ap (λ (f : Bool). fresh f g) feed)
 line_there d total k (suc i) g (item key n sep none) rest t w b p c are feed text at = absurd (none-some _ at)
 line_there d total k (suc i) g (item key n (last q) (item key2 n2 sep2 is)) rest t w b p c are feed text at =
     absurd (false≢true (sym (item_front true (Some 0) d k key2 n2 (sep_text sep2 (flow_items_text k is rest)) c are.4.1 are.4.0 are.4.2) ∙ are.3.1))
@@ -106,7 +106,7 @@ line_there d total k (suc i) g (item key n (comma q h) (item key2 n2 sep2 is)) r
     let again = line_there d total k i h os rest t (w ++ (b ∷ (g ++ front))) 44 p c are.4 refl moved at in
     let here : suc (length w + length g) + length (front_text (suc i) (item key n (comma q h) os)) ≡ suc (length (w ++ (b ∷ (g ++ front))) + length h) + length (front_text i os) =
     omega (arith, size, length-append h [], length-append a (front_text i os), length-append w (b ∷ (g ++ front)), length-append g front) in
-    ap (λ (m : ℕ). behind_feed t m) here ∙ again
+    ap (λ (m : ℕ). past_feed t m) here ∙ again
 
 -- a marker that a text begins with
 pub marker_more : (p x : List ℕ) → begins_marker p ≡ true → begins_marker (p ++ x) ≡ true
@@ -142,10 +142,10 @@ module _ (d k : ℕ) (g : List ℕ) (is : Items) (rest t w : List ℕ) (b : ℕ)
     pub places : (p.0 ≡ length opening + length (front_text i is)) × (p.1 ≡ length opening + length (upto_text i is))
     places = spans (length t) opening k i is rest p size at
 
-    pub line : behind_feed t p.0 ≡ fresh false (gap_at i g is)
+    pub line : past_feed t p.0 ≡ fresh false (gap_at i g is)
     line =
         let here : p.0 ≡ suc (length w + length g) + length (front_text i is) = omega (arith, places.0, opening_size) in
-        ap (λ (m : ℕ). behind_feed t m) here ∙ line_there d (length t) k i g is rest t w b p c are feed text at
+        ap (λ (m : ℕ). past_feed t m) here ∙ line_there d (length t) k i g is rest t w b p c are feed text at
 
     split : (x : List ℕ) × (flow_items_text k is rest ≡ front_text i is ++ (text_of_item i is ++ x))
     split = item_split (length t) k i is rest p at

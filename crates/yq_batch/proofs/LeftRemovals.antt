@@ -9,7 +9,7 @@ use Rattle.yq_core.specs.Nodes.{FlowNode, Items, Key, Sep, item, flow_items_text
 use Rattle.yq_core.{proofs.NodesWrittenLaws.items_append, proofs.NodeAgain.items_longer}
 use Rattle.yq_flow_edits.proofs.EditLaws.{Around, around_is}
 use Rattle.yq_row_table.specs.Rows.{Cut, cut_text}
-use Rattle.yq_places.{specs.FlowViews.{behind_anchor, placed_collection}, specs.declared.places.flow_node.FlowHead.FlowHead}
+use Rattle.yq_places.{specs.FlowViews.{following_anchor, placed_collection}, specs.declared.places.flow_node.FlowHead.FlowHead}
 use Rattle.yq_places.proofs.FlowNodeLaws.{with_more}
 use Rattle.yq_edit_laws.{proofs.FlowAnswers.CollFound, proofs.FlowHeads.whole_is, specs.NearParts.LeadsToPart}
 use Rattle.yq_edit_laws.proofs.SoleEntries.{empty_bytes}
@@ -21,7 +21,7 @@ use Rattle.yq_batch.proofs.LeftItemLaws.{ends_before, more_follow, none_follow}
 use Rattle.yq_batch.proofs.LeftPlaceLaws.{after_as_read, after_ending, leads_there, no_space}
 use Rattle.yq_batch.proofs.LeftPlaceLaws as laws
 
-core_parts : (q : Placed) → parts_of (behind_anchor q) ≡ parts_of q
+core_parts : (q : Placed) → parts_of (following_anchor q) ≡ parts_of q
 core_parts (placed a s c e f) = refl
 
 holder_parts : (k : ℕ) (parts : Parts) → parts_in (holder k parts) ≡ parts
@@ -31,21 +31,21 @@ coll_parts : (total : ℕ) (w : CollPieces) → parts_of (placed_collection tota
 unfolding locate
 coll_parts total w = holder_parts w.close (locate_items total w.close w.items w.rest)
 
-core_end : (q : Placed) → end_of q ≡ end_of (behind_anchor q)
+core_end : (q : Placed) → end_of q ≡ end_of (following_anchor q)
 core_end (placed a s c e f) = refl
 
 coll_ends : (total : ℕ) (w : CollPieces) → end_of (placed_collection total w) ≡ total - length w.rest
 unfolding locate
 coll_ends total w = refl
 
-core_begin : (q : Placed) → content_of q ≡ content_of (behind_anchor q)
+core_begin : (q : Placed) → content_of q ≡ content_of (following_anchor q)
 core_begin (placed a s c e f) = refl
 
 coll_begins : (total : ℕ) (w : CollPieces) → content_of (placed_collection total w) ≡ total - suc (length (w.gap ++ flow_items_text w.close w.items w.rest))
 unfolding locate node_text
 coll_begins total w = refl
 
-core_empty : (q : Placed) → empty_text q ≡ empty_text (behind_anchor q)
+core_empty : (q : Placed) → empty_text q ≡ empty_text (following_anchor q)
 core_empty (placed a s c e f) = refl
 
 holder_empty : (k : ℕ) (parts : Parts) → empty_content (holder k parts) ≡ Some (empty_bytes k)
@@ -82,13 +82,13 @@ module _ (c : Cut) (n : ℕ) (steps : List Step) (x : FlowHead) (q : Placed) (f 
   row = x.text.now
 
   abbrev pub more : List ℕ
-  more = f.agrees.behind
+  more = f.agrees.after
 
   pub parts_are : parts_of q ≡ locate_items (length row) own.close own.items own.rest
   parts_are = sym (core_parts q) ∙ (ap parts_of f.node ∙ coll_parts (length row) own)
 
   abbrev around : Around f.agrees.at
-  around = around_is f.agrees.at f.agrees.stands
+  around = around_is f.agrees.at f.agrees.is_located
 
   text : row ≡ around.before ++ (opening_bracket own.close ∷ (own.gap ++ flow_items_text own.close own.items own.rest))
   text = f.agrees.node_is ∙ around.text

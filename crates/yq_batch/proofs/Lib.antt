@@ -32,7 +32,7 @@ pub mod OthersFollow
 pub mod GapStays
 pub mod RowsTaken
 pub mod RowsTakenOn
-pub mod RowsInFront
+pub mod RowsBeforeOffset
 pub mod RowRunGoesOn
 pub mod RowRunBegins
 pub mod RowRemovalAnswers

@@ -60,7 +60,7 @@ known_at c cut n stem left done w found k same filled v is =
     (subst (λ (x : CollPieces). IsFilledCollection x cut n (stem ++ left) (drop done (cut_text c))) (same_Some _ _ (sym found ∙ (ap (λ (ss : List Step). flow_collection n (stem ++ ss) c) (sym same) ∙ is))) filled)
 
 module _ (x : HeadInText) (u : List ℕ) (all : u ≡ cut_text (cut_with x)) (op : Operation) (before : PutRun) (y : HeadChange) (run : Runs x before) (h : AddsAt op x y)
-    (behind : before.done ≤ y.place.start) (opens : y.lead.now ≡ [] → before.done < y.place.start) (fitting : IsFitting op (now_text (cut_with x) before)) (s : String Global) (some : y.written ≡ Some s) where
+    (following : before.done ≤ y.place.start) (opens : y.lead.now ≡ [] → before.done < y.place.start) (fitting : IsFitting op (now_text (cut_with x) before)) (s : String Global) (some : y.written ≡ Some s) where
   abbrev own : Operation
   own = append x.doc (stem_of x ++ h.left) h.key h.value
 
@@ -87,13 +87,13 @@ module _ (x : HeadInText) (u : List ℕ) (all : u ≡ cut_text (cut_with x)) (op
   more_on known fills after has_put =
       subst (λ (o : Operation). (on : RunsOn o x before after) × IsKnownFilled (cut_with x) on.run.cut x.doc (stem_of x) after.done known) (sym h.operation)
       (fill_on x u all own before y.place.start y.place.end new h.valid own_fits known
-      (more_put_there (cut_with x) x.doc (stem_of x) h.left h.key h.value (string_bytes before.text) before.done run h.collection h.found h.takes (change_place y) h.placed behind opens (string_bytes s) written_is)
+      (more_put_there (cut_with x) x.doc (stem_of x) h.left h.key h.value (string_bytes before.text) before.done run h.collection h.found h.takes (change_place y) h.placed following opens (string_bytes s) written_is)
       (λ small. let r = more_goes_on (cut_with x) x.doc (stem_of x) h.left h.key h.value (string_bytes before.text) before.done run h.collection
-      h.found h.takes (change_place y) h.placed behind opens (string_bytes s) written_is h.valid own_fits small in
+      h.found h.takes (change_place y) h.placed following opens (string_bytes s) written_is h.valid own_fits small in
       (r.0, known_then known fills r.0.cut r.1)) after has_put)
 
   pub more_fails : (e : ExprError) → PutFails e u y.place.start y.place.end new before → EditFails e (carried op (now_text (cut_with x) before))
   more_fails e fails =
       subst (λ (o : Operation). EditFails e (carried o (now_text (cut_with x) before))) (sym h.operation)
       (run_fails x u all own before y.place.start y.place.end new h.valid own_fits
-      (more_large (cut_with x) x.doc (stem_of x) h.left h.key h.value (string_bytes before.text) before.done run h.collection h.found h.takes (change_place y) h.placed behind opens (string_bytes s) written_is) e fails)
+      (more_large (cut_with x) x.doc (stem_of x) h.left h.key h.value (string_bytes before.text) before.done run h.collection h.found h.takes (change_place y) h.placed following opens (string_bytes s) written_is) e fails)

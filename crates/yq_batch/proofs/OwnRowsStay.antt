@@ -5,9 +5,9 @@ use Rattle.std.{proofs.Math.Seq.{take-append_seam, drop-append_seam}, proofs.lem
 use Rattle.yq_core.{specs.Answers.◌>>=◌, specs.Paths.Step}
 use Rattle.yq_row_table.specs.Rows.{Row}
 use Rattle.yq_outline.{specs.Comments.head_comment, specs.Ends.{deeper_count, line_at_steps, lines_end}}
-use Rattle.yq_outline.{specs.Lines.{row_lines, lines_of_rows}, specs.Outline.{Line, level}, proofs.LineEnds.end_behind}
+use Rattle.yq_outline.{specs.Lines.{row_lines, lines_of_rows}, specs.Outline.{Line, level}, proofs.LineEnds.following_end}
 use Rattle.yq_outline.proofs.RowLaws.{lines_count}
-use Rattle.yq_documents.specs.LinesInRows.{RowLine, behind_one, row_line}
+use Rattle.yq_documents.specs.LinesInRows.{RowLine, one_row_later, row_line}
 use Rattle.yq_places.{specs.RemovalPlaces.{OwnRows, in_three, own_rows, row_count}, proofs.UnderExchange.lines_append}
 use Rattle.yq_edit_rules.{specs.LineRows.Begins, proofs.OwnRowLaws.count_rows}
 use Rattle.yq_batch.proofs.UptoLaws.{line_stays}
@@ -35,13 +35,13 @@ row_size r = lines_count (head_comment r.gap) r.column r.dashes r.mark r.content
 
 -- the first line of a row after others
 row_first : (f : List Row) (r : Row) (rest : List Row) → row_line (length (lines_of_rows f)) (f ++ (r ∷ rest)) ≡ Some (record { before = length f; row = r; line = 0 })
-row_first [] r rest = cond-false (ltb (length r.dashes) 0) (option_map behind_one (row_line (0 - suc (length r.dashes)) rest)) (Some (record { before = 0; row = r; line = 0 })) (le-ltb (length r.dashes) 0 (omega arith))
+row_first [] r rest = cond-false (ltb (length r.dashes) 0) (option_map one_row_later (row_line (0 - suc (length r.dashes)) rest)) (Some (record { before = 0; row = r; line = 0 })) (le-ltb (length r.dashes) 0 (omega arith))
 row_first (x ∷ f) r rest =
     let n : ℕ = length (lines_of_rows (x ∷ f)) in
     let size : n ≡ suc (length x.dashes) + length (lines_of_rows f) = omega (arith, row_size x, length-append (row_lines x) (lines_of_rows f)) in
     let left : n - suc (length x.dashes) ≡ length (lines_of_rows f) = omega (arith, size) in
-    cond-true (ltb (length x.dashes) n) (option_map behind_one (row_line (n - suc (length x.dashes)) (f ++ (r ∷ rest)))) (Some (record { before = 0; row = x; line = n })) (lt-ltb (length x.dashes) n (omega (arith, size)))
-    ∙ (ap (λ (m : ℕ). option_map behind_one (row_line m (f ++ (r ∷ rest)))) left ∙ ap (option_map behind_one) (row_first f r rest))
+    cond-true (ltb (length x.dashes) n) (option_map one_row_later (row_line (n - suc (length x.dashes)) (f ++ (r ∷ rest)))) (Some (record { before = 0; row = x; line = n })) (lt-ltb (length x.dashes) n (omega (arith, size)))
+    ∙ (ap (λ (m : ℕ). option_map one_row_later (row_line m (f ++ (r ∷ rest)))) left ∙ ap (option_map one_row_later) (row_first f r rest))
 
 -- An item or entry whose rows begin with this line, under which these are, has the same rows where others come after them that are no deeper.
 module _ (steps : List Step) (f : List Row) (r : Row) (g : List Row) (l : Line) (us : List Line) (before : List Line) (b : List Row)
@@ -61,19 +61,19 @@ module _ (steps : List Step) (f : List Row) (r : Row) (g : List Row) (l : Line) 
 
   count : lines_end n (lines_of_rows rs) - n ≡ length (lines_of_rows (r ∷ g))
   count =
-      let end : lines_end n (lines_of_rows rs) ≡ suc n + deeper_count (level l) (us ++ lines_of_rows b) = ap (lines_end n) lines_are ∙ end_behind (lines_of_rows f) (us ++ lines_of_rows b) l in
+      let end : lines_end n (lines_of_rows rs) ≡ suc n + deeper_count (level l) (us ++ lines_of_rows b) = ap (lines_end n) lines_are ∙ following_end (lines_of_rows f) (us ++ lines_of_rows b) l in
       omega (arith, end, all_deeper (level l) us (lines_of_rows b) deep, none_deeper (level l) (lines_of_rows b) begins, ap length own_lines)
 
-  behind : drop (length f) rs ≡ (r ∷ g) ++ b
-  behind = drop-append_seam f ((r ∷ g) ++ b)
+  after : drop (length f) rs ≡ (r ∷ g) ++ b
+  after = drop-append_seam f ((r ∷ g) ++ b)
 
   rows : row_count (lines_end n (lines_of_rows rs) - n) (drop (length f) rs) ≡ length (r ∷ g)
-  rows = (λ i. row_count (count i) (behind i)) ∙ count_rows (r ∷ g) b
+  rows = (λ i. row_count (count i) (after i)) ∙ count_rows (r ∷ g) b
 
   three : in_three (length f) (row_count (lines_end n (lines_of_rows rs) - n) (drop (length f) rs)) rs ≡ record { front = f; own = r ∷ g; back = b }
   three =
       ap (λ (m : ℕ). in_three (length f) m rs) rows
-      ∙ ((λ i. record { front = take-append_seam f ((r ∷ g) ++ b) i; own = take (length (r ∷ g)) (behind i); back = drop (length (r ∷ g)) (behind i) })
+      ∙ ((λ i. record { front = take-append_seam f ((r ∷ g) ++ b) i; own = take (length (r ∷ g)) (after i); back = drop (length (r ∷ g)) (after i) })
       ∙ (λ i. record { front = f; own = take-append_seam (r ∷ g) b i; back = drop-append_seam (r ∷ g) b i }))
 
   -- what is found in a row

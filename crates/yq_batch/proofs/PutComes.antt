@@ -8,12 +8,12 @@ use Rattle.yq_text.{specs.Limit.text_limit, specs.Script.{Segment, changes, keep
 use Rattle.yq_flow_edits.specs.FlowEdits.{FlowEdit}
 use Rattle.yq_row_table.specs.Rows.{Cut, cut_text}
 use Rattle.yq_documents.specs.Reading.{read_at}
-use Rattle.yq_places.{specs.NodesAt.node_in, specs.Standings.{FlowPart, Standing, flow_part, flow_standing, last_step, standing_at}}
+use Rattle.yq_places.{specs.NodesAt.node_in, specs.Placements.{FlowPart, Placement, flow_part, flow_placement, last_step, placement_at}}
 use Rattle.yq_semantics.{specs.Operations.replace, specs.declared.refusal.Refusal.TheVariants.TooLarge}
 use Rattle.yq_edit_rules.{specs.Edits.{op_edits, or_stay}, specs.FlowParts.{flow_put, flow_segments}, specs.Layouts.layout_of}
 use Rattle.yq_edit_rules.{specs.ReplaceEdits.{has_text, value_put}, specs.Replacing.keeps_scalar}
 use Rattle.yq_edit_laws.{specs.PartPuts.put_edit, proofs.CutLaws.cut_read, proofs.FlowEditLaws.before_is}
-use Rattle.yq_edit_laws.{proofs.FlowPartNodes.{none_there, part_node}, proofs.FlowStandings.EntryAt, specs.Carried.{carried, carry_one}}
+use Rattle.yq_edit_laws.{proofs.FlowPartNodes.{none_there, part_node}, proofs.FlowPlacements.EntryAt, specs.Carried.{carried, carry_one}}
 use Rattle.yq_edit_laws.specs.Edit.{by_reading, exchange_edit, edit_of_segments, gives, refuses}
 use Rattle.yq_text.specs.Exchanging as exchange
 
@@ -33,18 +33,18 @@ put_splices (x ∷ b) o l w (y ∷ r) = append-nil _ ∙ λ i. splice_at (from_s
 -- ---- the segments
 
 abbrev pub made_text : List ℕ → FlowEdit → List ℕ
-made_text front e = (front ++ (e.lead ++ e.written)) ++ e.behind
+made_text front e = (front ++ (e.lead ++ e.written)) ++ e.after
 
 -- where the text in front of them is known
-module _ (t front : List ℕ) (e : FlowEdit) (is : t ≡ front ++ (e.old ++ e.behind)) where
+module _ (t front : List ℕ) (e : FlowEdit) (is : t ≡ front ++ (e.old ++ e.after)) where
   pub new_is : new_text (flow_segments t e) ≡ made_text front e
   new_is =
-      (λ i. before_is t front (e.old ++ e.behind) is i ++ (e.lead ++ (e.written ++ append-nil e.behind i)))
-      ∙ (ap (λ (l : List ℕ). front ++ l) (sym (append_assoc e.lead e.written e.behind)) ∙ sym (append_assoc front (e.lead ++ e.written) e.behind))
+      (λ i. before_is t front (e.old ++ e.after) is i ++ (e.lead ++ (e.written ++ append-nil e.after i)))
+      ∙ (ap (λ (l : List ℕ). front ++ l) (sym (append_assoc e.lead e.written e.after)) ∙ sym (append_assoc front (e.lead ++ e.written) e.after))
 
   splices_are : changes (flow_segments t e) ≡ splice_at (length front) e.old (e.lead ++ e.written)
   splices_are =
-      put_splices _ e.old e.lead e.written e.behind ∙ ap (λ (l : List ℕ). splice_at (length l) e.old (e.lead ++ e.written)) (before_is t front (e.old ++ e.behind) is)
+      put_splices _ e.old e.lead e.written e.after ∙ ap (λ (l : List ℕ). splice_at (length l) e.old (e.lead ++ e.written)) (before_is t front (e.old ++ e.after) is)
 
   pub segments_come : length (made_text front e) ≤ text_limit → edit_of_segments (flow_segments t e) ≡ gives (made_text front e) (splice_at (length front) e.old (e.lead ++ e.written))
   segments_come size =
@@ -66,13 +66,13 @@ module _ (d : Cut) (n : ℕ) (path : List Step) (v : Node) (read : read_at (cut_
   abbrev t : List ℕ
   t = cut_text d
 
-  there : flow_standing n d (last_step path) ≡ Some part
+  there : flow_placement n d (last_step path) ≡ Some part
   there =
-      ap (flow_standing n d) a.last
+      ap (flow_placement n d) a.last
       ∙ (ap (λ (o : Option CollPieces). o >>= flow_part a.step) a.found ∙ ap (option_map (λ (y : EntryPieces). record { step = a.step; collection = a.coll; part = y })) a.at)
 
-  no_block : option_map (value_put (has_text (node_in n path d)) (layout_of n d) v) (standing_at n path d) ≡ None
-  no_block = ap (λ (o : Option Standing). option_map (value_put (has_text (node_in n path d)) (layout_of n d) v) o) (none_there d n path a)
+  no_block : option_map (value_put (has_text (node_in n path d)) (layout_of n d) v) (placement_at n path d) ≡ None
+  no_block = ap (λ (o : Option Placement). option_map (value_put (has_text (node_in n path d)) (layout_of n d) v) o) (none_there d n path a)
 
   by_kept : (b : Bool) → keeps_scalar (Some (tree_of a.item.node)) v ≡ b → op_edits (replace n path v) d ≡ cond b (Some (keep t ∷ [])) (Some (flow_put t v part))
   by_kept b kept =

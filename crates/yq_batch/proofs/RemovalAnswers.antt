@@ -11,7 +11,7 @@ use Rattle.yq_flow_edits.specs.FlowEdits.{FlowEdit}
 use Rattle.yq_outline.specs.Counts.{count}
 use Rattle.yq_row_table.specs.Rows.{Cut, cut_text}
 use Rattle.yq_documents.specs.Reading.{cut_of, read_at}
-use Rattle.yq_places.{specs.FlowNodes.flow_collection, specs.FlowViews.{FlowAgrees, LeadsToHead}, specs.Standings.last_step}
+use Rattle.yq_places.{specs.FlowNodes.flow_collection, specs.FlowViews.{FlowAgrees, LeadsToHead}, specs.Placements.last_step}
 use Rattle.yq_places.{specs.declared.places.flow_node.FlowHead.FlowHead, proofs.FlowNodeLaws.with_more}
 use Rattle.yq_semantics.specs.Operations.{Operation, remove}
 use Rattle.yq_edit_laws.{proofs.CutLaws.text_read, proofs.TextFaults.text_utf8, proofs.FlowAnswers.{CollFound, coll_found}}
@@ -75,11 +75,11 @@ module _ (c : Cut) (n : ℕ) (stem left path : List Step) (s : Step) (last : las
   utf8 = subst IsUtf8 (text ∙ sym run.text) (text_utf8 (cut_text run.run.cut) run.run.cut (ap read_at text ∙ run.run.read))
 
   abbrev First : ℕ → Option Bool → ℕ → Type 0
-  First count after behind = AreFirstLeft w c run.run.cut n (stem ++ left) before.keep count after behind
+  First count after following = AreFirstLeft w c run.run.cut n (stem ++ left) before.keep count after following
 
   -- of one that ends before what was taken out all are left
-  all_are : (behind : ℕ) → length t - length w.rest ≤ before.keep → behind + (length t - length w.rest) ≡ length now → First (count_items w.items) None behind
-  all_are behind ends size_is =
+  all_are : (following : ℕ) → length t - length w.rest ≤ before.keep → following + (length t - length w.rest) ≡ length now → First (count_items w.items) None following
+  all_are following ends size_is =
       let size : length t ≡ length first_bytes + length (flow_items_text w.close w.items w.rest) = ap length opens ∙ length-append first_bytes (flow_items_text w.close w.items w.rest) in
       let front : List ℕ = first_bytes ++ flow_items_text w.close w.items [] in
       let is : t ≡ front ++ w.rest = opens ∙ (ap (λ (l : List ℕ). first_bytes ++ l) (items_append w.close w.items [] w.rest) ∙ sym (append_assoc first_bytes (flow_items_text w.close w.items []) w.rest)) in
@@ -96,7 +96,7 @@ module _ (c : Cut) (n : ℕ) (stem left path : List Step) (s : Step) (last : las
         ending = closing all.0;
         ends = tt;
         rest = mid ++ run.tail;
-        behind_is = omega (
+        following_is = omega (
           arith,
           size_is,
           ends,
@@ -122,24 +122,24 @@ module _ (c : Cut) (n : ℕ) (stem left path : List Step) (s : Step) (last : las
       }
 
   -- of one that is known
-  known_are : (k : LeftOf) → known ≡ Some k → map tree_step k.steps.now ≡ left → First k.count k.after k.behind
+  known_are : (k : LeftOf) → known ≡ Some k → map tree_step k.steps.now ≡ left → First k.count k.after k.following
   known_are k is same =
-      let h : IsLeftOf c run.run.cut n (stem ++ left) before.keep k.count k.after k.behind =
-      subst (λ (ss : List Step). IsLeftOf c run.run.cut n (stem ++ ss) before.keep k.count k.after k.behind) same (subst (IsKnownLeft c run.run.cut n stem before.keep) is run.known_is) in
-      subst (λ (v : CollPieces). AreFirstLeft v c run.run.cut n (stem ++ left) before.keep k.count k.after k.behind) (same_Some _ _ (sym h.1 ∙ found)) h.2
+      let h : IsLeftOf c run.run.cut n (stem ++ left) before.keep k.count k.after k.following =
+      subst (λ (ss : List Step). IsLeftOf c run.run.cut n (stem ++ ss) before.keep k.count k.after k.following) same (subst (IsKnownLeft c run.run.cut n stem before.keep) is run.known_is) in
+      subst (λ (v : CollPieces). AreFirstLeft v c run.run.cut n (stem ++ left) before.keep k.count k.after k.following) (same_Some _ _ (sym h.1 ∙ found)) h.2
 
   -- as the code finds it
-  pub are_left : (end : ℕ) (k : LeftOf) → end ≡ x.before + end_of q → IsLeftIn left known end before.keep (length (buffer_text before.text)) (count_parts (parts_of q)) k → First k.count k.after k.behind
+  pub are_left : (end : ℕ) (k : LeftOf) → end ≡ x.before + end_of q → IsLeftIn left known end before.keep (length (buffer_text before.text)) (count_parts (parts_of q)) k → First k.count k.after k.following
   are_left end k end_is (inl h) = known_are k h.0 h.1
   are_left end k end_is (inr h) =
       let all : count_parts (parts_of q) ≡ count_items w.items = ap count_parts (parts_are c n (stem ++ left) x q f) ∙ counted _ _ _ _ in
       let ends = ends_at c n (stem ++ left) x q f in
       let reaches : length t - length w.rest ≤ before.keep = omega (arith, h.0, end_is, ends) in
-      let size : k.behind + (length t - length w.rest) ≡ length now = omega (arith, h.3, end_is, ends, ap length run.text) in
-      subst (λ (o : Option Bool). First k.count o k.behind) (sym h.2) (subst (λ (m : ℕ). First m None k.behind) (sym (h.1 ∙ all)) (all_are k.behind reaches size))
+      let size : k.following + (length t - length w.rest) ≡ length now = omega (arith, h.3, end_is, ends, ap length run.text) in
+      subst (λ (o : Option Bool). First k.count o k.following) (sym h.2) (subst (λ (m : ℕ). First m None k.following) (sym (h.1 ∙ all)) (all_are k.following reaches size))
 
   -- an operation takes one out
-  module _ (i j : ℕ) (b : Option Bool) (behind : ℕ) (p : LeftPlace) (leads : LeadsToPart s i (parts_of q)) (goes : IsLeftPlace x.text.now (parts_of q) i j b p) (h : First j b behind) where
+  module _ (i j : ℕ) (b : Option Bool) (following : ℕ) (p : LeftPlace) (leads : LeadsToPart s i (parts_of q)) (goes : IsLeftPlace x.text.now (parts_of q) i j b p) (h : First j b following) where
     abbrev place : Goes w.close w.gap w.items (x.before + length (opening c n (stem ++ left) x q f)) i j s h.ending h.rest p x.before
     place = goes_out c n (stem ++ left) x q f s i j b p leads goes h.ending h.ends h.rest
 
@@ -169,8 +169,8 @@ module _ (c : Cut) (n : ℕ) (stem left path : List Step) (s : Step) (last : las
           opened_size c n (stem ++ left) x q f,
         )
 
-    now_is : now ≡ front ++ (g.old ++ g.behind)
-    now_is = sym text ∙ (h.is ∙ (ap (λ (l : List ℕ). h.opening ++ l) place.out.text ∙ sym (append_assoc h.opening place.front (g.old ++ g.behind))))
+    now_is : now ≡ front ++ (g.old ++ g.after)
+    now_is = sym text ∙ (h.is ∙ (ap (λ (l : List ℕ). h.opening ++ l) place.out.text ∙ sym (append_assoc h.opening place.front (g.old ++ g.after))))
 
     start_is : start ≡ length front
     start_is = omega (arith, place.start, open_size, length-append h.opening place.front)
@@ -182,14 +182,14 @@ module _ (c : Cut) (n : ℕ) (stem left path : List Step) (s : Step) (last : las
     short = omega (arith, h.kept place.within.0 place.within.1, place.within.2, place.start, open_size)
 
     -- what is left is known
-    known_next : (cut : Cut) → cut_text cut ≡ take start t ++ g.behind →
+    known_next : (cut : Cut) → cut_text cut ≡ take start t ++ g.after →
         cut ≡ laws.next_cut c n stem left path s before.keep run.tail run.run last z h.left g place.out.removes place.out.lead front now_is start finish start_is finish_is short →
-        AreFirstLeft w c cut n (stem ++ left) start i p.after behind
+        AreFirstLeft w c cut n (stem ++ left) start i p.after following
     known_next cut reads is = record {
       ending = place.ending;
       ends = place.ends;
       rest = h.rest;
-      behind_is = h.behind_is;
+      following_is = h.following_is;
       left =
           ap (flow_collection n (stem ++ left)) is
           ∙ (left_there run.run.cut n stem left z (ap read_at text ∙ run.run.read) h.left run.run.leads path s g last place.out.removes
@@ -199,19 +199,19 @@ module _ (c : Cut) (n : ℕ) (stem left path : List Step) (s : Step) (last : las
       is =
           reads
           ∙ (laws.front_stays c n stem left path s before.keep run.tail run.run last z h.left g place.out.removes place.out.lead front now_is start finish start_is finish_is short
-          ∙ (append_assoc h.opening place.front g.behind ∙ ap (λ (l : List ℕ). h.opening ++ l) (sym place.out.left_text)));
+          ∙ (append_assoc h.opening place.front g.after ∙ ap (λ (l : List ℕ). h.opening ++ l) (sym place.out.left_text)));
       kept = λ m less. omega (arith, place.short m less, place.start, open_size);
     }
 
-    module _ (k : LeftOf) (steps : map tree_step k.steps.now ≡ left) (count : k.count ≡ i) (others : k.after ≡ p.after) (size : k.behind ≡ behind) where
-      goes_on : IsFitting (remove n path) now → length (text_exchanged now start finish []) ≤ text_limit → (r : IsRemovalRun c n stem start g.behind) × IsKnownLeft c r.cut n stem start (Some k)
+    module _ (k : LeftOf) (steps : map tree_step k.steps.now ≡ left) (count : k.count ≡ i) (others : k.after ≡ p.after) (size : k.following ≡ following) where
+      goes_on : IsFitting (remove n path) now → length (text_exchanged now start finish []) ≤ text_limit → (r : IsRemovalRun c n stem start g.after) × IsKnownLeft c r.cut n stem start (Some k)
       goes_on fitting small =
           let on = laws.removal_goes_on c n stem left path s before.keep run.tail run.run last z h.left g place.out.removes place.out.lead front now_is start finish start_is finish_is short fitting small in
-          let first : AreFirstLeft w c on.0.cut n (stem ++ left) start i p.after behind = known_next on.0.cut (text_read (take start t ++ g.behind) on.0.cut on.0.read) on.1 in (
+          let first : AreFirstLeft w c on.0.cut n (stem ++ left) start i p.after following = known_next on.0.cut (text_read (take start t ++ g.after) on.0.cut on.0.read) on.1 in (
             on.0,
-            subst (λ (ss : List Step). IsLeftOf c on.0.cut n (stem ++ ss) start k.count k.after k.behind) (sym steps)
-                (subst (λ (m : ℕ). IsLeftOf c on.0.cut n (stem ++ left) start m k.after k.behind) (sym count)
-                (subst (λ (o : Option Bool). IsLeftOf c on.0.cut n (stem ++ left) start i o k.behind) (sym others) (subst (IsLeftOf c on.0.cut n (stem ++ left) start i p.after) (sym size) (w, found, first)))),
+            subst (λ (ss : List Step). IsLeftOf c on.0.cut n (stem ++ ss) start k.count k.after k.following) (sym steps)
+                (subst (λ (m : ℕ). IsLeftOf c on.0.cut n (stem ++ left) start m k.after k.following) (sym count)
+                (subst (λ (o : Option Bool). IsLeftOf c on.0.cut n (stem ++ left) start i o k.following) (sym others) (subst (IsLeftOf c on.0.cut n (stem ++ left) start i p.after) (sym size) (w, found, first)))),
           )
 
       pub can_take : CanExchange (remove n path) c n stem before start finish [] (Some k)
@@ -225,7 +225,7 @@ module _ (c : Cut) (n : ℕ) (stem left path : List Step) (s : Step) (last : las
             subst (λ (l : List ℕ). IsCharBoundary l finish) (sym run.text)
             (laws.finish_there c n stem left path s before.keep run.tail run.run last z h.left g place.out.removes place.out.lead front now_is start finish start_is finish_is short);
         utf8 = utf8;
-        on = λ fitting. exchange_on (remove n path) c n stem before now run.text start finish [] g.behind (Some k) tt fitting
+        on = λ fitting. exchange_on (remove n path) c n stem before now run.text start finish [] g.after (Some k) tt fitting
             (laws.removal_there c n stem left path s before.keep run.tail run.run last z h.left g place.out.removes place.out.lead front now_is start finish start_is finish_is short)
             (goes_on (subst (IsFitting (remove n path)) run.text fitting))
             (laws.new_text_is c n stem left path s before.keep run.tail run.run last z h.left g place.out.removes place.out.lead front now_is start finish start_is finish_is short);
@@ -235,7 +235,7 @@ module _ (c : Cut) (n : ℕ) (stem left path : List Step) (s : Step) (last : las
       }
 
   -- the only one that is left
-  module _ (above : List Step × Step) (inner : last_step left ≡ Some above) (behind : ℕ) (h : First 1 None behind) where
+  module _ (above : List Step × Step) (inner : last_step left ≡ Some above) (following : ℕ) (h : First 1 None following) where
     abbrev z1 : CollPieces
     z1 = left_coll w 1 h.ending h.rest
 
@@ -254,7 +254,7 @@ module _ (c : Cut) (n : ℕ) (stem left path : List Step) (s : Step) (last : las
     opened1 : length front1 + suc (length w.gap) ≡ length h.opening
     opened1 = sole.opens c n stem left path s before.keep run.tail run.run last above inner z1 h.left few h.opening (h.is)
 
-    module _ (start1 finish1 : ℕ) (new : List ℕ) (starts_at : start1 ≡ x.before + content_of q) (ends_there : finish1 + behind ≡ length (buffer_text before.text)) (empty : empty_text q ≡ Some new) where
+    module _ (start1 finish1 : ℕ) (new : List ℕ) (starts_at : start1 ≡ x.before + content_of q) (ends_there : finish1 + following ≡ length (buffer_text before.text)) (empty : empty_text q ≡ Some new) where
       at_start : start1 ≡ length front1
       at_start =
           omega (
@@ -270,7 +270,7 @@ module _ (c : Cut) (n : ℕ) (stem left path : List Step) (s : Step) (last : las
           )
 
       at_finish : finish1 ≡ length (front1 ++ e1.old)
-      at_finish = omega (arith, ends_there, ap length run.text, h.behind_is, sole.ends c n stem left path s before.keep run.tail run.run last above inner z1 h.left few)
+      at_finish = omega (arith, ends_there, ap length run.text, h.following_is, sole.ends c n stem left path s before.keep run.tail run.run last above inner z1 h.left few)
 
       short1 : start1 ≤ before.keep
       short1 = omega (arith, at_start, opened1, h.kept 0 (omega arith))
@@ -285,7 +285,7 @@ module _ (c : Cut) (n : ℕ) (stem left path : List Step) (s : Step) (last : las
         starts = subst (λ (l : List ℕ). IsCharBoundary l start1) (sym run.text) (sole.sole_start c n stem left path s before.keep run.tail run.run last above inner z1 h.left few start1 finish1 at_start at_finish short1);
         finishes = subst (λ (l : List ℕ). IsCharBoundary l finish1) (sym run.text) (sole.sole_finish c n stem left path s before.keep run.tail run.run last above inner z1 h.left few start1 finish1 at_start at_finish short1);
         utf8 = utf8;
-        on = λ fitting. exchange_on (remove n path) c n stem before now run.text start1 finish1 new1 (new1 ++ e1.behind) None tt fitting
+        on = λ fitting. exchange_on (remove n path) c n stem before now run.text start1 finish1 new1 (new1 ++ e1.after) None tt fitting
             (sole.sole_there c n stem left path s before.keep run.tail run.run last above inner z1 h.left few start1 finish1 at_start at_finish short1)
             (λ small. (sole.sole_goes_on c n stem left path s before.keep run.tail run.run last above inner z1 h.left few start1 finish1 at_start at_finish short1 (subst (IsFitting (remove n path)) run.text fitting) small, tt))
             (sole.sole_text c n stem left path s before.keep run.tail run.run last above inner z1 h.left few start1 finish1 at_start at_finish short1);
@@ -318,17 +318,17 @@ module _ (t : List ℕ) (n : ℕ) (stem path : List Step) (x : FlowHead) (r : Re
       (subst (λ (b : ℕ). CanExchange (remove n path) own_cut n stem before (x.before + h.place.start) b r.new.now r.known) (sym h.finish)
       (subst (λ (l : List ℕ). CanExchange (remove n path) own_cut n stem before (x.before + h.place.start) (x.before + h.place.end) l r.known) (sym h.new)
       (subst (CanExchange (remove n path) own_cut n stem before (x.before + h.place.start) (x.before + h.place.end) []) (sym h.known_is)
-      (can_take own_cut n stem own_left path h.step last x gone.node found_in before known run h.index gone.left.count gone.left.after gone.left.behind h.place h.leads h.goes first h.known h.steps_are h.count h.after h.behind))))
+      (can_take own_cut n stem own_left path h.step last x gone.node found_in before known run h.index gone.left.count gone.left.after gone.left.following h.place h.leads h.goes first h.known h.steps_are h.count h.after h.after))))
 
   sole_out : SoleGoes x gone.node gone.left before r → Can
   sole_out h =
       let first = are_left own_cut n stem own_left path ends.0 ends.1 x gone.node found_in before known run (x.before + end_of gone.node) gone.left refl gone.first in
       let coll : CollPieces = w own_cut n stem own_left path ends.0 ends.1 x gone.node found_in before known run in
-      let one : AreFirstLeft coll own_cut run.run.cut n (stem ++ own_left) before.keep 1 None gone.left.behind =
-      subst (λ (o : Option Bool). AreFirstLeft coll own_cut run.run.cut n (stem ++ own_left) before.keep 1 o gone.left.behind) h.alone
-      (subst (λ (k : ℕ). AreFirstLeft coll own_cut run.run.cut n (stem ++ own_left) before.keep k gone.left.after gone.left.behind) h.sole first) in
+      let one : AreFirstLeft coll own_cut run.run.cut n (stem ++ own_left) before.keep 1 None gone.left.following =
+      subst (λ (o : Option Bool). AreFirstLeft coll own_cut run.run.cut n (stem ++ own_left) before.keep 1 o gone.left.following) h.alone
+      (subst (λ (k : ℕ). AreFirstLeft coll own_cut run.run.cut n (stem ++ own_left) before.keep k gone.left.after gone.left.following) h.sole first) in
       subst (CanExchange (remove n path) own_cut n stem before r.start r.end r.new.now) (sym h.known)
-      (can_empty own_cut n stem own_left path ends.0 ends.1 x gone.node found_in before known run h.own (sym h.inner) gone.left.behind one r.start r.end r.new.now h.start h.finish h.new)
+      (can_empty own_cut n stem own_left path ends.0 ends.1 x gone.node found_in before known run h.own (sym h.inner) gone.left.following one r.start r.end r.new.now h.start h.finish h.new)
 
   either : PartGoes path x gone.node gone.left r ⊎ SoleGoes x gone.node gone.left before r → Can
   either (inl h) = part_out h

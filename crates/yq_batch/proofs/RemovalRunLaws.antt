@@ -6,11 +6,11 @@ use Rattle.yq_core.{specs.Answers.◌>>=◌, specs.Paths.Step, specs.Collections
 use Rattle.yq_flow_edits.{specs.FlowEdits.FlowEdit, specs.Removals.removing}
 use Rattle.yq_row_table.specs.Rows.{Cut, cut_text}
 use Rattle.yq_documents.specs.Reading.{read_at}
-use Rattle.yq_places.{specs.FlowNodes.flow_collection, specs.Standings.last_step}
+use Rattle.yq_places.{specs.FlowNodes.flow_collection, specs.Placements.last_step}
 use Rattle.yq_semantics.{specs.Operations.remove, specs.declared.refusal.Refusal.TheVariants.TooLarge}
 use Rattle.yq_edit_rules.{specs.Edits.{op_edits, or_stay, part_removed, rows_or_sole}, specs.FlowParts.{flow_removed, flow_segments}}
 use Rattle.yq_edit_laws.proofs.CutLaws.{text_read}
-use Rattle.yq_edit_laws.proofs.FlowRemoveLaws.{bounds, bytes, collection_before, head_behind, next, removed_reads}
+use Rattle.yq_edit_laws.proofs.FlowRemoveLaws.{bounds, bytes, collection_before, head_after, next, removed_reads}
 use Rattle.yq_edit_laws.{specs.Carried.{carried, carry_one}, specs.Edit.{by_reading, edit_of_segments, gives, refuses}}
 use Rattle.yq_edit_laws.specs.Theorems.{IsFitting}
 use Rattle.yq_batch.{specs.RemovalRuns.{IsRemovalRun, text_exchanged}, proofs.RunEdits.fits_now}
@@ -20,7 +20,7 @@ use Rattle.yq_batch.proofs.BackEdits.{gone_is, own_front}
 -- An edit of a collection as it is now, which begins in the bytes that stay, and puts nothing.
 module _ (c : Cut) (n : ℕ) (stem left path : List Step) (s : Step) (keep : ℕ) (tail : List ℕ) (run : IsRemovalRun c n stem keep tail)
     (last : last_step path ≡ Some (stem ++ left, s)) (z : CollPieces) (found : flow_collection n (stem ++ left) run.cut ≡ Some z)
-    (g : FlowEdit) (gone : removing s z ≡ Some g) (lead : g.lead ≡ []) (before : List ℕ) (now_is : take keep (cut_text c) ++ tail ≡ before ++ (g.old ++ g.behind))
+    (g : FlowEdit) (gone : removing s z ≡ Some g) (lead : g.lead ≡ []) (before : List ℕ) (now_is : take keep (cut_text c) ++ tail ≡ before ++ (g.old ++ g.after))
     (start finish : ℕ) (start_is : start ≡ length before) (finish_is : finish ≡ length (before ++ g.old)) (short : start ≤ keep) where
   abbrev pub t : List ℕ
   t = cut_text c
@@ -69,13 +69,13 @@ module _ (c : Cut) (n : ℕ) (stem left path : List Step) (s : Step) (keep : ℕ
   in_order = back_order c n stem keep tail run g before now_is start finish start_is finish_is short
 
   -- the run goes on after it
-  pub new_text_is : text_exchanged now start finish [] ≡ take start t ++ g.behind
+  pub new_text_is : text_exchanged now start finish [] ≡ take start t ++ g.after
   new_text_is =
       sym without
-      ∙ (back_text c n stem keep tail run g before now_is start finish start_is finish_is short ∙ ap (λ (l : List ℕ). take start t ++ (l ++ g.behind)) nothing)
+      ∙ (back_text c n stem keep tail run g before now_is start finish start_is finish_is short ∙ ap (λ (l : List ℕ). take start t ++ (l ++ g.after)) nothing)
 
-  pub front_stays : take start t ++ g.behind ≡ before ++ g.behind
-  front_stays = ap (λ (l : List ℕ). l ++ g.behind) (own_front c n stem keep tail run g before now_is start finish start_is finish_is short)
+  pub front_stays : take start t ++ g.after ≡ before ++ g.after
+  front_stays = ap (λ (l : List ℕ). l ++ g.after) (own_front c n stem keep tail run g before now_is start finish start_is finish_is short)
 
   abbrev pub next_cut : Cut
   next_cut = next run.cut n path (stem ++ left) s z g read last found gone stem left refl run.leads
@@ -84,7 +84,7 @@ module _ (c : Cut) (n : ℕ) (stem left path : List Step) (s : Step) (keep : ℕ
   first = gone_first c n stem keep tail run g before now_is start finish start_is finish_is short
 
   pub removal_goes_on : IsFitting (remove n path) now → length (text_exchanged now start finish []) ≤ text_limit →
-      (on : IsRemovalRun c n stem start g.behind) × (on.cut ≡ next_cut)
+      (on : IsRemovalRun c n stem start g.after) × (on.cut ≡ next_cut)
   removal_goes_on fitting small =
       let fit = fits_now (remove n path) now run.cut tt fitting run.read in
       let new_bytes = back_new c n stem keep tail run g before now_is start finish start_is finish_is short ∙ without in
@@ -93,12 +93,12 @@ module _ (c : Cut) (n : ℕ) (stem left path : List Step) (s : Step) (keep : ℕ
           within = omega (arith, short, run.within);
           cut = next_cut;
           read = ap read_at (sym (new_bytes ∙ new_text_is)) ∙ reads;
-          leads = head_behind run.cut n path (stem ++ left) s z g read last found gone stem left refl run.leads;
+          leads = head_after run.cut n path (stem ++ left) s z g read last found gone stem left refl run.leads;
           stays = λ ss u m at_end ends.
               let own : u.rest ≡ (m ++ first) ++ drop keep t = ends ∙ (ap (λ (l : List ℕ). m ++ l) (drop_is c n stem keep tail run g before now_is start finish start_is finish_is short) ∙ sym (append_assoc m first (drop keep t))) in
-              let rest : (m ++ first) ++ tail ≡ m ++ (g.old ++ g.behind) = append_assoc m first tail ∙ ap (λ (l : List ℕ). m ++ l) (gone_is c n stem keep tail run g before now_is start finish start_is finish_is short) in
+              let rest : (m ++ first) ++ tail ≡ m ++ (g.old ++ g.after) = append_assoc m first tail ∙ ap (λ (l : List ℕ). m ++ l) (gone_is c n stem keep tail run g before now_is start finish start_is finish_is short) in
               collection_before run.cut n path (stem ++ left) s z g read last found gone stem left refl run.leads ss (record u { rest = (m ++ first) ++ tail }) m (run.stays ss u (m ++ first) at_end own) rest
-              ∙ ap (λ (l : List ℕ). Some (record u { rest = m ++ (l ++ g.behind) })) nothing;
+              ∙ ap (λ (l : List ℕ). Some (record u { rest = m ++ (l ++ g.after) })) nothing;
         },
         refl,
       )

@@ -7,7 +7,7 @@ use Rattle.yq_text.{specs.Limit.text_limit, specs.Script.{Segment, changes, new_
 use Rattle.yq_core.specs.Paths.{Step}
 use Rattle.yq_row_table.specs.Rows.{Cut, cut_text}
 use Rattle.yq_documents.{specs.Reading.{documents, read_at}, proofs.ReadLaws.parts_read}
-use Rattle.yq_places.specs.Standings.{RowsOfEntry}
+use Rattle.yq_places.specs.Placements.{RowsOfEntry}
 use Rattle.yq_semantics.{specs.Fits.Fits, specs.Operations.{Operation, append}, specs.Rooms.room_of}
 use Rattle.yq_edit_rules.{specs.Edits.or_stay, specs.EntryEdits.more_lines, specs.Layouts.layout_of, specs.RowChanges.HoldsInline}
 use Rattle.yq_edit_laws.{proofs.CutLaws.text_read, specs.Carried.{carried, carry_one}}
@@ -15,7 +15,7 @@ use Rattle.yq_edit_laws.{specs.Edit.{by_reading, edit_of_segments, exchange_edit
 use Rattle.yq_batch.{specs.OpenRows.{AreRowsStill, IsOpenRows, IsRowStill, IsRowThere}, specs.OpenRuns.AreCharEdges}
 use Rattle.yq_batch.{specs.KeptBreaks.KeepsFirstBreak, specs.RowEnds.{AddsAtEnd, LeaveRoom, EndOfEntries, IsEndStill}}
 use Rattle.yq_batch.proofs.RowEndLaws.{adds, after, end_after, end_breaks, lines_are, read_new, row_stays, text_upto, upto}
-use Rattle.yq_batch.{proofs.RowOrder.StaysInFront, proofs.RowStills.{holds_now, row_in_front, some_between}}
+use Rattle.yq_batch.{proofs.RowOrder.StaysBefore, proofs.RowStills.{holds_now, row_at_front, some_between}}
 use Rattle.yq_batch.{proofs.SlotEnds.{apart_from, last_alone}, proofs.SlotLaws.{front_length, front_of, places_same}}
 use Rattle.yq_batch.{proofs.SlotPuts.edges_put, proofs.SlotStills.{new_text_is, old_text}, specs.declared.change.HeadChange.HeadChange}
 use Rattle.yq_batch.specs.declared.slots.SlotPlace.{SlotPlace}
@@ -222,7 +222,7 @@ module _ (op : Operation) (c : Cut) (m : ℕ) (slots slots2 : List SlotView) (wh
     own_after no_text = absurd (none-some _ (sym no_text ∙ put.put.new))
 
     -- the rows before it
-    stays : (mid : List ℕ) (u : Step) (us : List Step) (e : RowsOfEntry) → HoldsInline e → (k : IsRowThere e m (u ∷ us) d (mid ++ (put_text s ++ rest))) → StaysInFront k.now m (u ∷ us) next
+    stays : (mid : List ℕ) (u : Step) (us : List Step) (e : RowsOfEntry) → HoldsInline e → (k : IsRowThere e m (u ∷ us) d (mid ++ (put_text s ++ rest))) → StaysBefore k.now m (u ∷ us) next
     stays mid u us e holds k =
         row_stays z m d rest read es.here a.key a.value a.plain a.valid fit low u us k.now k.found
         (some_between m u us d k.now (mid ++ (put_text s ++ rest)) (length rest) read k.found (holds_now e k.now k.row k.line holds) k.back
@@ -237,7 +237,7 @@ module _ (op : Operation) (c : Cut) (m : ℕ) (slots slots2 : List SlotView) (wh
         let made : text_from t f.place.end (fs ++ (s2 ∷ [])) ≡ mid ++ ((put_text s ++ new) ++ rest) =
         new_text_is c s s2 [] same_place [] (put_text s) (put_text s ++ new) slot_old slot_new f.place.end fs h.3 ∙ ap (λ (l : List ℕ). mid ++ ((put_text s ++ new) ++ l)) rest_is in (
           subst (IsRowStill c next m f) (sym made)
-              (row_in_front c d next m read read_after before (put_text s ++ rest) ((put_text s ++ new) ++ rest) (text ∙ now_split) (text_after ∙ next_split) f mid (subst (IsRowStill c d m f) old known.0)
+              (row_at_front c d next m read read_after before (put_text s ++ rest) ((put_text s ++ new) ++ rest) (text ∙ now_split) (text_after ∙ next_split) f mid (subst (IsRowStill c d m f) old known.0)
               (λ u us e found holds here k. stays mid u us e holds k)),
           stills f.place.end fs h.3 known.1,
         )

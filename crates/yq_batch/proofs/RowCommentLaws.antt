@@ -6,11 +6,11 @@ use Rattle.yq_text.specs.Limit.{text_limit}
 use Rattle.yq_core.specs.Paths.{Step}
 use Rattle.yq_row_table.{specs.Rows.{Cut, cut_text}, specs.View.slices}
 use Rattle.yq_documents.specs.Reading.{cut_of, read_at}
-use Rattle.yq_places.{specs.CommentPlaces.{LineEnd, end_in_line}, specs.StandingViews.IsHeldRow}
-use Rattle.yq_places.{specs.declared.places.held_row.HeldRow.HeldRow, specs.Standings.{Held, RowsOfEntry, held, rows_of_entry}}
+use Rattle.yq_places.{specs.CommentPlaces.{LineEnd, end_in_line}, specs.PlacementViews.IsHeldRow}
+use Rattle.yq_places.{specs.declared.places.held_row.HeldRow.HeldRow, specs.Placements.{Held, RowsOfEntry, held, rows_of_entry}}
 use Rattle.yq_places.proofs.HeldRowLaws.{no_root_rows}
-use Rattle.yq_edit_rules.{specs.RowStays.StandsStill, specs.StandingLaws.{HoldsPieces, StandsThere}, specs.TextPieces.IsPiece}
-use Rattle.yq_edit_rules.{proofs.StandingRows.rows_stand, proofs.TextPieceLaws.{piece_back, pieces_joined}}
+use Rattle.yq_edit_rules.{specs.RowStays.StaysInRows, specs.PlacementLaws.{HoldsPieces, HasItsRows}, specs.TextPieces.IsPiece}
+use Rattle.yq_edit_rules.{proofs.PlacementRows.rows_located, proofs.TextPieceLaws.{piece_back, pieces_joined}}
 use Rattle.yq_edit_rules.{specs.CommentEdits.{comment_put, comment_written}, specs.Operands.HasOperand}
 use Rattle.yq_edit_rules.{specs.RowChanges.{comment_front, comment_old, takes_white}, proofs.HeldPieces.held_spells}
 use Rattle.yq_edit_rules.proofs.TailPieces.{white_piece}
@@ -21,11 +21,11 @@ use Rattle.yq_batch.{specs.RowRuns.{PutsInRow, PutsSo, PutsText, bytes_in, rows_
 
 module _ (n : ℕ) (s : Step) (ss : List Step) (text : List ℕ) (c : Cut) (e : RowsOfEntry) (read : read_at (cut_text c) ≡ Some c) (at : rows_of_entry n (s ∷ ss) c ≡ Some e) (last : e.line ≡ length e.row.dashes) where
   abbrev lower : List ℕ
-  lower = (held e).break ++ ((held e).lines ++ ((held e).last ++ (held e).behind))
+  lower = (held e).break ++ ((held e).lines ++ ((held e).last ++ (held e).after))
 
-  pub comment_comes : (d : Cut) → read_at (cut_text d) ≡ Some d → (still : StandsStill e n (s ∷ ss) d) →
+  pub comment_comes : (d : Cut) → read_at (cut_text d) ≡ Some d → (still : StaysInRows e n (s ∷ ss) d) →
       PutsText (line_comment n (s ∷ ss) text) d (rows_still e still) (comment_old text (held e)) (comment_written text (held e).comment)
-      ((held e).break ++ ((held e).lines ++ ((held e).last ++ (held e).behind)))
+      ((held e).break ++ ((held e).lines ++ ((held e).last ++ (held e).after)))
   comment_comes d read_d still =
       let now : RowsOfEntry = rows_still e still in
       let edited = row_edits.comment n (s ∷ ss) text d now still.found last in
@@ -38,7 +38,7 @@ module _ (n : ℕ) (s : Step) (ss : List Step) (text : List ℕ) (c : Cut) (e : 
         changes = λ operand fit size. line_comments_change_rows n (s ∷ ss) text d now read_d still.found last operand fit size;
       }
 
-  own : StandsStill e n (s ∷ ss) c
+  own : StaysInRows e n (s ∷ ss) c
   own = record { start = e.start; front = e.front; found = at; size = refl }
 
   pub comment_text_is : cut_text c ≡ comment_front text (held e) ++ (comment_old text (held e) ++ lower)
@@ -49,15 +49,15 @@ module _ (n : ℕ) (s : Step) (ss : List Step) (text : List ℕ) (c : Cut) (e : 
   pieces_of = (held_spells n s ss c e read at last).1
 
   below : IsPiece lower
-  below = pieces_joined (held e).break _ pieces_of.break (pieces_joined (held e).lines _ pieces_of.lines (pieces_joined (held e).last (held e).behind pieces_of.last pieces_of.behind))
+  below = pieces_joined (held e).break _ pieces_of.break (pieces_joined (held e).lines _ pieces_of.lines (pieces_joined (held e).last (held e).after pieces_of.last pieces_of.after))
 
-  stands : StandsThere n s ss c e
-  stands = rows_stand n s ss c e read at
+  is_located : HasItsRows n s ss c e
+  is_located = rows_located n s ss c e read at
 
   white : IsPiece (held e).white
   white =
-      let tail = mark_tail n s ss c e stands last in
-      subst (λ (x : LineEnd). IsPiece x.white) (sym (mark_end n s ss c e stands last)) (white_piece tail.white tail.line.blank)
+      let tail = mark_tail n s ss c e is_located last in
+      subst (λ (x : LineEnd). IsPiece x.white) (sym (mark_end n s ss c e is_located last)) (white_piece tail.white tail.line.blank)
 
   gone : (b : Bool) → IsPiece (cond b (held e).white [] ++ (held e).comment)
   gone true = pieces_of.line
@@ -111,14 +111,14 @@ comment_puts_there t n (s ∷ ss) text white comment x put read is operand white
       valid = operand;
       before = comment_front text w;
       old = comment_old text w;
-      behind = w.break ++ (w.lines ++ (w.last ++ w.behind));
+      after = w.break ++ (w.lines ++ (w.last ++ w.after));
       text = comment_text_is n s ss text c e again is.found is.last;
       start = place;
       finish = stop;
       starts = subst (IsCharBoundary (cut_text c)) (sym place) (comment_starts n s ss text c e again is.found is.last);
       ends = subst (IsCharBoundary (cut_text c)) (sym stop) (comment_ends n s ss text c e again is.found is.last);
       there = λ d there breaks still. subst
-          (PutsSo (line_comment n (s ∷ ss) text) d (rows_still e still) (comment_old text w) (w.break ++ (w.lines ++ (w.last ++ w.behind))))
+          (PutsSo (line_comment n (s ∷ ss) text) d (rows_still e still) (comment_old text w) (w.break ++ (w.lines ++ (w.last ++ w.after))))
           (sym new) (comment_comes n s ss text c e again is.found is.last d there still);
     }
   where
@@ -136,7 +136,7 @@ comment_fits t n (s ∷ ss) white comment x read is whites comments =
     let again : read_at (cut_text c) ≡ Some c = ap read_at (text_read t c read) ∙ read in
     let e : RowsOfEntry = is.entry in
     let w : Held = held e in
-    let lower : List ℕ = w.break ++ (w.lines ++ (w.last ++ w.behind)) in
+    let lower : List ℕ = w.break ++ (w.lines ++ (w.last ++ w.after)) in
     let text = ap length (held_spells n s ss c e again is.found is.last).0 in
     let size = (cut_read (cut_text c) c again).size in
     let a : white ≡ w.white = whites ∙ ap (λ (y : LineEnd). y.white) (end_there e x is.tail) in

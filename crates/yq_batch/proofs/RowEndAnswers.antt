@@ -7,19 +7,19 @@ use Rattle.std.specs.Str.{IsCharBoundary, IsUtf8}
 use Rattle.yq_core.{specs.Paths.Step, specs.Text.is_empty, proofs.Bools.bind_some}
 use Rattle.yq_outline.{specs.declared.line_position.Position.Position, specs.Extents.dash_at, specs.Outline.null_node}
 use Rattle.yq_outline.{specs.RowWalk.{line_level, line_rank}, proofs.WalkLevels.to_dash}
-use Rattle.yq_row_table.specs.Rows.{Block, Content, Cut, Inline, Nothing, Part, Row, RowMark, behind_columns, cut_text, dashes_text}
+use Rattle.yq_row_table.specs.Rows.{Block, Content, Cut, Inline, Nothing, Part, Row, RowMark, after_columns, cut_text, dashes_text}
 use Rattle.yq_row_table.{specs.Rows.{mark_column, print_row, rows_text}, specs.Seams.is_block}
 use Rattle.yq_row_table.specs.View.{Slices, content_cut, last_dash, slices}
 use Rattle.yq_documents.{specs.LinesInRows.{document_row, row_line_at}, specs.Located.steps_of, specs.Reading.{cut_of, read_at}}
 use Rattle.yq_documents.specs.declared.path.Path.{Path}
 use Rattle.yq_places.{specs.PlacedRows.{PlacedPart, placed_document}, specs.RowLineReading.position_in}
-use Rattle.yq_places.specs.Standings.{Held, LinesIn, MarkPieces, RowsOfEntry, alone, before_entry, behind_entry, behind_mark, below, beside}
-use Rattle.yq_places.specs.Standings.{compact, compact_in, compact_lines, entry_standing, held, is_alone, lone, root, root_lines}
-use Rattle.yq_places.{specs.Standings.{root_standing, rows_of_entry, standing_at, under}, proofs.DashLaws.line_within}
+use Rattle.yq_places.specs.Placements.{Held, LinesIn, MarkPieces, RowsOfEntry, alone, before_entry, after_entry, past_mark, below, beside}
+use Rattle.yq_places.specs.Placements.{compact, compact_in, compact_lines, entry_placement, held, is_alone, lone, root, root_lines}
+use Rattle.yq_places.{specs.Placements.{root_placement, rows_of_entry, placement_at, under}, proofs.DashLaws.line_within}
 use Rattle.yq_places.proofs.PlacedPartLaws.{map_some}
-use Rattle.yq_edit_rules.{specs.StandingLaws.StandsThere, proofs.AppendPlaces.kept_pieces}
-use Rattle.yq_edit_rules.{proofs.CommentRowLaws.{entry_is_row, entry_row, rows_front}, proofs.PlacedPartLaws.document_stands_at}
-use Rattle.yq_edit_rules.proofs.StandingRows.{rows_stand}
+use Rattle.yq_edit_rules.{specs.PlacementLaws.HasItsRows, proofs.AppendPlaces.kept_pieces}
+use Rattle.yq_edit_rules.{proofs.CommentRowLaws.{entry_is_row, entry_row, rows_front}, proofs.PlacedPartLaws.document_is_there_at}
+use Rattle.yq_edit_rules.proofs.PlacementRows.{rows_located}
 use Rattle.yq_edit_laws.{proofs.CollectionRows.columns_are, proofs.CutLaws.text_read}
 use Rattle.yq_edit_laws.{proofs.LinesAppends.{compact_text_ended, root_text_ended}, proofs.UnderAppends.text_ended}
 use Rattle.yq_batch.specs.RowEnds.{AreMappingRows, EndOfEntries, EndsAfterRows, EndsHere, EndsLineAt, HasNoHead, IsAfterDash, IsEndAt}
@@ -29,7 +29,7 @@ use Rattle.yq_row_table.specs.Rows as rows
 
 -- ---- what is under a key or dash, by what is at it
 
-module _ (e : RowsOfEntry) (h : Held) (column : ℕ) (last : e.line ≡ length e.row.dashes) (at : entry_standing e ≡ under h column) where
+module _ (e : RowsOfEntry) (h : Held) (column : ℕ) (last : e.line ≡ length e.row.dashes) (at : entry_placement e ≡ under h column) where
   abbrev HoldsUnder : Type 0
   HoldsUnder = HasNoHead e × AreMappingRows e.under column × (held e ≡ h)
 
@@ -37,11 +37,11 @@ module _ (e : RowsOfEntry) (h : Held) (column : ℕ) (last : e.line ≡ length e
   rows_by [] is found = absurd (cc)
   rows_by (r ∷ rs) is found = by (is_alone r) refl found
     where
-      by : (b : Bool) → is_alone r ≡ b → cond b (alone (lone (before_entry e ++ print_row e.row []) r (rows_text rs (behind_entry e)))) (under (held e) r.column) ≡ under h column → AreMappingRows e.under column × (held e ≡ h)
+      by : (b : Bool) → is_alone r ≡ b → cond b (alone (lone (before_entry e ++ print_row e.row []) r (rows_text rs (after_entry e)))) (under (held e) r.column) ≡ under h column → AreMappingRows e.under column × (held e ≡ h)
       by true single same = absurd (cc)
       by false single same = (record { first = r; others = rs; are = is; marked = single; column_is = cc }, cc)
 
-  mark_by : (x : Content) → e.row.content ≡ x → behind_mark e x ≡ under h column → HoldsUnder
+  mark_by : (x : Content) → e.row.content ≡ x → past_mark e x ≡ under h column → HoldsUnder
   mark_by (Nothing tail) is found =
       let x = rows_by e.under refl found in (record { last = last; plain = ap is_block is; none = ap (λ (y : Content). is_empty (content_cut y).3) is }, x.0, x.1)
   mark_by (Inline space node tail) is found = by (is_empty (slices e.row).head) refl found
@@ -53,7 +53,7 @@ module _ (e : RowsOfEntry) (h : Held) (column : ℕ) (last : e.line ≡ length e
 
   pub is_under : HoldsUnder
   is_under =
-      mark_by e.row.content refl (sym (ap (λ (b : Bool). cond b (behind_mark e e.row.content) (compact_in e)) (eq-eqb e.line (length e.row.dashes) last)) ∙ at)
+      mark_by e.row.content refl (sym (ap (λ (b : Bool). cond b (past_mark e e.row.content) (compact_in e)) (eq-eqb e.line (length e.row.dashes) last)) ∙ at)
 
 -- ---- how deep it is
 
@@ -87,19 +87,19 @@ more_dashes zero (n ∷ ns) less = omega arith
 more_dashes (suc k) (n ∷ ns) less =
     omega (arith, more_dashes k ns (omega (arith, less)), length-append (replicate n 32) (dashes_text (take k ns) []), length-append (replicate n 32) (dashes_text (take (suc k) ns) []))
 
-dash_deep : (e : RowsOfEntry) → e.line < length e.row.dashes → line_level e.line (slices e.row) < 3 * behind_columns e.row.column (take (suc e.line) e.row.dashes) + 2
+dash_deep : (e : RowsOfEntry) → e.line < length e.row.dashes → line_level e.line (slices e.row) < 3 * after_columns e.row.column (take (suc e.line) e.row.dashes) + 2
 dash_deep e less = omega (arith, line_deep e (omega (arith, less)), more_dashes e.line e.row.dashes less, columns_are e.row.column (take (suc e.line) e.row.dashes))
 
 -- ---- in a text
 
 -- the end of a mapping, where it ends with a line
 module _ (t : List ℕ) (n : ℕ) (z : EndOfEntries) (read : read_at t ≡ Some (cut_of t)) (q : PlacedPart) (placed : placed_document n (cut_of t) ≡ Some q) (front back : List Row) (rows_are : q.part.rows ≡ front ++ back)
-    (ends : EndsAfterRows n z.steps z (cut_of t) front back) (text : List ℕ) (line : q.before ++ rows_text front [] ≡ text ++ (10 ∷ [])) (size : z.at + length (rows_text back (q.part.end ++ q.behind)) ≡ length t) where
+    (ends : EndsAfterRows n z.steps z (cut_of t) front back) (text : List ℕ) (line : q.before ++ rows_text front [] ≡ text ++ (10 ∷ [])) (size : z.at + length (rows_text back (q.part.end ++ q.after)) ≡ length t) where
   abbrev c : Cut
   c = cut_of t
 
   abbrev rest : List ℕ
-  rest = rows_text back (q.part.end ++ q.behind)
+  rest = rows_text back (q.part.end ++ q.after)
 
   abbrev before : List ℕ
   before = q.before ++ rows_text front []
@@ -121,7 +121,7 @@ module _ (t : List ℕ) (n : ℕ) (z : EndOfEntries) (read : read_at t ≡ Some 
     back = back;
     rows_are = rows_are;
     ends = ends;
-    behind = refl;
+    after = refl;
     text = text;
     ended = parts ∙ (ap (λ (l : List ℕ). l ++ rest) line ∙ append_assoc text (10 ∷ []) rest);
   }
@@ -130,7 +130,7 @@ module _ (t : List ℕ) (n : ℕ) (z : EndOfEntries) (read : read_at t ≡ Some 
   place = omega (arith, size, ap length all, ap length parts, length-append before rest)
 
   utf8 : IsUtf8 rest
-  utf8 = let a = adds z n c rest again here [] null_node in subst IsUtf8 a.behind (kept_pieces n z.steps c a.x again a.place).1.utf8
+  utf8 = let a = adds z n c rest again here [] null_node in subst IsUtf8 a.after (kept_pieces n z.steps c a.x again a.place).1.utf8
 
   pub known : IsEndIn c n z
   known = record {
@@ -149,24 +149,24 @@ module _ (t : List ℕ) (p : Path) (s : Step) (ss : List Step) (steps : steps_of
   end_of first = record { steps = s ∷ ss; first = first; column = w.column; at = w.at }
 
   pub end_known : (first : ℕ) → IsUnderMark (end_of first) e ⊎ IsAfterDash (end_of first) e → line_level e.line (slices e.row) < 3 * w.column + 2 →
-      (text : List ℕ) → before_entry e ++ print_row e.row (rows_text e.under []) ≡ text ++ (10 ∷ []) → w.at + length (behind_entry e) ≡ length t →
+      (text : List ℕ) → before_entry e ++ print_row e.row (rows_text e.under []) ≡ text ++ (10 ∷ []) → w.at + length (after_entry e) ≡ length t →
       ((k : ℕ) → w.first ≤ document_row p.doc cut + k → first ≤ k) → (z : EndOfEntries) × IsEndAt cut w.path.now.doc w z
   end_known first place deep text ended size later =
       let again : read_at (cut_text cut) ≡ Some cut = ap read_at (text_read t cut read) ∙ read in
       let q = bind_some (placed_document p.doc cut) found in
       let own = entry_placed p.doc (s ∷ ss) cut e q.0 found q.1 in
-      let stands : StandsThere p.doc s ss cut e = rows_stand p.doc s ss cut e again found in
-      let part : stands.part ≡ q.0.part = same_Some _ _ (sym stands.old.there ∙ (document_stands_at cut p.doc q.0 q.1).there) in
+      let is_located : HasItsRows p.doc s ss cut e = rows_located p.doc s ss cut e again found in
+      let part : is_located.part ≡ q.0.part = same_Some _ _ (sym is_located.old.there ∙ (document_is_there_at cut p.doc q.0 q.1).there) in
       let before : q.0.before ++ rows_text (e.front ++ (e.row ∷ e.under)) [] ≡ before_entry e ++ print_row e.row (rows_text e.under []) =
       (λ i. sym own.0 i ++ rows_front e.front (e.row ∷ e.under) [] i) ∙ sym (append_assoc e.start (rows_text e.front []) (print_row e.row (rows_text e.under []))) in
-      let behind : behind_entry e ≡ rows_text e.back (q.0.part.end ++ q.0.behind) = λ i. rows_text e.back (own.1 i ++ own.2 i) in
+      let after : after_entry e ≡ rows_text e.back (q.0.part.end ++ q.0.after) = λ i. rows_text e.back (own.1 i ++ own.2 i) in
       subst (λ (o : Path). (z : EndOfEntries) × IsEndAt cut o.doc w z) (sym w_path) (
         end_of first,
         record {
           document = ap (λ (o : Path). o.doc) w_path;
           known = known t p.doc (end_of first) read q.0 q.1 (e.front ++ (e.row ∷ e.under)) e.back
-              (ap (λ (x : Part). x.rows) (sym part) ∙ (stands.rows_are ∙ sym (append_assoc e.front (e.row ∷ e.under) e.back)))
-              (record { entry = e; found = found; place = place; deep = deep; front_is = refl; back_is = refl }) text (before ∙ ended) (omega (arith, size, ap length behind));
+              (ap (λ (x : Part). x.rows) (sym part) ∙ (is_located.rows_are ∙ sym (append_assoc e.front (e.row ∷ e.under) e.back)))
+              (record { entry = e; found = found; place = place; deep = deep; front_is = refl; back_is = refl }) text (before ∙ ended) (omega (arith, size, ap length after));
           steps = ap steps_of w_path ∙ steps;
           first = later;
           at = refl;
@@ -175,63 +175,63 @@ module _ (t : List ℕ) (p : Path) (s : Step) (ss : List Step) (steps : steps_of
       )
 
 -- what is at an item or entry is in its last mark, if no collection begins after that of a dash before
-last_mark : (e : RowsOfEntry) (h : Held) (column : ℕ) → entry_standing e ≡ under h column → e.line ≡ length e.row.dashes
+last_mark : (e : RowsOfEntry) (h : Held) (column : ℕ) → entry_placement e ≡ under h column → e.line ≡ length e.row.dashes
 last_mark e h column at = go (eqb e.line (length e.row.dashes)) refl at
   where
-    go : (b : Bool) → eqb e.line (length e.row.dashes) ≡ b → cond b (behind_mark e e.row.content) (compact_in e) ≡ under h column → e.line ≡ length e.row.dashes
+    go : (b : Bool) → eqb e.line (length e.row.dashes) ≡ b → cond b (past_mark e e.row.content) (compact_in e) ≡ under h column → e.line ≡ length e.row.dashes
     go true is same = eqb-true e.line (length e.row.dashes) is
     go false is same = absurd (cc)
 
 -- a root is nothing that an item or entry holds
-no_entry_root : (q : PlacedPart) (rs : List Row) (h : Held) (column : ℕ) → root_standing q rs ≡ under h column → ⊥
+no_entry_root : (q : PlacedPart) (rs : List Row) (h : Held) (column : ℕ) → root_placement q rs ≡ under h column → ⊥
 no_entry_root q [] h column is = absurd (cc)
 no_entry_root q (r ∷ us) h column is = go (is_alone r) is
   where
-    go : (b : Bool) → cond b (alone (lone q.before r (rows_text us (q.part.end ++ q.behind)))) (root r.column (root_lines q r us)) ≡ under h column → ⊥
+    go : (b : Bool) → cond b (alone (lone q.before r (rows_text us (q.part.end ++ q.after)))) (root r.column (root_lines q r us)) ≡ under h column → ⊥
     go true same = absurd (cc)
     go false same = absurd (cc)
 
-no_dash_root : (q : PlacedPart) (rs : List Row) (k : MarkPieces) (column : ℕ) (l : LinesIn) → root_standing q rs ≡ compact k column l → ⊥
+no_dash_root : (q : PlacedPart) (rs : List Row) (k : MarkPieces) (column : ℕ) (l : LinesIn) → root_placement q rs ≡ compact k column l → ⊥
 no_dash_root q [] k column l is = absurd (cc)
 no_dash_root q (r ∷ us) k column l is = go (is_alone r) is
   where
-    go : (b : Bool) → cond b (alone (lone q.before r (rows_text us (q.part.end ++ q.behind)))) (root r.column (root_lines q r us)) ≡ compact k column l → ⊥
+    go : (b : Bool) → cond b (alone (lone q.before r (rows_text us (q.part.end ++ q.after)))) (root r.column (root_lines q r us)) ≡ compact k column l → ⊥
     go true same = absurd (cc)
     go false same = absurd (cc)
 
 -- what the code tells of the end of a mapping under a key or dash
-pub under_there : (t : List ℕ) (p : Path) (steps : List Step) (x : Position) (h : Held) (w : EntriesEnd) → steps_of p ≡ steps → read_at t ≡ Some (cut_of t) → standing_at p.doc steps (cut_of t) ≡ Some (under h w.column) →
+pub under_there : (t : List ℕ) (p : Path) (steps : List Step) (x : Position) (h : Held) (w : EntriesEnd) → steps_of p ≡ steps → read_at t ≡ Some (cut_of t) → placement_at p.doc steps (cut_of t) ≡ Some (under h w.column) →
     Some x ≡ option_map (position_in (document_row p.doc (cut_of t))) (row_line_at p (cut_of t)) →
-    h.mark.column < w.column → w.path.now ≡ p → w.first ≡ suc x.row → EndsLineAt t h.last h.behind w.at → (z : EndOfEntries) × IsEndAt (cut_of t) w.path.now.doc w z
+    h.mark.column < w.column → w.path.now ≡ p → w.first ≡ suc x.row → EndsLineAt t h.last h.after w.at → (z : EndOfEntries) × IsEndAt (cut_of t) w.path.now.doc w z
 under_there t p [] x h w steps read at line less path first ends =
-    let q = map_some (λ (y : PlacedPart). root_standing y y.part.rows) (placed_document p.doc (cut_of t)) (under h w.column) at in absurd (no_entry_root q.0 q.0.part.rows h w.column q.2)
+    let q = map_some (λ (y : PlacedPart). root_placement y y.part.rows) (placed_document p.doc (cut_of t)) (under h w.column) at in absurd (no_entry_root q.0 q.0.part.rows h w.column q.2)
 under_there t p (s ∷ ss) x h w steps read at line less path first ends =
     let c : Cut = cut_of t in
     let again : read_at (cut_text c) ≡ Some c = ap read_at (text_read t c read) ∙ read in
-    let e = map_some entry_standing (rows_of_entry p.doc (s ∷ ss) c) (under h w.column) at in
+    let e = map_some entry_placement (rows_of_entry p.doc (s ∷ ss) c) (under h w.column) at in
     let last = last_mark e.0 h w.column e.2 in
     let found = is_under e.0 h w.column last e.2 in
     let same : held e.0 ≡ h = found.2 in
     let ended = text_ended p.doc s ss c e.0 found.1.first found.1.others again e.1 found.1.are found.1.marked (ap (λ (y : Held). is_empty y.last) same ∙ ends.0) in
     let row = row_number c p e.0 x (ap (λ (us : List Step). rows_of_entry p.doc us c) steps ∙ e.1) line in
     end_known t p s ss steps read e.0 e.1 w path (suc (length e.0.front)) (inl (record { first = refl; bare = found.0; entries = found.1 }))
-    (mark_deep e.0 w.column last (omega (arith, less, ap (λ (y : Held). y.mark.column) same))) ended.0 ended.1 (omega (arith, ends.1, ap (λ (y : Held). length y.behind) same))
+    (mark_deep e.0 w.column last (omega (arith, less, ap (λ (y : Held). y.mark.column) same))) ended.0 ended.1 (omega (arith, ends.1, ap (λ (y : Held). length y.after) same))
     (λ k later. omega (arith, later, first, row))
 
 -- a collection begins after the dash of an item
-dash_by : (e : RowsOfEntry) (k : MarkPieces) (column : ℕ) (l : LinesIn) → entry_standing e ≡ compact k column l → (e.line ≡ length e.row.dashes → ⊥)
-    × (behind_columns e.row.column (take (suc e.line) e.row.dashes) ≡ column) × (compact_lines e ≡ l)
+dash_by : (e : RowsOfEntry) (k : MarkPieces) (column : ℕ) (l : LinesIn) → entry_placement e ≡ compact k column l → (e.line ≡ length e.row.dashes → ⊥)
+    × (after_columns e.row.column (take (suc e.line) e.row.dashes) ≡ column) × (compact_lines e ≡ l)
 dash_by e k column l is = go (eqb e.line (length e.row.dashes)) refl is
   where
     rows : (rs : List Row) → below e rs ≡ compact k column l → ⊥
     rows [] same = absurd (cc)
     rows (r ∷ rs) same = by (is_alone r) same
       where
-        by : (b : Bool) → cond b (alone (lone (before_entry e ++ print_row e.row []) r (rows_text rs (behind_entry e)))) (under (held e) r.column) ≡ compact k column l → ⊥
+        by : (b : Bool) → cond b (alone (lone (before_entry e ++ print_row e.row []) r (rows_text rs (after_entry e)))) (under (held e) r.column) ≡ compact k column l → ⊥
         by true same = absurd (cc)
         by false same = absurd (cc)
 
-    mark : (x : Content) → behind_mark e x ≡ compact k column l → ⊥
+    mark : (x : Content) → past_mark e x ≡ compact k column l → ⊥
     mark (Nothing tail) same = rows e.under same
     mark (Inline space node tail) same = by (is_empty (slices e.row).head) same
       where
@@ -240,56 +240,56 @@ dash_by e k column l is = go (eqb e.line (length e.row.dashes)) refl is
         by false same = absurd (cc)
     mark (Block space anchor b) same = absurd (cc)
 
-    go : (b : Bool) → eqb e.line (length e.row.dashes) ≡ b → cond b (behind_mark e e.row.content) (compact_in e) ≡ compact k column l →
-        (e.line ≡ length e.row.dashes → ⊥) × (behind_columns e.row.column (take (suc e.line) e.row.dashes) ≡ column) × (compact_lines e ≡ l)
+    go : (b : Bool) → eqb e.line (length e.row.dashes) ≡ b → cond b (past_mark e e.row.content) (compact_in e) ≡ compact k column l →
+        (e.line ≡ length e.row.dashes → ⊥) × (after_columns e.row.column (take (suc e.line) e.row.dashes) ≡ column) × (compact_lines e ≡ l)
     go true at same = absurd (mark e.row.content same)
     go false at same = (eqb-false e.line (length e.row.dashes) at, cc, cc)
 
 -- what the code tells of the end of one
 pub dash_there : (t : List ℕ) (p : Path) (steps : List Step) (x : Position) (k : MarkPieces) (l : LinesIn) (w : EntriesEnd) → steps_of p ≡ steps →
-    read_at t ≡ Some (cut_of t) → standing_at p.doc steps (cut_of t) ≡ Some (compact k w.column l) →
+    read_at t ≡ Some (cut_of t) → placement_at p.doc steps (cut_of t) ≡ Some (compact k w.column l) →
     Some x ≡ option_map (position_in (document_row p.doc (cut_of t))) (row_line_at p (cut_of t)) →
-    w.path.now ≡ p → w.first ≡ x.row → EndsLineAt t l.last l.behind w.at → (z : EndOfEntries) × IsEndAt (cut_of t) w.path.now.doc w z
+    w.path.now ≡ p → w.first ≡ x.row → EndsLineAt t l.last l.after w.at → (z : EndOfEntries) × IsEndAt (cut_of t) w.path.now.doc w z
 dash_there t p [] x k l w steps read at line path first ends =
-    let q = map_some (λ (y : PlacedPart). root_standing y y.part.rows) (placed_document p.doc (cut_of t)) (compact k w.column l) at in absurd (no_dash_root q.0 q.0.part.rows k w.column l q.2)
+    let q = map_some (λ (y : PlacedPart). root_placement y y.part.rows) (placed_document p.doc (cut_of t)) (compact k w.column l) at in absurd (no_dash_root q.0 q.0.part.rows k w.column l q.2)
 dash_there t p (s ∷ ss) x k l w steps read at line path first ends =
     let c : Cut = cut_of t in
     let again : read_at (cut_text c) ≡ Some c = ap read_at (text_read t c read) ∙ read in
-    let e = map_some entry_standing (rows_of_entry p.doc (s ∷ ss) c) (compact k w.column l) at in
+    let e = map_some entry_placement (rows_of_entry p.doc (s ∷ ss) c) (compact k w.column l) at in
     let is = dash_by e.0 k w.column l e.2 in
     let most : e.0.line ≤ length e.0.row.dashes = line_within p.doc (s ∷ ss) c (entry_row e.0) (entry_is_row p.doc (s ∷ ss) c e.0 e.1) in
     let less : e.0.line < length e.0.row.dashes = less_than e.0.line (length e.0.row.dashes) most is.0 in
     let ended = compact_text_ended p.doc s ss c e.0 again e.1 less (ap (λ (y : LinesIn). is_empty y.last) is.2 ∙ ends.0) in
     let row = row_number c p e.0 x (ap (λ (us : List Step). rows_of_entry p.doc us c) steps ∙ e.1) line in
     end_known t p s ss steps read e.0 e.1 w path (length e.0.front) (inr (record { first = refl; dash = less; column_is = is.1 }))
-    (omega (arith, dash_deep e.0 less, is.1)) ended.0 ended.1 (omega (arith, ends.1, ap (λ (y : LinesIn). length y.behind) is.2)) (λ j later. omega (arith, later, first, row))
+    (omega (arith, dash_deep e.0 less, is.1)) ended.0 ended.1 (omega (arith, ends.1, ap (λ (y : LinesIn). length y.after) is.2)) (λ j later. omega (arith, later, first, row))
   where
     less_than : (a b : ℕ) → a ≤ b → (a ≡ b → ⊥) → a < b
     less_than a b most other = elim (cases_lt a b) [ inl is ↦ is | inr least ↦ absurd (other (omega (arith, most, least))) ]
 
 -- a root that is a mapping, by its rows
-root_by : (q : PlacedPart) (rs : List Row) (l : LinesIn) (column : ℕ) → root_standing q rs ≡ root column l → (r : Row) × (us : List Row) × (rs ≡ r ∷ us) × (is_alone r ≡ false) × (r.column ≡ column) × (root_lines q r us ≡ l)
+root_by : (q : PlacedPart) (rs : List Row) (l : LinesIn) (column : ℕ) → root_placement q rs ≡ root column l → (r : Row) × (us : List Row) × (rs ≡ r ∷ us) × (is_alone r ≡ false) × (r.column ≡ column) × (root_lines q r us ≡ l)
 root_by q [] l column is = absurd (cc)
 root_by q (r ∷ us) l column is = go (is_alone r) refl is
   where
-    go : (b : Bool) → is_alone r ≡ b → cond b (alone (lone q.before r (rows_text us (q.part.end ++ q.behind)))) (root r.column (root_lines q r us)) ≡ root column l →
+    go : (b : Bool) → is_alone r ≡ b → cond b (alone (lone q.before r (rows_text us (q.part.end ++ q.after)))) (root r.column (root_lines q r us)) ≡ root column l →
         (x : Row) × (xs : List Row) × (r ∷ us ≡ x ∷ xs) × (is_alone x ≡ false) × (x.column ≡ column) × (root_lines q x xs ≡ l)
     go true single same = absurd (cc)
     go false single same = (r, us, refl, single, cc, cc)
 
 -- what is at an item or entry is no root
-no_root : (e : RowsOfEntry) (column : ℕ) (l : LinesIn) → entry_standing e ≡ root column l → ⊥
+no_root : (e : RowsOfEntry) (column : ℕ) (l : LinesIn) → entry_placement e ≡ root column l → ⊥
 no_root e column l is = go (eqb e.line (length e.row.dashes)) is
   where
     rows : (rs : List Row) → below e rs ≡ root column l → ⊥
     rows [] same = absurd (cc)
     rows (r ∷ rs) same = by (is_alone r) same
       where
-        by : (b : Bool) → cond b (alone (lone (before_entry e ++ print_row e.row []) r (rows_text rs (behind_entry e)))) (under (held e) r.column) ≡ root column l → ⊥
+        by : (b : Bool) → cond b (alone (lone (before_entry e ++ print_row e.row []) r (rows_text rs (after_entry e)))) (under (held e) r.column) ≡ root column l → ⊥
         by true same = absurd (cc)
         by false same = absurd (cc)
 
-    mark : (x : Content) → behind_mark e x ≡ root column l → ⊥
+    mark : (x : Content) → past_mark e x ≡ root column l → ⊥
     mark (Nothing tail) same = rows e.under same
     mark (Inline space node tail) same = by (is_empty (slices e.row).head) same
       where
@@ -298,19 +298,19 @@ no_root e column l is = go (eqb e.line (length e.row.dashes)) is
         by false same = absurd (cc)
     mark (Block space anchor b) same = absurd (cc)
 
-    go : (b : Bool) → cond b (behind_mark e e.row.content) (compact_in e) ≡ root column l → ⊥
+    go : (b : Bool) → cond b (past_mark e e.row.content) (compact_in e) ≡ root column l → ⊥
     go true same = mark e.row.content same
     go false same = absurd (cc)
 
 -- what the code tells of the end of a root
-pub root_there : (t : List ℕ) (p : Path) (steps : List Step) (l : LinesIn) (w : EntriesEnd) → steps_of p ≡ steps → read_at t ≡ Some (cut_of t) → standing_at p.doc steps (cut_of t) ≡ Some (root w.column l) →
-    w.path.now ≡ p → EndsLineAt t l.last l.behind w.at → (z : EndOfEntries) × IsEndAt (cut_of t) w.path.now.doc w z
+pub root_there : (t : List ℕ) (p : Path) (steps : List Step) (l : LinesIn) (w : EntriesEnd) → steps_of p ≡ steps → read_at t ≡ Some (cut_of t) → placement_at p.doc steps (cut_of t) ≡ Some (root w.column l) →
+    w.path.now ≡ p → EndsLineAt t l.last l.after w.at → (z : EndOfEntries) × IsEndAt (cut_of t) w.path.now.doc w z
 root_there t p (s ∷ ss) l w steps read at path ends =
-    let e = map_some entry_standing (rows_of_entry p.doc (s ∷ ss) (cut_of t)) (root w.column l) at in absurd (no_root e.0 w.column l e.2)
+    let e = map_some entry_placement (rows_of_entry p.doc (s ∷ ss) (cut_of t)) (root w.column l) at in absurd (no_root e.0 w.column l e.2)
 root_there t p [] l w steps read at path ends =
     let c : Cut = cut_of t in
     let again : read_at (cut_text c) ≡ Some c = ap read_at (text_read t c read) ∙ read in
-    let q = map_some (λ (y : PlacedPart). root_standing y y.part.rows) (placed_document p.doc c) (root w.column l) at in
+    let q = map_some (λ (y : PlacedPart). root_placement y y.part.rows) (placed_document p.doc c) (root w.column l) at in
     let r = root_by q.0 q.0.part.rows l w.column q.2 in
     let ended = root_text_ended p.doc c q.0 again q.1 r.0 r.1 r.2 r.3 (ap (λ (y : LinesIn). is_empty y.last) r.5 ∙ ends.0) in
     let z : EndOfEntries = record { steps = []; first = 0; column = w.column; at = w.at } in
@@ -319,7 +319,7 @@ root_there t p [] l w steps read at path ends =
       record {
         document = ap (λ (o : Path). o.doc) path;
         known = known t p.doc z read q.0 q.1 q.0.part.rows [] (sym (append-nil q.0.part.rows)) (record { first = r.0; others = r.1; are = r.2; marked = r.3; column_is = r.4 }, refl) ended.0 ended.1
-            (omega (arith, ends.1, ap (λ (y : LinesIn). length y.behind) r.5));
+            (omega (arith, ends.1, ap (λ (y : LinesIn). length y.after) r.5));
         steps = ap steps_of path ∙ steps;
         first = λ k later. omega arith;
         at = refl;

@@ -6,24 +6,24 @@ use Rattle.yq_text.{specs.Limit.text_limit, specs.Script.{Segment, new_text}}
 use Rattle.yq_core.{specs.BlockWritten.break_text, specs.Nodes.FlowNode, specs.Paths.Step, specs.Text.is_empty, specs.Tree.Node}
 use Rattle.yq_core.{specs.declared.block_types.Break.Break, specs.declared.block_types.Break.TheVariants.{CrLf, Lf}}
 use Rattle.yq_outline.{specs.Extents.dash_at, specs.RowWalk.{deeper_rows, line_level}}
-use Rattle.yq_row_table.{specs.Rows.{Cut, Inline, Part, Row, behind_columns, cut_text, print_row, rows_text}, specs.Seams.is_block}
-use Rattle.yq_row_table.{specs.Splices.behind_part, specs.View.slices}
+use Rattle.yq_row_table.{specs.Rows.{Cut, Inline, Part, Row, after_columns, cut_text, print_row, rows_text}, specs.Seams.is_block}
+use Rattle.yq_row_table.{specs.Splices.after_part, specs.View.slices}
 use Rattle.yq_documents.{specs.Documents.document_parts, specs.PartNumbers.part_number, specs.Reading.{documents, read_at}}
 use Rattle.yq_places.{specs.FirstBreak.first_break, specs.PlacedRows.{PlacedPart, before_part}}
-use Rattle.yq_places.specs.Standings.{RowsOfEntry, before_entry, behind_entry, rows_of_entry}
+use Rattle.yq_places.specs.Placements.{RowsOfEntry, before_entry, after_entry, rows_of_entry}
 use Rattle.yq_semantics.{specs.Fits.Fits, specs.Operations.append, specs.Rooms.room_of}
 use Rattle.yq_edit_rules.{specs.Appends.inserted, specs.BlockReading.is_filled, specs.BlockRows.key_row, specs.Changed.put_document}
 use Rattle.yq_edit_rules.{specs.EntryEdits.{entry_lines, more_lines}, specs.Layouts.layout_of, specs.Operands.HasOperand}
-use Rattle.yq_edit_rules.{specs.PlacedParts.StandsAt, specs.Rooms.{RowShape, row_shape}, specs.RowChanges.ChangesRow}
-use Rattle.yq_edit_rules.{specs.StandingLaws.StandsThere, proofs.CommentRowLaws.rows_front, proofs.FlowKeptLaws.one_other}
-use Rattle.yq_edit_rules.{proofs.LayoutLaws.more_like, proofs.PlacedPartLaws.document_stands_at, proofs.StandingRows.rows_stand}
+use Rattle.yq_edit_rules.{specs.PlacedParts.IsDocumentAt, specs.Rooms.{RowShape, row_shape}, specs.RowChanges.ChangesRow}
+use Rattle.yq_edit_rules.{specs.PlacementLaws.HasItsRows, proofs.CommentRowLaws.rows_front, proofs.FlowKeptLaws.one_other}
+use Rattle.yq_edit_rules.{proofs.LayoutLaws.more_like, proofs.PlacedPartLaws.document_is_there_at, proofs.PlacementRows.rows_located}
 use Rattle.yq_edit_laws.{proofs.CutLaws.text_read, proofs.EntryAdds.{AddsEntry, adds_as, new, next, read_next, row_is, unfilled_alike}}
-use Rattle.yq_edit_laws.proofs.LinesAppends.{compact_adds, compact_last_some, dash_stands, root_adds, root_last_some}
-use Rattle.yq_edit_laws.proofs.UnderAppends.{last_some, stands, under_adds}
+use Rattle.yq_edit_laws.proofs.LinesAppends.{compact_adds, compact_last_some, dash_is_there, root_adds, root_last_some}
+use Rattle.yq_edit_laws.proofs.UnderAppends.{last_some, is_located, under_adds}
 use Rattle.yq_batch.{specs.OpenRows.head_front, proofs.KeptBreakLaws.{break_before, holds_after}}
 use Rattle.yq_batch.specs.RowEnds.{AreMappingRows, EndOfEntries, EndsAfterRows, EndsHere, EndsInEntry, HasNoHead, IsAfterDash, IsUnderMark}
-use Rattle.yq_batch.proofs.RowOrder.{StaysInFront, begins_within, entry_placed, front_stays, one_end, one_keeps, one_rows, others_stay}
-use Rattle.yq_batch.{proofs.RowOrder.{part_put, q, stays_in_front}, proofs.RowsTakenOn.placed_put}
+use Rattle.yq_batch.proofs.RowOrder.{StaysBefore, begins_within, entry_placed, front_stays, one_end, one_keeps, one_rows, others_stay}
+use Rattle.yq_batch.{proofs.RowOrder.{part_put, q, stays_before}, proofs.RowsTakenOn.placed_put}
 use Rattle.yq_batch.proofs.RowsUnder.{IsRowIn, deeper_by_shapes, deeper_more, entries_more, entries_then, level_by_shape, row_in}
 use Rattle.yq_batch.{proofs.RowsUnder.{rows_split, same_split, under_size, under_then}, proofs.RowShapes.entry_like}
 
@@ -36,7 +36,7 @@ bare_there e now row line h = record {
 }
 
 -- The rows of an item or entry are there still, but for those under it, which are these then.
-module _ (z : EndOfEntries) (m : ℕ) (s : Step) (ss : List Step) (d next : Cut) (front back : List Row) (e : EndsInEntry m s ss z d front back) (read : read_at (cut_text next) ≡ Some next) (w : StaysInFront e.entry m (s ∷ ss) next)
+module _ (z : EndOfEntries) (m : ℕ) (s : Step) (ss : List Step) (d next : Cut) (front back : List Row) (e : EndsInEntry m s ss z d front back) (read : read_at (cut_text next) ≡ Some next) (w : StaysBefore e.entry m (s ∷ ss) next)
     (p : Part) (there : slice_get (document_parts next) m ≡ Some p) (us front_now : List Row) (front_is : front_now ≡ e.entry.front ++ (e.entry.row ∷ us)) (rows_are : p.rows ≡ front_now ++ back)
     (deep : deeper_rows (line_level e.entry.line (slices e.entry.row)) (map slices (us ++ e.entry.back)) ≡ length us) (entries : IsUnderMark z e.entry → AreMappingRows us z.column) where
   under_is : (w.now.under ≡ us) × (w.now.back ≡ e.entry.back)
@@ -53,7 +53,7 @@ module _ (z : EndOfEntries) (m : ℕ) (s : Step) (ss : List Step) (d next : Cut)
   place_now (inr k) = inr (record {
     first = k.first ∙ ap length (sym w.front);
     dash = omega (arith, k.dash, w.line, ap (λ (r : Row). length r.dashes) w.row);
-    column_is = (λ i. behind_columns (w.row i).column (take (suc (w.line i)) (w.row i).dashes)) ∙ k.column_is;
+    column_is = (λ i. after_columns (w.row i).column (take (suc (w.line i)) (w.row i).dashes)) ∙ k.column_is;
   })
 
   still_in : EndsInEntry m s ss z next front_now back
@@ -79,14 +79,14 @@ module _ (z : EndOfEntries) (m : ℕ) (d : Cut) (rest : List ℕ) (read_d : read
   abbrev p : Part
   p = h.placed.part
 
-  at : StandsAt d m h.placed
-  at = document_stands_at d m h.placed h.there
+  at : IsDocumentAt d m h.placed
+  at = document_is_there_at d m h.placed h.there
 
   abbrev pub upto : List ℕ
   upto = h.placed.before ++ rows_text h.front []
 
   pub text_upto : cut_text d ≡ upto ++ rest
-  text_upto = rows_split m d h.placed h.front h.back h.there h.rows_are ∙ ap (λ (t : List ℕ). upto ++ t) h.behind
+  text_upto = rows_split m d h.placed h.front h.back h.there h.rows_are ∙ ap (λ (t : List ℕ). upto ++ t) h.after
 
   -- what begins before the text after the mapping is in one of the rows up to its last one
   pub early : (u : Step) (us : List Step) (k : RowsOfEntry) → rows_of_entry m (u ∷ us) d ≡ Some k → length rest + length (head_front k) < length (cut_text d) → length k.front < length h.front
@@ -94,10 +94,10 @@ module _ (z : EndOfEntries) (m : ℕ) (d : Cut) (rest : List ℕ) (read_d : read
 
   -- a document with another part in its place
   abbrev placed_with : Part → PlacedPart
-  placed_with x = record { before = before_part (part_number m d) d; part = x; behind = behind_part (part_number m d) d }
+  placed_with x = record { before = before_part (part_number m d) d; part = x; after = after_part (part_number m d) d }
 
-  behind_with : (x : Part) → x.end ≡ p.end → rows_text h.back (x.end ++ (placed_with x).behind) ≡ rest
-  behind_with x end = (λ i. rows_text h.back (end i ++ at.behind i)) ∙ h.behind
+  after_with : (x : Part) → x.end ≡ p.end → rows_text h.back (x.end ++ (placed_with x).after) ≡ rest
+  after_with x end = (λ i. rows_text h.back (end i ++ at.after i)) ∙ h.after
 
   -- a value in a row of the mapping
   module _ (u : Step) (us : List Step) (k : RowsOfEntry) (found : rows_of_entry m (u ∷ us) d ≡ Some k) (later : z.first ≤ length k.front) (less : length rest + length (head_front k) < length (cut_text d))
@@ -146,7 +146,7 @@ module _ (z : EndOfEntries) (m : ℕ) (d : Cut) (rest : List ℕ) (read_d : read
       stays_after_dash s ss e k =
           let n : RowsOfEntry = e.entry in
           let l = entry_like d m y.part now y.there (others_stay d m y.part y.front y.back y.row y.new y.there y.rows_are y.shape).shapes (one_keeps y.part y.front y.back y.new) (s ∷ ss) n e.found in
-          let own : StandsThere m s ss next_cut l.now = rows_stand m s ss next_cut l.now read_next l.found in
+          let own : HasItsRows m s ss next_cut l.now = rows_located m s ss next_cut l.now read_next l.found in
           let rows : (l.now.front ++ (l.now.row ∷ l.now.under)) ++ l.now.back ≡ front_now ++ h.back =
           append_assoc l.now.front (l.now.row ∷ l.now.under) l.now.back ∙ (sym own.rows_are ∙ (ap (λ (a : Part). a.rows) (same_Some _ _ (sym own.old.there ∙ there)) ∙ rows_now)) in
           let size : length (l.now.front ++ (l.now.row ∷ l.now.under)) ≡ length front_now =
@@ -168,7 +168,7 @@ module _ (z : EndOfEntries) (m : ℕ) (d : Cut) (rest : List ℕ) (read_d : read
             place = inr (record {
               first = k.first ∙ sym l.size;
               dash = omega (arith, k.dash, l.line, ap (λ (r : RowShape). length r.dashes) l.shape);
-              column_is = (λ i. behind_columns (l.shape i).column (take (suc (l.line i)) (l.shape i).dashes)) ∙ k.column_is;
+              column_is = (λ i. after_columns (l.shape i).column (take (suc (l.line i)) (l.shape i).dashes)) ∙ k.column_is;
             });
             deep =
                 let level : line_level l.now.line (slices l.now.row) ≡ line_level n.line (slices n.row) = ap (λ (j : ℕ). line_level j (slices l.now.row)) l.line ∙ level_by_shape n.line l.now.row n.row l.shape in
@@ -189,7 +189,7 @@ module _ (z : EndOfEntries) (m : ℕ) (d : Cut) (rest : List ℕ) (read_d : read
         back = h.back;
         rows_are = rows_now;
         ends = stays_after z.steps h.ends;
-        behind = behind_with now (one_end y.part y.front y.back y.new ∙ ap (λ (a : Part). a.end) same);
+        after = after_with now (one_end y.part y.front y.back y.new ∙ ap (λ (a : Part). a.end) same);
         text = text;
         ended = text_next;
       }
@@ -204,7 +204,7 @@ module _ (z : EndOfEntries) (m : ℕ) (d : Cut) (rest : List ℕ) (read_d : read
       abbrev n : RowsOfEntry
       n = e.entry
 
-      placed_there : (n.start ≡ h.placed.before) × (n.end ≡ p.end) × (n.behind ≡ h.placed.behind)
+      placed_there : (n.start ≡ h.placed.before) × (n.end ≡ p.end) × (n.after ≡ h.placed.after)
       placed_there = entry_placed m (s ∷ ss) d n h.placed e.found h.there
 
       before : before_entry n ++ print_row n.row (rows_text n.under []) ≡ upto
@@ -212,26 +212,26 @@ module _ (z : EndOfEntries) (m : ℕ) (d : Cut) (rest : List ℕ) (read_d : read
           append_assoc n.start (rows_text n.front []) (print_row n.row (rows_text n.under []))
           ∙ ((λ i. placed_there.0 i ++ sym (rows_front n.front (n.row ∷ n.under) []) i) ∙ ap (λ (us : List Row). h.placed.before ++ rows_text us []) (sym e.front_is))
 
-      behind : behind_entry n ≡ rest
-      behind = (λ i. rows_text (sym e.back_is i) (placed_there.1 i ++ placed_there.2 i)) ∙ h.behind
+      following : after_entry n ≡ rest
+      following = (λ i. rows_text (sym e.back_is i) (placed_there.1 i ++ placed_there.2 i)) ∙ h.after
 
-      adds_as_here : (own : StandsThere m s ss d n) (column : ℕ) → column ≡ z.column →
+      adds_as_here : (own : HasItsRows m s ss d n) (column : ℕ) → column ≡ z.column →
           AddsEntry m (s ∷ ss) key v d own.part (n.front ++ (n.row ∷ n.under)) n.back column
-          (before_entry n ++ print_row n.row (rows_text n.under [])) (behind_entry n) →
+          (before_entry n ++ print_row n.row (rows_text n.under [])) (after_entry n) →
           AddsEntry m (s ∷ ss) key v d p h.front h.back z.column upto rest
       adds_as_here own column same =
-          adds_as m (s ∷ ss) key v d own.part p (n.front ++ (n.row ∷ n.under)) h.front n.back h.back column z.column (before_entry n ++ print_row n.row (rows_text n.under [])) upto (behind_entry n) rest
-          (same_Some _ _ (sym own.old.there ∙ at.there)) (sym e.front_is) (sym e.back_is) same before behind
+          adds_as m (s ∷ ss) key v d own.part p (n.front ++ (n.row ∷ n.under)) h.front n.back h.back column z.column (before_entry n ++ print_row n.row (rows_text n.under [])) upto (after_entry n) rest
+          (same_Some _ _ (sym own.old.there ∙ at.there)) (sym e.front_is) (sym e.back_is) same before following
 
       adds_by : IsUnderMark z n ⊎ IsAfterDash z n → AddsEntry m (s ∷ ss) key v d p h.front h.back z.column upto rest
       adds_by (inl u) =
           let r : Row = u.entries.first in
           let rs : List Row = u.entries.others in
           let broken = last_some m s ss d n r rs read_d e.found u.entries.are u.entries.marked h.text (before ∙ ended) in
-          adds_as_here (stands m s ss key v d n read_d e.found r rs u.bare.last u.bare.plain u.bare.none u.entries.are u.entries.marked broken) r.column u.entries.column_is
+          adds_as_here (is_located m s ss key v d n read_d e.found r rs u.bare.last u.bare.plain u.bare.none u.entries.are u.entries.marked broken) r.column u.entries.column_is
           (under_adds m s ss key v d n read_d e.found r rs u.bare.last u.bare.plain u.bare.none u.entries.are u.entries.marked broken)
       adds_by (inr k) =
-          adds_as_here (dash_stands m s ss d n read_d e.found k.dash) _ k.column_is
+          adds_as_here (dash_is_there m s ss d n read_d e.found k.dash) _ k.column_is
           (compact_adds m s ss d n read_d e.found k.dash key v (compact_last_some m s ss d n read_d e.found k.dash h.text (before ∙ ended)))
 
     pub adds_after : (steps : List Step) → EndsAfterRows m steps z d h.front h.back → AddsEntry m steps key v d p h.front h.back z.column upto rest
@@ -240,7 +240,7 @@ module _ (z : EndOfEntries) (m : ℕ) (d : Cut) (rest : List ℕ) (read_d : read
         let before : h.placed.before ++ rows_text p.rows [] ≡ upto = ap (λ (rs : List Row). h.placed.before ++ rows_text rs []) all in
         let are : p.rows ≡ e.0.first ∷ e.0.others = all ∙ e.0.are in
         adds_as m [] key v d p p p.rows h.front [] h.back e.0.first.column z.column _ upto _ rest refl all (sym e.1) e.0.column_is before
-        (ap (λ (rs : List Row). rows_text rs (p.end ++ h.placed.behind)) (sym e.1) ∙ h.behind)
+        (ap (λ (rs : List Row). rows_text rs (p.end ++ h.placed.after)) (sym e.1) ∙ h.after)
         (root_adds m d h.placed read_d h.there e.0.first e.0.others are e.0.marked key v (root_last_some m d h.placed read_d h.there e.0.first e.0.others are e.0.marked h.text (before ∙ ended)))
     adds_after (s ∷ ss) e = adds_by s ss e e.place
 
@@ -269,11 +269,11 @@ module _ (z : EndOfEntries) (m : ℕ) (d : Cut) (rest : List ℕ) (read_d : read
         abbrev longer : Part
         longer = inserted h.front (come ∷ []) h.back p
 
-        stays : (steps : List Step) (k : RowsOfEntry) → rows_of_entry m steps d ≡ Some k → length k.front < length h.front → StaysInFront k m steps after
-        stays = stays_in_front d m p longer h.front h.back (come ∷ h.back) at.there h.rows_are (one_rows p h.front h.back come) (one_end p h.front h.back come) (one_keeps p h.front h.back come)
+        stays : (steps : List Step) (k : RowsOfEntry) → rows_of_entry m steps d ≡ Some k → length k.front < length h.front → StaysBefore k m steps after
+        stays = stays_before d m p longer h.front h.back (come ∷ h.back) at.there h.rows_are (one_rows p h.front h.back come) (one_end p h.front h.back come) (one_keeps p h.front h.back come)
 
         -- rows before it
-        pub row_stays : (u : Step) (us : List Step) (k : RowsOfEntry) → rows_of_entry m (u ∷ us) d ≡ Some k → length rest + length (head_front k) < length (cut_text d) → StaysInFront k m (u ∷ us) after
+        pub row_stays : (u : Step) (us : List Step) (k : RowsOfEntry) → rows_of_entry m (u ∷ us) d ≡ Some k → length rest + length (head_front k) < length (cut_text d) → StaysBefore k m (u ∷ us) after
         row_stays u us k found less = stays (u ∷ us) k found (early u us k found less)
 
         rows_after : longer.rows ≡ (h.front ++ (come ∷ [])) ++ h.back
@@ -310,7 +310,7 @@ module _ (z : EndOfEntries) (m : ℕ) (d : Cut) (rest : List ℕ) (read_d : read
               back = h.back;
               rows_are = rows_after;
               ends = more_after z.steps h.ends;
-              behind = behind_with longer (one_end p h.front h.back come);
+              after = after_with longer (one_end p h.front h.back come);
               text = upto ++ (lines ++ br.0);
               ended =
                   text_read (new_text adds.segments) after read_new

@@ -10,9 +10,9 @@ use Rattle.yq_row_table.specs.Rows.{Cut, cut_text}
 use Rattle.yq_documents.{specs.declared.path.Path.Path, specs.Documents.document_parts, specs.Located.steps_of}
 use Rattle.yq_documents.{specs.LinesInRows.{document_row, row_line_at}, specs.Reading.{cut_of, read_at}, specs.Pieces.TextPiece}
 use Rattle.yq_places.{specs.CommentPlaces.{above_row, lines_above}, specs.FirstBreak.first_break, specs.PlacedRows.PlacedRow}
-use Rattle.yq_places.{specs.RowLineReading.position_in, proofs.PrintedTexts.map_some, specs.Standings.{RowsOfEntry, rows_of_entry}}
+use Rattle.yq_places.{specs.RowLineReading.position_in, proofs.PrintedTexts.map_some, specs.Placements.{RowsOfEntry, rows_of_entry}}
 use Rattle.yq_outline.specs.declared.line_position.Position.{Position}
-use Rattle.yq_edit_rules.{specs.RowStays.StandsStill, specs.CommentEdits.{above_rows, head_comment_segments, head_lines}}
+use Rattle.yq_edit_rules.{specs.RowStays.StaysInRows, specs.CommentEdits.{above_rows, head_comment_segments, head_lines}}
 use Rattle.yq_edit_rules.{specs.Operands.HasOperand, proofs.CommentRowLaws.{entry_found, entry_is_row, entry_row, rows_same}}
 use Rattle.yq_semantics.{specs.Meaning.head_comment_lines, specs.Operations.head_comment}
 use Rattle.yq_edit_laws.{proofs.HeadCommentLaws.head_comments_change_rows, proofs.RowEditLaws.row_edits}
@@ -31,13 +31,13 @@ module _ (n : ℕ) (steps : List Step) (text : List ℕ) (c : Cut) (e : RowsOfEn
   abbrev lines_with : List ℕ → List ℕ
   lines_with br = head_lines e.row.column br (head_comment_lines text)
 
-  pub head_comment_comes : (d : Cut) → read_at (cut_text d) ≡ Some d → (is_empty text ≡ false → first_break (cut_text d) ≡ first_break (cut_text c)) → (still : StandsStill e n steps d) →
-      PutsText (head_comment n steps text) d (rows_still e still) (above_rows e).1.text (lines_with (break_text (first_break (cut_text c)))) (above_rows e).1.behind
+  pub head_comment_comes : (d : Cut) → read_at (cut_text d) ≡ Some d → (is_empty text ≡ false → first_break (cut_text d) ≡ first_break (cut_text c)) → (still : StaysInRows e n steps d) →
+      PutsText (head_comment n steps text) d (rows_still e still) (above_rows e).1.text (lines_with (break_text (first_break (cut_text c)))) (above_rows e).1.after
   head_comment_comes d read_d same still =
       let now : RowsOfEntry = rows_still e still in
       let br : List ℕ = break_text (first_break (cut_text d)) in
       let edited = row_edits.head_comment n steps text d now still.found first in
-      subst (λ (l : List ℕ). PutsText (head_comment n steps text) d now (above_rows e).1.text l (above_rows e).1.behind) (lines_same e.row.column text (first_break (cut_text d)) (first_break (cut_text c)) same)
+      subst (λ (l : List ℕ). PutsText (head_comment n steps text) d now (above_rows e).1.text l (above_rows e).1.after) (lines_same e.row.column text (first_break (cut_text d)) (first_break (cut_text c)) same)
       (record {
         segments = head_comment_segments br text (above_rows now);
         front = (above_rows now).1.before;
@@ -47,7 +47,7 @@ module _ (n : ℕ) (steps : List Step) (text : List ℕ) (c : Cut) (e : RowsOfEn
         changes = λ operand fit size. head_comments_change_rows n steps text (first_break (cut_text d)) d now read_d still.found first operand fit size;
       })
 
-  pub above_text_is : read_at (cut_text c) ≡ Some c → rows_of_entry n steps c ≡ Some e → cut_text c ≡ (above_rows e).1.before ++ ((above_rows e).1.text ++ (above_rows e).1.behind)
+  pub above_text_is : read_at (cut_text c) ≡ Some c → rows_of_entry n steps c ≡ Some e → cut_text c ≡ (above_rows e).1.before ++ ((above_rows e).1.text ++ (above_rows e).1.after)
   above_text_is read at =
       let br : List ℕ = break_text (first_break (cut_text c)) in
       sym (edit_is (head_comment n steps text) c (head_comment_segments br text (above_rows e)) read (row_edits.head_comment n steps text c e at first)).old
@@ -65,7 +65,7 @@ record IsAbove (t : List ℕ) (p : Path) (w : ℕ × TextPiece) : Type 0 where
   found : rows_of_entry p.doc (steps_of p) (cut_of t) ≡ Some entry
   first : entry.line ≡ 0
   same : above_rows entry ≡ w
-  text : cut_text (cut_of t) ≡ w.1.before ++ (w.1.text ++ w.1.behind)
+  text : cut_text (cut_of t) ≡ w.1.before ++ (w.1.text ++ w.1.after)
 
 is_above : (t : List ℕ) (p : Path) (w : ℕ × TextPiece) → read_at t ≡ Some (cut_of t) → Some w ≡ lines_above p.doc (steps_of p) (cut_of t) → IsAbove t p w
 is_above t p w read is = go (rows_of_entry p.doc (steps_of p) (cut_of t)) refl
@@ -83,7 +83,7 @@ is_above t p w read is = go (rows_of_entry p.doc (steps_of p) (cut_of t)) refl
           found = at;
           first = first;
           same = same;
-          text = subst (λ (x : ℕ × TextPiece). cut_text (cut_of t) ≡ x.1.before ++ (x.1.text ++ x.1.behind)) same text;
+          text = subst (λ (x : ℕ × TextPiece). cut_text (cut_of t) ≡ x.1.before ++ (x.1.text ++ x.1.after)) same text;
         }
 
 -- the row of its line, among those of the text
@@ -101,18 +101,18 @@ above_fits t p w read is =
     let c : Cut = cut_of t in
     let again : read_at (cut_text c) ≡ Some c = ap read_at (text_read t c read) ∙ read in
     let text = ap length (is_above t p w read is).text in
-    omega (arith, (cut_read (cut_text c) c again).size, text, length-append w.1.before (w.1.text ++ w.1.behind), length-append w.1.text w.1.behind)
+    omega (arith, (cut_read (cut_text c) c again).size, text, length-append w.1.before (w.1.text ++ w.1.after), length-append w.1.text w.1.after)
 
 -- a head comment that is put in their place
 pub head_comment_puts_there : (t : List ℕ) (p : Path) (text : List ℕ) (x : Position) (w : ℕ × TextPiece) (put : RowPut) → read_at t ≡ Some (cut_of t) →
     Some x ≡ option_map (position_in (document_row p.doc (cut_of t))) (row_line_at p (cut_of t)) → Some w ≡ lines_above p.doc (steps_of p) (cut_of t) →
-    HasOperand (head_comment p.doc (steps_of p) text) → IsUtf8 w.1.text → IsUtf8 w.1.behind → put.doc ≡ p.doc → put.row ≡ x.row → put.start ≡ length w.1.before → put.end ≡ length w.1.before + length w.1.text →
+    HasOperand (head_comment p.doc (steps_of p) text) → IsUtf8 w.1.text → IsUtf8 w.1.after → put.doc ≡ p.doc → put.row ≡ x.row → put.start ≡ length w.1.before → put.end ≡ length w.1.before + length w.1.text →
     bytes_in string_bytes put.written ≡ Some (head_lines w.0 (break_text (first_break (cut_text (cut_of t)))) (head_comment_lines text)) →
     PutsInRow (head_comment p.doc (steps_of p) text) (cut_of t) put
-head_comment_puts_there t p text x w put read line is operand run behind doc row start finish written =
+head_comment_puts_there t p text x w put read line is operand run after doc row start finish written =
     let c : Cut = cut_of t in
     let h : IsAbove t p w = is_above t p w read is in
-    let apart : cut_text c ≡ (w.1.before ++ w.1.text) ++ w.1.behind = h.text ∙ sym (append_assoc w.1.before w.1.text w.1.behind) in
+    let apart : cut_text c ≡ (w.1.before ++ w.1.text) ++ w.1.after = h.text ∙ sym (append_assoc w.1.before w.1.text w.1.after) in
     record {
       steps = steps_of p;
       entry = h.entry;
@@ -122,19 +122,19 @@ head_comment_puts_there t p text x w put read line is operand run behind doc row
       valid = operand;
       before = w.1.before;
       old = w.1.text;
-      behind = w.1.behind;
+      after = w.1.after;
       text = h.text;
       start = start;
       finish = finish;
-      starts = subst (IsCharBoundary (cut_text c)) (sym start) (IsCharBoundary-at_seam (cut_text c) w.1.before _ h.text (IsUtf8-append w.1.text w.1.behind run behind));
-      ends = subst (IsCharBoundary (cut_text c)) (sym finish) (subst (IsCharBoundary (cut_text c)) (length-append w.1.before w.1.text) (IsCharBoundary-at_seam (cut_text c) (w.1.before ++ w.1.text) w.1.behind apart behind));
+      starts = subst (IsCharBoundary (cut_text c)) (sym start) (IsCharBoundary-at_seam (cut_text c) w.1.before _ h.text (IsUtf8-append w.1.text w.1.after run after));
+      ends = subst (IsCharBoundary (cut_text c)) (sym finish) (subst (IsCharBoundary (cut_text c)) (length-append w.1.before w.1.text) (IsCharBoundary-at_seam (cut_text c) (w.1.before ++ w.1.text) w.1.after apart after));
       there = λ d there breaks still. comes d there breaks h still;
     }
   where
-    comes : (d : Cut) → read_at (cut_text d) ≡ Some d → (is_empty text ≡ false → first_break (cut_text d) ≡ first_break (cut_text (cut_of t))) → (h : IsAbove t p w) → (still : StandsStill h.entry p.doc (steps_of p) d) →
-        PutsSo (head_comment p.doc (steps_of p) text) d (rows_still h.entry still) w.1.text w.1.behind (bytes_in string_bytes put.written)
+    comes : (d : Cut) → read_at (cut_text d) ≡ Some d → (is_empty text ≡ false → first_break (cut_text d) ≡ first_break (cut_text (cut_of t))) → (h : IsAbove t p w) → (still : StaysInRows h.entry p.doc (steps_of p) d) →
+        PutsSo (head_comment p.doc (steps_of p) text) d (rows_still h.entry still) w.1.text w.1.after (bytes_in string_bytes put.written)
     comes d there breaks h still =
         let br : List ℕ = break_text (first_break (cut_text (cut_of t))) in
-        subst (PutsSo (head_comment p.doc (steps_of p) text) d (rows_still h.entry still) w.1.text w.1.behind) (sym written)
-        (subst (λ (y : ℕ × TextPiece). PutsText (head_comment p.doc (steps_of p) text) d (rows_still h.entry still) y.1.text (head_lines y.0 br (head_comment_lines text)) y.1.behind) h.same
+        subst (PutsSo (head_comment p.doc (steps_of p) text) d (rows_still h.entry still) w.1.text w.1.after) (sym written)
+        (subst (λ (y : ℕ × TextPiece). PutsText (head_comment p.doc (steps_of p) text) d (rows_still h.entry still) y.1.text (head_lines y.0 br (head_comment_lines text)) y.1.after) h.same
         (head_comment_comes p.doc (steps_of p) text (cut_of t) h.entry h.first d there breaks still))

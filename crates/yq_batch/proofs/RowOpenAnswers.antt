@@ -6,7 +6,7 @@ use Rattle.std.{specs.declared.alloc.Global.Global, proofs.Math.Seq.drop-append_
 use Rattle.yq_core.{specs.Paths.Step, specs.Tree.Node}
 use Rattle.yq_row_table.specs.Rows.{Cut, cut_text}
 use Rattle.yq_documents.specs.Reading.{cut_of, read_at}
-use Rattle.yq_places.{specs.NodesAt.node_in, specs.Standings.{RowsOfEntry, held}, specs.StandingViews.IsHeldRow}
+use Rattle.yq_places.{specs.NodesAt.node_in, specs.Placements.{RowsOfEntry, held}, specs.PlacementViews.IsHeldRow}
 use Rattle.yq_places.{specs.declared.places.held_row.HeldRow.HeldRow, proofs.HeldRowLaws.no_root_rows}
 use Rattle.yq_semantics.{specs.Operations.{Operation, append, operation_of, operations_of, replace}, specs.declared.op.Op.Op}
 use Rattle.yq_edit_laws.{specs.Carried.carried, specs.Edit.gives, specs.Theorems.IsFitting, proofs.ApplyLaws.applied_by}

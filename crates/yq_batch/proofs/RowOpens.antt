@@ -8,10 +8,10 @@ use Rattle.yq_core.{specs.Paths.Step, specs.Tree.Node, specs.declared.style.Plac
 use Rattle.yq_outline.{specs.Outline.anchored, specs.Lines.{content_anchor, head_of}}
 use Rattle.yq_row_table.{specs.Rows.{Cut, Row, cut_text}, specs.View.slices}
 use Rattle.yq_documents.{specs.Reading.{documents, read_at}, proofs.ReadLaws.parts_read}
-use Rattle.yq_places.{specs.FirstBreak.first_break, specs.NodesAt.node_in, specs.Standings.{RowsOfEntry, held, rows_of_entry}}
+use Rattle.yq_places.{specs.FirstBreak.first_break, specs.NodesAt.node_in, specs.Placements.{RowsOfEntry, held, rows_of_entry}}
 use Rattle.yq_semantics.{specs.Fits.Fits, specs.Operations.replace, specs.Rooms.room_of}
 use Rattle.yq_edit_rules.{specs.BlockReading.is_filled, specs.Edits.{op_edits, or_stay}, specs.Operands.HasOperand}
-use Rattle.yq_edit_rules.{specs.Replacing.keeps_scalar, specs.RowChanges.{ChangesRow, HoldsInline}, specs.RowStays.StandsStill}
+use Rattle.yq_edit_rules.{specs.Replacing.keeps_scalar, specs.RowChanges.{ChangesRow, HoldsInline}, specs.RowStays.StaysInRows}
 use Rattle.yq_edit_rules.specs.WrittenValues.{value_text}
 use Rattle.yq_edit_laws.{proofs.CutLaws.{cut_read, text_read}, specs.Carried.{carried, carry_one}}
 use Rattle.yq_edit_laws.{specs.Edit.{by_reading, edit_of_segments, exchange_edit, gives}, specs.Theorems.IsFitting, proofs.ApplyLaws.fits}
@@ -20,7 +20,7 @@ use Rattle.yq_batch.{specs.OpenRuns.AreCharEdges, specs.RowRuns.PutsText}
 use Rattle.yq_batch.proofs.RowPutLaws.{head, node_there, value_comes, value_stays, value_text_is}
 use Rattle.yq_batch.proofs.RowStills.{holds_now, rows_around, some_between}
 use Rattle.yq_batch.{proofs.SlotLaws.{front_length, front_of, order_at, places_same}, proofs.RowEndLaws.end_stays}
-use Rattle.yq_batch.{proofs.RowsInFront.split_front, proofs.SlotEnds.{apart_from, last_behind, more_left}}
+use Rattle.yq_batch.{proofs.RowsBeforeOffset.split_front, proofs.SlotEnds.{apart_from, following_last, more_left}}
 use Rattle.yq_batch.{specs.RowEnds.{LeaveRoom, EndOfEntries, EndsHere, IsBeforeEnd, IsEndStill}, proofs.SlotPuts.{edges_put, none_put}}
 use Rattle.yq_batch.{proofs.SlotStills.{new_text_is, old_text}, specs.declared.slots.SlotPlace.SlotPlace}
 use Rattle.yq_batch.{specs.KeptBreaks.{IsUnbroken, KeepsFirstBreak}, proofs.KeptBreakLaws.{put_keeps, value_unbroken}}
@@ -94,7 +94,7 @@ module _ (c : Cut) (m : ℕ) (u : Step) (us : List Step) (v : Node) (slots slots
       node_there m u us run.cut k read there.found holds_k x.0 (ap (λ (r : Row). head_of r.content) there.row ∙ x.1)
       ∙ (ap (λ (r : Row). Some (anchored (content_anchor r.content) x.0)) there.row ∙ sym (node_there m u us c e whole found holds x.0 x.1))
 
-  abbrev itself : StandsStill k m (u ∷ us) run.cut
+  abbrev itself : StaysInRows k m (u ∷ us) run.cut
   itself = record { start = k.start; front = k.front; found = there.found; size = refl }
 
   comes : (ss : List Segment) → op_edits (replace m (u ∷ us) v) run.cut ≡ Some ss → carried (replace m (u ∷ us) v) now ≡ edit_of_segments ss
@@ -177,7 +177,7 @@ module _ (c : Cut) (m : ℕ) (u : Step) (us : List Step) (v : Node) (slots slots
 
   last_after : (z : EndOfEntries) → IsBeforeEnd e p z → (k : IsEndStill c run.cut m slots z) → (hs : List SlotView) × (put.back ≡ hs ++ (k.last ∷ []))
   last_after z less k =
-      last_behind put.front s put.back k.front k.last (sym put.old_is ∙ k.slots_are)
+      following_last put.front s put.back k.front k.last (sym put.old_is ∙ k.slots_are)
       (λ same. absurd (omega (arith, less.0, k.end, ap (λ (x : SlotView). x.place.end) same, ap (λ (x : SlotPlace). x.end) put.put.place_is)))
 
   end_in : (d : Cut) (z : EndOfEntries) → IsBeforeEnd e p z → IsEndStill c run.cut m slots z → EndThere d z →

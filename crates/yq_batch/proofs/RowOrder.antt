@@ -10,20 +10,20 @@ use Rattle.yq_outline.{specs.Ends.line_at_steps, specs.Lines.{lines_of_rows, row
 use Rattle.yq_row_table.{specs.Exchange.row_front, specs.Grammar.no_rows}
 use Rattle.yq_row_table.{specs.Rows.{Cut, Part, Row, cut_text, part_text, print_row, rows_text}, specs.View.slices}
 use Rattle.yq_row_table.{proofs.seams.SeamLaws.rows_text-append, proofs.splices.SpliceTexts.{own_end, own_gap}}
-use Rattle.yq_row_table.specs.Splices.{behind_part, first_gap, with_first_gap}
-use Rattle.yq_documents.{specs.Documents.document_parts, specs.LinesInRows.{RowLine, behind_one, row_line, row_line_of}}
+use Rattle.yq_row_table.specs.Splices.{after_part, first_gap, with_first_gap}
+use Rattle.yq_documents.{specs.Documents.document_parts, specs.LinesInRows.{RowLine, one_row_later, row_line, row_line_of}}
 use Rattle.yq_documents.{specs.PartNumbers.part_number, specs.Reading.read_at, proofs.PartNumberLaws.part_there}
 use Rattle.yq_places.{specs.CommentPlaces.text_to_line_end, specs.PlacedRows.{PlacedPart, before_part, placed_at, placed_document}}
 use Rattle.yq_places.specs.RowPieces.{anchor_before, space_before}
-use Rattle.yq_places.{specs.Standings.{RowsOfEntry, before_entry, entry_rows_at, held, rows_of_entry}, proofs.CommentEndLaws.row_text_parts}
-use Rattle.yq_places.{proofs.PlacedPartLaws.map_some, proofs.RemovalTexts.texts_then, proofs.RowLineSpans.steps_row}
-use Rattle.yq_places.proofs.UnderExchange.{lines_append}
-use Rattle.yq_edit_rules.{specs.Appends.inserted, specs.Changed.{KeepsRows, put_document}, specs.DocumentRows.behind_document}
-use Rattle.yq_edit_rules.{specs.Rooms.row_shape, specs.RowStays.StaysFrom, specs.StandingLaws.StandsThere, proofs.HeldLaws.front_is}
+use Rattle.yq_places.specs.Placements.{RowsOfEntry, before_entry, entry_rows_at, held, rows_of_entry}
+use Rattle.yq_places.{proofs.CommentEndLaws.row_text_parts, proofs.PlacedPartLaws.map_some, proofs.RemovalTexts.texts_then}
+use Rattle.yq_places.{proofs.RowLineSpans.steps_row, proofs.UnderExchange.lines_append}
+use Rattle.yq_edit_rules.{specs.Appends.inserted, specs.Changed.{KeepsRows, put_document}, specs.DocumentRows.after_document}
+use Rattle.yq_edit_rules.{specs.Rooms.row_shape, specs.RowStays.StaysFrom, specs.PlacementLaws.HasItsRows, proofs.HeldLaws.front_is}
 use Rattle.yq_edit_rules.{proofs.ChangedLaws.{document_put, nth_changed}, proofs.CommentRowLaws.rows_front}
-use Rattle.yq_edit_rules.{proofs.PlacedPartLaws.document_stands_at, proofs.RowStayLaws.rows_stay_there, proofs.StandingRows.rows_stand}
-use Rattle.yq_batch.{specs.OpenRows.head_front, proofs.OwnRowsStay.row_size, proofs.RowsInFront.split_front, proofs.RowsTakenOn.placed_put}
-use Rattle.yq_batch.proofs.UptoLaws.{line_stays}
+use Rattle.yq_edit_rules.{proofs.PlacedPartLaws.document_is_there_at, proofs.RowStayLaws.rows_stay_there, proofs.PlacementRows.rows_located}
+use Rattle.yq_batch.{specs.OpenRows.head_front, proofs.OwnRowsStay.row_size, proofs.RowsBeforeOffset.split_front}
+use Rattle.yq_batch.{proofs.RowsTakenOn.placed_put, proofs.UptoLaws.line_stays}
 
 -- ---- the text in front
 
@@ -55,17 +55,17 @@ front_long x =
 -- two items or entries of a document
 module _ (m : ℕ) (s t : Step) (ss ts : List Step) (c : Cut) (e f : RowsOfEntry) (read : read_at (cut_text c) ≡ Some c) (at : rows_of_entry m (s ∷ ss) c ≡ Some e)
     (also : rows_of_entry m (t ∷ ts) c ≡ Some f) where
-  one : StandsThere m s ss c e
-  one = rows_stand m s ss c e read at
+  one : HasItsRows m s ss c e
+  one = rows_located m s ss c e read at
 
-  other : StandsThere m t ts c f
-  other = rows_stand m t ts c f read also
+  other : HasItsRows m t ts c f
+  other = rows_located m t ts c f read also
 
   same_part : one.part ≡ other.part
   same_part = same_Some _ _ (sym one.old.there ∙ other.old.there)
 
   same_start : e.start ≡ f.start
-  same_start = append_cancel_right e.start f.start (part_text one.part (behind_document m c)) (sym (one.put one.part) ∙ other.put one.part)
+  same_start = append_cancel_right e.start f.start (part_text one.part (after_document m c)) (sym (one.put one.part) ∙ other.put one.part)
 
   rows : e.front ++ (e.row ∷ (e.under ++ e.back)) ≡ f.front ++ (f.row ∷ (f.under ++ f.back))
   rows = sym one.rows_are ∙ (ap (λ (p : Part). p.rows) same_part ∙ other.rows_are)
@@ -107,10 +107,10 @@ module _ (m : ℕ) (s t : Step) (ss ts : List Step) (c : Cut) (e f : RowsOfEntry
   comes_before less = elim (cases_lt (length f.front) (length e.front)) [ inl is ↦ is | inr least ↦ absurd (omega (arith, less, no_later least)) ]
 
 -- where the rows of an item or entry are in their document
-pub entry_placed : (m : ℕ) (steps : List Step) (c : Cut) (e : RowsOfEntry) (q : PlacedPart) → rows_of_entry m steps c ≡ Some e → placed_document m c ≡ Some q → (e.start ≡ q.before) × (e.end ≡ q.part.end) × (e.behind ≡ q.behind)
+pub entry_placed : (m : ℕ) (steps : List Step) (c : Cut) (e : RowsOfEntry) (q : PlacedPart) → rows_of_entry m steps c ≡ Some e → placed_document m c ≡ Some q → (e.start ≡ q.before) × (e.end ≡ q.part.end) × (e.after ≡ q.after)
 entry_placed m steps c e q is at =
     let x = map_some (entry_rows_at q) (row_line_of steps q.part.rows) e (sym (ap (λ (o : Option PlacedPart). o >>= λ y. option_map (entry_rows_at y) (row_line_of steps y.part.rows)) at) ∙ is) in
-    (sym (ap (λ (y : RowsOfEntry). y.start) x.2), sym (ap (λ (y : RowsOfEntry). y.end) x.2), sym (ap (λ (y : RowsOfEntry). y.behind) x.2))
+    (sym (ap (λ (y : RowsOfEntry). y.start) x.2), sym (ap (λ (y : RowsOfEntry). y.end) x.2), sym (ap (λ (y : RowsOfEntry). y.after) x.2))
 
 -- one that begins before the first rows of its document end is in one of these
 pub begins_within : (m : ℕ) (s : Step) (ss : List Step) (c : Cut) (e : RowsOfEntry) (q : PlacedPart) (front back : List Row) →
@@ -119,8 +119,8 @@ pub begins_within : (m : ℕ) (s : Step) (ss : List Step) (c : Cut) (e : RowsOfE
 begins_within m s ss c e q front back read at placed rows_are less = elim (cases_lt (length e.front) (length front)) [
   | inl is ↦ is
   | inr least ↦
-      let one : StandsThere m s ss c e = rows_stand m s ss c e read at in
-      let same : one.part ≡ q.part = same_Some _ _ (sym one.old.there ∙ (document_stands_at c m q placed).there) in
+      let one : HasItsRows m s ss c e = rows_located m s ss c e read at in
+      let same : one.part ≡ q.part = same_Some _ _ (sym one.old.there ∙ (document_is_there_at c m q placed).there) in
       let h = split_front front back e.front (e.row ∷ (e.under ++ e.back)) (sym rows_are ∙ (ap (λ (p : Part). p.rows) (sym same) ∙ one.rows_are)) least in
       absurd (omega (
         arith,
@@ -141,16 +141,16 @@ take_front : (j : ℕ) (front b d : List Row) → j ≤ length front → take j 
 take_front j front b d less = take-append-le j front d less ∙ sym (take-append-le j front b less)
 
 -- a line of one of the first rows, whatever rows come after those
-line_in_front : (n : ℕ) (front b d : List Row) (s : RowLine) → row_line n (front ++ b) ≡ Some s → s.before < length front → row_line n (front ++ d) ≡ Some s
-line_in_front n [] b d s is less = absurd (omega (arith, less))
-line_in_front n (x ∷ front) b d s is less = go (nat_lt (length x.dashes) n) is (λ y is low. line_in_front (n - suc (length x.dashes)) front b d y is low)
+line_in_first_rows : (n : ℕ) (front b d : List Row) (s : RowLine) → row_line n (front ++ b) ≡ Some s → s.before < length front → row_line n (front ++ d) ≡ Some s
+line_in_first_rows n [] b d s is less = absurd (omega (arith, less))
+line_in_first_rows n (x ∷ front) b d s is less = go (nat_lt (length x.dashes) n) is (λ y is low. line_in_first_rows (n - suc (length x.dashes)) front b d y is low)
   where
-    go : (t : Bool) → cond t (option_map behind_one (row_line (n - suc (length x.dashes)) (front ++ b))) (Some (record { before = 0; row = x; line = n })) ≡ Some s →
+    go : (t : Bool) → cond t (option_map one_row_later (row_line (n - suc (length x.dashes)) (front ++ b))) (Some (record { before = 0; row = x; line = n })) ≡ Some s →
         ((y : RowLine) → row_line (n - suc (length x.dashes)) (front ++ b) ≡ Some y → y.before < length front → row_line (n - suc (length x.dashes)) (front ++ d) ≡ Some y) →
-        cond t (option_map behind_one (row_line (n - suc (length x.dashes)) (front ++ d))) (Some (record { before = 0; row = x; line = n })) ≡ Some s
+        cond t (option_map one_row_later (row_line (n - suc (length x.dashes)) (front ++ d))) (Some (record { before = 0; row = x; line = n })) ≡ Some s
     go true e more =
-        let y = map_some behind_one (row_line (n - suc (length x.dashes)) (front ++ b)) s e in
-        ap (option_map behind_one) (more y.0 y.1 (omega (arith, less, ap (λ (z : RowLine). z.before) y.2))) ∙ ap Some y.2
+        let y = map_some one_row_later (row_line (n - suc (length x.dashes)) (front ++ b)) s e in
+        ap (option_map one_row_later) (more y.0 y.1 (omega (arith, less, ap (λ (z : RowLine). z.before) y.2))) ∙ ap Some y.2
     go false e more = e
 
 -- which is one of the lines of these
@@ -161,11 +161,11 @@ line_low n (x ∷ front) b s is less = go (nat_lt (length x.dashes) n) refl is (
     size : length (lines_of_rows (x ∷ front)) ≡ suc (length x.dashes) + length (lines_of_rows front)
     size = omega (arith, row_size x, length-append (row_lines x) (lines_of_rows front))
 
-    go : (t : Bool) → nat_lt (length x.dashes) n ≡ t → cond t (option_map behind_one (row_line (n - suc (length x.dashes)) (front ++ b))) (Some (record { before = 0; row = x; line = n })) ≡ Some s →
+    go : (t : Bool) → nat_lt (length x.dashes) n ≡ t → cond t (option_map one_row_later (row_line (n - suc (length x.dashes)) (front ++ b))) (Some (record { before = 0; row = x; line = n })) ≡ Some s →
         ((y : RowLine) → row_line (n - suc (length x.dashes)) (front ++ b) ≡ Some y → y.before < length front → n - suc (length x.dashes) < length (lines_of_rows front)) →
         n < length (lines_of_rows (x ∷ front))
     go true long e more =
-        let y = map_some behind_one (row_line (n - suc (length x.dashes)) (front ++ b)) s e in
+        let y = map_some one_row_later (row_line (n - suc (length x.dashes)) (front ++ b)) s e in
         omega (arith, size, more y.0 y.1 (omega (arith, less, ap (λ (z : RowLine). z.before) y.2)))
     go false few e more = omega (arith, size, ltb-false (length x.dashes) n few)
 
@@ -174,8 +174,8 @@ some_line None rs s is = absurd (none-some _ is)
 some_line (Some n) rs s is = (n, refl, is)
 
 -- where a path leads to one of the first rows, it does so whatever rows come after those
-pub path_in_front : (steps : List Step) (front b d : List Row) (s : RowLine) → row_line_of steps (front ++ b) ≡ Some s → s.before < length front → row_line_of steps (front ++ d) ≡ Some s
-path_in_front steps front b d s is less =
+pub path_in_first_rows : (steps : List Step) (front b d : List Row) (s : RowLine) → row_line_of steps (front ++ b) ≡ Some s → s.before < length front → row_line_of steps (front ++ d) ≡ Some s
+path_in_first_rows steps front b d s is less =
     let x = some_line (line_at_steps steps (lines_of_rows (front ++ b))) (front ++ b) s is in
     let n : ℕ = x.0 in
     let low : n < length (lines_of_rows front) = line_low n front b s x.2 less in
@@ -191,10 +191,10 @@ path_in_front steps front b d s is less =
         λ rs. lines_append front rs ∙ (ap (λ (ls : List Line). ls ++ lines_of_rows rs) (sym parts) ∙ append_assoc xs (l ∷ ys) (lines_of_rows rs)) in
         ap (λ (o : Option ℕ). o >>= λ n. row_line n (front ++ d))
         (ap (line_at_steps steps) (lines d) ∙ line_stays steps xs l (ys ++ lines_of_rows b) (ys ++ lines_of_rows d) (ap (line_at_steps steps) (sym (lines b)) ∙ there))
-        ∙ line_in_front (length xs) front b d s row less
+        ∙ line_in_first_rows (length xs) front b d s row less
 
 -- An item or entry is there as it was, but for what comes after its row.
-pub record StaysInFront (e : RowsOfEntry) (m : ℕ) (steps : List Step) (d : Cut) : Type 0 where
+pub record StaysBefore (e : RowsOfEntry) (m : ℕ) (steps : List Step) (d : Cut) : Type 0 where
   pub now : RowsOfEntry
   pub found : rows_of_entry m steps d ≡ Some now
   pub start : now.start ≡ e.start
@@ -202,15 +202,15 @@ pub record StaysInFront (e : RowsOfEntry) (m : ℕ) (steps : List Step) (d : Cut
   pub row : now.row ≡ e.row
   pub line : now.line ≡ e.line
   pub end : now.end ≡ e.end
-  pub behind : now.behind ≡ e.behind
+  pub after : now.after ≡ e.after
 
 -- a document has other rows after the first ones
 module _ (d : Cut) (m : ℕ) (p q : Part) (front b c : List Row) (there : slice_get (document_parts d) m ≡ Some p) (rows_are : p.rows ≡ front ++ b) (rows_now : q.rows ≡ front ++ c) (end_now : q.end ≡ p.end) (keeps : KeepsRows p q) where
   pub part_put : slice_get (document_parts (put_document m q d)) m ≡ Some q
   part_put = ap (λ (ps : List Part). slice_get ps m) (document_put d m p q there keeps) ∙ nth_changed m p q (document_parts d) there
 
-  pub stays_in_front : (steps : List Step) (e : RowsOfEntry) → rows_of_entry m steps d ≡ Some e → length e.front < length front → StaysInFront e m steps (put_document m q d)
-  stays_in_front steps e is less =
+  pub stays_before : (steps : List Step) (e : RowsOfEntry) → rows_of_entry m steps d ≡ Some e → length e.front < length front → StaysBefore e m steps (put_document m q d)
+  stays_before steps e is less =
       let i : ℕ = part_number m d in
       let old : PlacedPart = placed_at i d in
       let x : (s : RowLine) × (row_line_of steps p.rows ≡ Some s) × (entry_rows_at (record old { part = p }) s ≡ e) =
@@ -222,8 +222,8 @@ module _ (d : Cut) (m : ℕ) (p q : Part) (front b c : List Row) (there : slice_
       slice_get_within (front ++ b) s.before s.row (steps_row (line_at_steps steps (lines_of_rows (front ++ b))) (front ++ b) s line) in
       let own : e.front ≡ take s.before (front ++ b) = sym (ap (λ (y : RowsOfEntry). y.front) x.2) ∙ ap (take s.before) rows_are in
       let low : s.before < length front = omega (arith, less, ap length own, length-take-le s.before (front ++ b) (omega (arith, within))) in
-      let again : row_line_of steps q.rows ≡ Some s = ap (row_line_of steps) rows_now ∙ path_in_front steps front b c s line low in
-      let now : PlacedPart = record { before = before_part i d; part = q; behind = behind_part i d } in
+      let again : row_line_of steps q.rows ≡ Some s = ap (row_line_of steps) rows_now ∙ path_in_first_rows steps front b c s line low in
+      let now : PlacedPart = record { before = before_part i d; part = q; after = after_part i d } in
       record {
         now = entry_rows_at now s;
         found = ap (λ (o : Option PlacedPart). o >>= λ y. option_map (entry_rows_at y) (row_line_of steps y.part.rows)) (placed_put d m p q there keeps) ∙ ap (option_map (entry_rows_at now)) again;
@@ -232,7 +232,7 @@ module _ (d : Cut) (m : ℕ) (p q : Part) (front b c : List Row) (there : slice_
         row = ap (λ (y : RowsOfEntry). y.row) x.2;
         line = ap (λ (y : RowsOfEntry). y.line) x.2;
         end = end_now ∙ ap (λ (y : RowsOfEntry). y.end) x.2;
-        behind = ap (λ (y : RowsOfEntry). y.behind) x.2;
+        after = ap (λ (y : RowsOfEntry). y.after) x.2;
       }
     where
       placed_old : placed_document m d ≡ Some (record (placed_at (part_number m d) d) { part = p })
@@ -264,5 +264,5 @@ module _ (d : Cut) (m : ℕ) (p : Part) (front back : List Row) (r new : Row) (t
   pub others_stay : StaysFrom (suc (length front)) p q
   others_stay = rows_stay_there.exchanges p front back r new rows_are shape
 
-  pub front_stays : (steps : List Step) (e : RowsOfEntry) → rows_of_entry m steps d ≡ Some e → length e.front < length front → StaysInFront e m steps (put_document m q d)
-  front_stays = stays_in_front d m p q front (r ∷ back) (new ∷ back) there rows_are (one_rows p front back new) (one_end p front back new) (one_keeps p front back new)
+  pub front_stays : (steps : List Step) (e : RowsOfEntry) → rows_of_entry m steps d ≡ Some e → length e.front < length front → StaysBefore e m steps (put_document m q d)
+  front_stays = stays_before d m p q front (r ∷ back) (new ∷ back) there rows_are (one_rows p front back new) (one_end p front back new) (one_keeps p front back new)

@@ -7,11 +7,11 @@ use Rattle.yq_core.{specs.Paths.Step, specs.Text.is_empty, specs.Tree.Node, spec
 use Rattle.yq_outline.{specs.Outline.anchored, specs.Lines.{content_anchor, head_of}}
 use Rattle.yq_row_table.{specs.Rows.{Cut, cut_text, parent_indent, rows_text}, specs.View.slices}
 use Rattle.yq_documents.specs.Reading.{cut_of, read_at}
-use Rattle.yq_places.{specs.CommentPlaces.end_in_line, specs.StandingViews.IsHeldRow, specs.declared.places.held_row.HeldRow.HeldRow}
+use Rattle.yq_places.{specs.CommentPlaces.end_in_line, specs.PlacementViews.IsHeldRow, specs.declared.places.held_row.HeldRow.HeldRow}
 use Rattle.yq_places.{specs.NodesAt.node_in, specs.PrintedLines.less_break}
-use Rattle.yq_places.{specs.Standings.{Held, RowsOfEntry, behind_entry, held, rows_of_entry}, proofs.HeldRowLaws.no_root_rows}
-use Rattle.yq_edit_rules.{specs.RowStays.StandsStill, specs.StandingLaws.{HoldsPieces, StandsThere}, specs.TextPieces.IsPiece}
-use Rattle.yq_edit_rules.{proofs.RowStayLaws.rows_stay_there, proofs.StandingMarks.row_there, proofs.StandingRows.rows_stand}
+use Rattle.yq_places.{specs.Placements.{Held, RowsOfEntry, after_entry, held, rows_of_entry}, proofs.HeldRowLaws.no_root_rows}
+use Rattle.yq_edit_rules.{specs.RowStays.StaysInRows, specs.PlacementLaws.{HoldsPieces, HasItsRows}, specs.TextPieces.IsPiece}
+use Rattle.yq_edit_rules.{proofs.RowStayLaws.rows_stay_there, proofs.PlacementMarks.row_there, proofs.PlacementRows.rows_located}
 use Rattle.yq_edit_rules.{proofs.TextPieceLaws.pieces_joined, specs.BlockReading.is_filled, specs.Edits.op_edits, specs.Operands.HasOperand}
 use Rattle.yq_edit_rules.{specs.Replacing.keeps_scalar, specs.RowChanges.{HoldsInline, inline_put}, specs.WrittenValues.value_text}
 use Rattle.yq_edit_rules.proofs.HeldPieces.{held_spells}
@@ -25,27 +25,27 @@ is_there None e = absurd (false≢true e)
 is_there (Some x) e = (x, refl)
 
 module _ (m : ℕ) (s : Step) (ss : List Step) (d : Cut) (e : RowsOfEntry) (read : read_at (cut_text d) ≡ Some d) (at : rows_of_entry m (s ∷ ss) d ≡ Some e) (h : HoldsInline e) where
-  there : StandsThere m s ss d e
-  there = rows_stand m s ss d e read at
+  there : HasItsRows m s ss d e
+  there = rows_located m s ss d e read at
 
   none_below : (slices e.row).raw ++ rows_text e.under [] ≡ []
   none_below = λ i. no_raw e.row.content h.block i ++ rows_text (headless_there m s ss d e there h.last h.some i) []
 
   pub no_break : (held e).break ≡ []
-  no_break = ap (λ (b : List ℕ). cond (is_empty b) [] (end_in_line [] (slices e.row).tail).behind) none_below
+  no_break = ap (λ (b : List ℕ). cond (is_empty b) [] (end_in_line [] (slices e.row).tail).after) none_below
 
   pub no_lines : (held e).lines ≡ []
   unfolding less_break
   no_lines = ap less_break none_below
 
   pub head : (x : Node) × (head_of e.row.content ≡ Some x)
-  head = is_there (head_of e.row.content) (head_there (parent_indent e.row) e.row.content (rows_text e.under (behind_entry e)) (row_there m s ss d e there).content h.some)
+  head = is_there (head_of e.row.content) (head_there (parent_indent e.row) e.row.content (rows_text e.under (after_entry e)) (row_there m s ss d e there).content h.some)
 
   pub node_there : (x : Node) → head_of e.row.content ≡ Some x → node_in m (s ∷ ss) d ≡ Some (anchored (content_anchor e.row.content) x)
   node_there x is = rows_stay_there.nodes m s ss d e x there h.last is
 
 module _ (m : ℕ) (s : Step) (ss : List Step) (v : Node) (c : Cut) (e : RowsOfEntry) (read : read_at (cut_text c) ≡ Some c) (at : rows_of_entry m (s ∷ ss) c ≡ Some e) (h : HoldsInline e) (plain : is_filled v ≡ false) where
-  module _ (d : Cut) (read_d : read_at (cut_text d) ≡ Some d) (still : StandsStill e m (s ∷ ss) d) where
+  module _ (d : Cut) (read_d : read_at (cut_text d) ≡ Some d) (still : StaysInRows e m (s ∷ ss) d) where
     abbrev now : RowsOfEntry
     now = rows_still e still
 
@@ -67,7 +67,7 @@ module _ (m : ℕ) (s : Step) (ss : List Step) (v : Node) (c : Cut) (e : RowsOfE
     value_stays = by_kept true
 
     -- another value
-    pub value_comes : keeps_scalar (node_in m (s ∷ ss) c) v ≡ false → PutsText (replace m (s ∷ ss) v) d now (held e).head (value_text InBlock (held e).head v) ((held e).white ++ ((held e).comment ++ ((held e).last ++ (held e).behind)))
+    pub value_comes : keeps_scalar (node_in m (s ∷ ss) c) v ≡ false → PutsText (replace m (s ∷ ss) v) d now (held e).head (value_text InBlock (held e).head v) ((held e).white ++ ((held e).comment ++ ((held e).last ++ (held e).after)))
     value_comes other =
         let edited = by_kept false other in
         record {
@@ -80,22 +80,22 @@ module _ (m : ℕ) (s : Step) (ss : List Step) (v : Node) (c : Cut) (e : RowsOfE
         }
 
   -- where it is
-  spelled : cut_text c ≡ ((held e).before ++ (held e).space) ++ ((held e).head ++ ((held e).white ++ ((held e).comment ++ ((held e).last ++ (held e).behind))))
+  spelled : cut_text c ≡ ((held e).before ++ (held e).space) ++ ((held e).head ++ ((held e).white ++ ((held e).comment ++ ((held e).last ++ (held e).after))))
   spelled =
       let w : Held = held e in
       (held_spells m s ss c e read at h.last).0
-      ∙ ((λ i. w.before ++ (w.space ++ (w.head ++ (w.white ++ (w.comment ++ (no_break m s ss c e read at h i ++ (no_lines m s ss c e read at h i ++ (w.last ++ w.behind)))))))) ∙ sym (append_assoc w.before w.space _))
+      ∙ ((λ i. w.before ++ (w.space ++ (w.head ++ (w.white ++ (w.comment ++ (no_break m s ss c e read at h i ++ (no_lines m s ss c e read at h i ++ (w.last ++ w.after)))))))) ∙ sym (append_assoc w.before w.space _))
 
   pieces : HoldsPieces (held e)
   pieces = (held_spells m s ss c e read at h.last).1
 
-  pub value_text_is : cut_text c ≡ ((held e).before ++ (held e).space) ++ ((held e).head ++ ((held e).white ++ ((held e).comment ++ ((held e).last ++ (held e).behind))))
+  pub value_text_is : cut_text c ≡ ((held e).before ++ (held e).space) ++ ((held e).head ++ ((held e).white ++ ((held e).comment ++ ((held e).last ++ (held e).after))))
   value_text_is = spelled
 
-  left : IsPiece ((held e).white ++ ((held e).comment ++ ((held e).last ++ (held e).behind)))
+  left : IsPiece ((held e).white ++ ((held e).comment ++ ((held e).last ++ (held e).after)))
   left =
       let w : Held = held e in
-      subst IsPiece (append_assoc w.white w.comment (w.last ++ w.behind)) (pieces_joined (w.white ++ w.comment) (w.last ++ w.behind) pieces.line (pieces_joined w.last w.behind pieces.last pieces.behind))
+      subst IsPiece (append_assoc w.white w.comment (w.last ++ w.after)) (pieces_joined (w.white ++ w.comment) (w.last ++ w.after) pieces.line (pieces_joined w.last w.after pieces.last pieces.after))
 
   pub value_starts : IsCharBoundary (cut_text c) (length ((held e).before ++ (held e).space))
   value_starts = IsCharBoundary-at_seam (cut_text c) ((held e).before ++ (held e).space) _ spelled (pieces_joined (held e).head _ pieces.head left).utf8
@@ -103,7 +103,7 @@ module _ (m : ℕ) (s : Step) (ss : List Step) (v : Node) (c : Cut) (e : RowsOfE
   pub value_ends : IsCharBoundary (cut_text c) (length ((held e).before ++ (held e).space) + length (held e).head)
   value_ends =
       let w : Held = held e in
-      let apart : cut_text c ≡ ((w.before ++ w.space) ++ w.head) ++ (w.white ++ (w.comment ++ (w.last ++ w.behind))) = spelled ∙ sym (append_assoc (w.before ++ w.space) w.head _) in
+      let apart : cut_text c ≡ ((w.before ++ w.space) ++ w.head) ++ (w.white ++ (w.comment ++ (w.last ++ w.after))) = spelled ∙ sym (append_assoc (w.before ++ w.space) w.head _) in
       subst (IsCharBoundary (cut_text c)) (length-append (w.before ++ w.space) w.head) (IsCharBoundary-at_seam (cut_text c) ((w.before ++ w.space) ++ w.head) _ apart left.utf8)
 
 -- the text of a value that is put in a row, up to its end, is no longer than a text may be
@@ -122,9 +122,9 @@ value_fits t n (s ∷ ss) v x read is inline plain =
       text,
       is.start,
       ap length is.head,
-      length-append (w.before ++ w.space) (w.head ++ (w.white ++ (w.comment ++ (w.last ++ w.behind)))),
+      length-append (w.before ++ w.space) (w.head ++ (w.white ++ (w.comment ++ (w.last ++ w.after)))),
       length-append w.before w.space,
-      length-append w.head (w.white ++ (w.comment ++ (w.last ++ w.behind))),
+      length-append w.head (w.white ++ (w.comment ++ (w.last ++ w.after))),
     )
 
 -- what the code tells of a value that is put in a row
@@ -148,7 +148,7 @@ value_puts t n (s ∷ ss) v x put read is inline plain operand doc row start fin
       valid = operand;
       before = (held e).before ++ (held e).space;
       old = (held e).head;
-      behind = (held e).white ++ ((held e).comment ++ ((held e).last ++ (held e).behind));
+      after = (held e).white ++ ((held e).comment ++ ((held e).last ++ (held e).after));
       text = value_text_is n s ss v c e again is.found h plain;
       start = place;
       finish = stop;
@@ -157,11 +157,11 @@ value_puts t n (s ∷ ss) v x put read is inline plain operand doc row start fin
       there = λ d there breaks still. there_so d there still again h (bytes_in string_bytes put.written) (subst (λ (y : List ℕ). IsWrittenSo (node_in n (s ∷ ss) c) v y (bytes_in string_bytes put.written)) is.head written);
     }
   where
-    there_so : (d : Cut) → read_at (cut_text d) ≡ Some d → (still : StandsStill is.entry n (s ∷ ss) d) →
+    there_so : (d : Cut) → read_at (cut_text d) ≡ Some d → (still : StaysInRows is.entry n (s ∷ ss) d) →
         read_at (cut_text (cut_of t)) ≡ Some (cut_of t) → (h : HoldsInline is.entry) (w : Option (List ℕ)) →
         IsWrittenSo (node_in n (s ∷ ss) (cut_of t)) v (held is.entry).head w →
-        PutsSo (replace n (s ∷ ss) v) d (rows_still is.entry still) (held is.entry).head ((held is.entry).white ++ ((held is.entry).comment ++ ((held is.entry).last ++ (held is.entry).behind))) w
+        PutsSo (replace n (s ∷ ss) v) d (rows_still is.entry still) (held is.entry).head ((held is.entry).white ++ ((held is.entry).comment ++ ((held is.entry).last ++ (held is.entry).after))) w
     there_so d there still again h None kept = value_stays n s ss v (cut_of t) is.entry again is.found h plain d there still kept
     there_so d there still again h (Some w) other =
-        subst (λ (l : List ℕ). PutsText (replace n (s ∷ ss) v) d (rows_still is.entry still) (held is.entry).head l ((held is.entry).white ++ ((held is.entry).comment ++ ((held is.entry).last ++ (held is.entry).behind)))) (sym other.1)
+        subst (λ (l : List ℕ). PutsText (replace n (s ∷ ss) v) d (rows_still is.entry still) (held is.entry).head l ((held is.entry).white ++ ((held is.entry).comment ++ ((held is.entry).last ++ (held is.entry).after)))) (sym other.1)
         (value_comes n s ss v (cut_of t) is.entry again is.found h plain d there still other.0)

@@ -10,8 +10,8 @@ use Rattle.yq_documents.{specs.Documents.Document, specs.Reading.{cut_of, docume
 use Rattle.yq_documents.{proofs.ReadLaws.parts_read, specs.Located.steps_of, specs.declared.path.Path.Path}
 use Rattle.yq_places.{specs.PlacedRows.{PlacedPart, placed_document}, proofs.PlacedPartLaws.map_some}
 use Rattle.yq_places.specs.RemovalPlaces.{OwnRows, Removal, has_others_at, has_several, own_rows, removal_place, rows_out}
-use Rattle.yq_places.specs.Standings.{last_step}
-use Rattle.yq_edit_rules.proofs.RemovalChangeLaws.{removal_stands, snoc, take_init}
+use Rattle.yq_places.specs.Placements.{last_step}
+use Rattle.yq_edit_rules.proofs.RemovalChangeLaws.{removal_is_there, snoc, take_init}
 use Rattle.yq_semantics.{specs.After.{after_op, done_to}, specs.Changes.Room, specs.Fits.Fits, specs.Rooms.room_of}
 use Rattle.yq_semantics.{specs.Operations.{Operation, remove}, specs.Under.{op_under, operation_under, ops_under}, specs.declared.op.Op.Op}
 use Rattle.yq_semantics.specs.Judgement.{ExprError}
@@ -43,9 +43,9 @@ out_small t n steps x read place =
     omega (
       arith,
       text_small t (cut_of t) read,
-      ap length (sym text ∙ removal_stands (cut_of t) n steps x (ap read_at text ∙ read) place),
-      length-append x.before (x.gone ++ (x.gap ++ x.behind)),
-      length-append x.gone (x.gap ++ x.behind),
+      ap length (sym text ∙ removal_is_there (cut_of t) n steps x (ap read_at text ∙ read) place),
+      length-append x.before (x.gone ++ (x.gap ++ x.after)),
+      length-append x.gone (x.gap ++ x.after),
     )
 
 -- ---- an item or entry of a collection
@@ -87,44 +87,44 @@ module _ (c : Cut) (n : ℕ) (above : List Step) (s : Step) (least next : Option
     gone_is : out.gone ≡ (rows_out d x).gone
     gone_is = taken.gone_is c n above s least next before.keep run.tail run.run read d placed x own short others_at stays low
 
-    whole : now ≡ out.before ++ (out.gone ++ (out.gap ++ out.behind))
+    whole : now ≡ out.before ++ (out.gone ++ (out.gap ++ out.after))
     whole = taken.whole c n above s least next before.keep run.tail run.run read d placed x own short others_at stays low
 
-    starts_with : now ≡ (rows_out d x).before ++ (out.gone ++ (out.gap ++ out.behind))
-    starts_with = whole ∙ ap (λ (b : List ℕ). b ++ (out.gone ++ (out.gap ++ out.behind))) before_is
+    starts_with : now ≡ (rows_out d x).before ++ (out.gone ++ (out.gap ++ out.after))
+    starts_with = whole ∙ ap (λ (b : List ℕ). b ++ (out.gone ++ (out.gap ++ out.after))) before_is
 
-    in_two : now ≡ ((rows_out d x).before ++ (rows_out d x).gone) ++ (out.gap ++ out.behind)
-    in_two = whole ∙ (sym (append_assoc out.before out.gone (out.gap ++ out.behind)) ∙ λ i. (before_is i ++ gone_is i) ++ (out.gap ++ out.behind))
+    in_two : now ≡ ((rows_out d x).before ++ (rows_out d x).gone) ++ (out.gap ++ out.after)
+    in_two = whole ∙ (sym (append_assoc out.before out.gone (out.gap ++ out.after)) ∙ λ i. (before_is i ++ gone_is i) ++ (out.gap ++ out.after))
 
     utf8_now : IsUtf8 now
     utf8_now = subst IsUtf8 text (text_utf8 (cut_text cut) cut (ap read_at text ∙ run.run.read))
 
     starts_now : IsUtf8 (rows_out d x).before → IsCharBoundary now start
     starts_now utf8 =
-        IsCharBoundary-from_take now start utf8_now (omega (arith, ap length starts_with, length-append (rows_out d x).before (out.gone ++ (out.gap ++ out.behind))))
-        (subst IsUtf8 (sym (ap (take start) starts_with ∙ take-append_seam (rows_out d x).before (out.gone ++ (out.gap ++ out.behind)))) utf8)
+        IsCharBoundary-from_take now start utf8_now (omega (arith, ap length starts_with, length-append (rows_out d x).before (out.gone ++ (out.gap ++ out.after))))
+        (subst IsUtf8 (sym (ap (take start) starts_with ∙ take-append_seam (rows_out d x).before (out.gone ++ (out.gap ++ out.after)))) utf8)
 
     finishes_now : IsUtf8 (rows_out d x).before → IsUtf8 (rows_out d x).gone → IsCharBoundary now finish
     finishes_now utf8 gone_utf8 =
         let both : List ℕ = (rows_out d x).before ++ (rows_out d x).gone in
         let size : finish ≡ length both = sym (length-append (rows_out d x).before (rows_out d x).gone) in
         subst (IsCharBoundary now) (sym size)
-        (IsCharBoundary-from_take now (length both) utf8_now (omega (arith, ap length in_two, length-append both (out.gap ++ out.behind)))
-        (subst IsUtf8 (sym (ap (take (length both)) in_two ∙ take-append_seam both (out.gap ++ out.behind))) (IsUtf8-append (rows_out d x).before (rows_out d x).gone utf8 gone_utf8)))
+        (IsCharBoundary-from_take now (length both) utf8_now (omega (arith, ap length in_two, length-append both (out.gap ++ out.after)))
+        (subst IsUtf8 (sym (ap (take (length both)) in_two ∙ take-append_seam both (out.gap ++ out.after))) (IsUtf8-append (rows_out d x).before (rows_out d x).gone utf8 gone_utf8)))
 
     comes_now : carried (remove n steps) now ≡ gives (text_exchanged now start finish []) (splice_at start (drop start (take finish now)) [])
     comes_now = taken.removal_comes c n above s least next before.keep run.tail run.run read d placed x own short others_at stays low
 
-    left_is : text_exchanged now start finish [] ≡ out.before ++ (out.gap ++ out.behind)
+    left_is : text_exchanged now start finish [] ≡ out.before ++ (out.gap ++ out.after)
     left_is = taken.left_is c n above s least next before.keep run.tail run.run read d placed x own short others_at stays low
 
     kept_is : out.before ≡ take start (cut_text c)
     kept_is =
         let place : removal_place n steps c ≡ Some (rows_out d x) =
         ap (λ (o : Option PlacedPart). o >>= λ e. option_map (rows_out e) (own_rows steps e.part.rows)) placed ∙ ap (option_map (rows_out d)) own in
-        before_is ∙ sym (ap (take start) (removal_stands c n steps (rows_out d x) read place) ∙ take-append_seam (rows_out d x).before _)
+        before_is ∙ sym (ap (take start) (removal_is_there c n steps (rows_out d x) read place) ∙ take-append_seam (rows_out d x).before _)
 
-    goes : IsRowRemovalRun c n above next start (out.gap ++ out.behind)
+    goes : IsRowRemovalRun c n above next start (out.gap ++ out.after)
     goes = goes_on c n above s least next before.keep run.tail run.run read d placed x own short others_at stays low fits
 
     on_now : (after : RemovalRun) → HasExchanged start finish [] before after → RemovesRowsOn (remove n steps) c n above before next after
@@ -139,9 +139,9 @@ module _ (c : Cut) (n : ℕ) (above : List Step) (s : Step) (least next : Option
           applied = applied_by (remove n steps) (buffer_text before.text) tt fitting (buffer_text after.text) cs comes;
           splices = out_of.splices ∙ ap (λ (l : List ℕ). before.splices.items ++ splice_at start (drop start (take finish l)) []) run.text;
           run = record {
-            tail = out.gap ++ out.behind;
-            text = made ∙ (left_is ∙ λ i. (kept_is ∙ ap (λ (m : ℕ). take m (cut_text c)) (sym out_of.keep)) i ++ (out.gap ++ out.behind));
-            run = subst (λ (m : ℕ). IsRowRemovalRun c n above next m (out.gap ++ out.behind)) (sym out_of.keep) goes;
+            tail = out.gap ++ out.after;
+            text = made ∙ (left_is ∙ λ i. (kept_is ∙ ap (λ (m : ℕ). take m (cut_text c)) (sym out_of.keep)) i ++ (out.gap ++ out.after));
+            run = subst (λ (m : ℕ). IsRowRemovalRun c n above next m (out.gap ++ out.after)) (sym out_of.keep) goes;
           };
         }
 

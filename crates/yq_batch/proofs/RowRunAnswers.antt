@@ -4,7 +4,7 @@ use Rattle.std.{proofs.Common.{◌∙◌, subst, append-nil, arith, string_bytes
 use Rattle.std.{specs.Str.IsCharBoundary, specs.Prelude.String, specs.declared.alloc.Global.Global}
 use Rattle.yq_row_table.specs.Rows.{Cut, cut_text}
 use Rattle.yq_documents.{specs.Reading.{cut_of, read_at}, specs.LinesInRows.document_row}
-use Rattle.yq_edit_rules.specs.RowStays.{IsBehind, StandsStill}
+use Rattle.yq_edit_rules.specs.RowStays.{IsAfter, StaysInRows}
 use Rattle.yq_semantics.{specs.After.op_document, specs.Operations.Operation, specs.Judgement.ExprError}
 use Rattle.yq_text.{specs.Script.splice_at, specs.Splice.Splice}
 use Rattle.yq_edit_laws.{proofs.CutLaws.text_read, proofs.FlowAnswers.whole_text, specs.Answers.EditFails, specs.Carried.carried}
@@ -34,11 +34,11 @@ rows_begin t r read text done =
     }
 
 -- a row after the last one that was changed is after what was
-pub behind_last : (c : Cut) (o : Option (ℕ × ℕ)) (k n m i row : ℕ) → IsLast c o k n → Passed o m row → row ≡ document_row m c + i → IsBehind k n m i
-behind_last c None k n zero i row h p is = inr (h.0, omega (arith, h.1))
-behind_last c None k n (suc m) i row h p is = inl (omega (arith, h.0))
-behind_last c (Some x) k n m i row h (inl p) is = inl (omega (arith, p, h.0))
-behind_last c (Some x) k n m i row h (inr p) is =
+pub after_last : (c : Cut) (o : Option (ℕ × ℕ)) (k n m i row : ℕ) → IsLast c o k n → Passed o m row → row ≡ document_row m c + i → IsAfter k n m i
+after_last c None k n zero i row h p is = inr (h.0, omega (arith, h.1))
+after_last c None k n (suc m) i row h p is = inl (omega (arith, h.0))
+after_last c (Some x) k n m i row h (inl p) is = inl (omega (arith, p, h.0))
+after_last c (Some x) k n m i row h (inr p) is =
     let same : k ≡ m = sym h.0 ∙ p.0 in
     inr (same, omega (arith, p.1, h.1, is, ap (λ (j : ℕ). document_row j c) same))
 
@@ -69,24 +69,24 @@ module _ (t u : List ℕ) (op : Operation) (o : Option (ℕ × ℕ)) (before : P
   abbrev m : ℕ
   m = op_document op
 
-  later : IsBehind run.document run.row m (length h.entry.front)
-  later = behind_last c o run.document run.row m (length h.entry.front) x.row run.last (subst (λ (j : ℕ). Passed o j x.row) h.document passed) h.row
+  later : IsAfter run.document run.row m (length h.entry.front)
+  later = after_last c o run.document run.row m (length h.entry.front) x.row run.last (subst (λ (j : ℕ). Passed o j x.row) h.document passed) h.row
 
-  abbrev there : StandsStill h.entry m h.steps run.run.cut
+  abbrev there : StaysInRows h.entry m h.steps run.run.cut
   there = run.run.stays m h.steps h.entry h.found later
 
   same_there : WritesSameBreak op (cut_text c) (cut_text run.run.cut)
   same_there =
       subst (WritesSameBreak op (cut_text c)) (sym (text_now c run.document run.row (string_bytes before.text) before.done run.run op h.steps h.entry h.found later)) same
 
-  so : PutsSo op run.run.cut (rows_still h.entry there) h.old h.behind (bytes_in string_bytes x.written)
+  so : PutsSo op run.run.cut (rows_still h.entry there) h.old h.after (bytes_in string_bytes x.written)
   so = h.there run.run.cut (read_now c run.document run.row (string_bytes before.text) before.done run.run op h.steps h.entry h.found later) same_there there
 
   -- all bytes stay
   pub row_kept_on : x.written ≡ None → RowsGoOn op c before o before
   row_kept_on none =
       let now : List ℕ = now_text c before in
-      let edited = subst (λ (o : Option (String Global)). PutsSo op run.run.cut (rows_still h.entry there) h.old h.behind (bytes_in string_bytes o)) none so in
+      let edited = subst (λ (o : Option (String Global)). PutsSo op run.run.cut (rows_still h.entry there) h.old h.after (bytes_in string_bytes o)) none so in
       let comes = row_stays c run.document run.row (string_bytes before.text) before.done run.run op h.steps h.entry h.found later edited in
       record { new_bytes = []; comes = comes; applied = applied_by op now h.valid fitting now [] comes; splices = sym (append-nil before.splices.items); run = run }
 
@@ -94,28 +94,28 @@ module _ (t u : List ℕ) (op : Operation) (o : Option (ℕ × ℕ)) (before : P
     abbrev new : List ℕ
     new = string_bytes s
 
-    puts : PutsText op run.run.cut (rows_still h.entry there) h.old new h.behind
-    puts = subst (λ (o : Option (String Global)). PutsSo op run.run.cut (rows_still h.entry there) h.old h.behind (bytes_in string_bytes o)) some so
+    puts : PutsText op run.run.cut (rows_still h.entry there) h.old new h.after
+    puts = subst (λ (o : Option (String Global)). PutsSo op run.run.cut (rows_still h.entry there) h.old h.after (bytes_in string_bytes o)) some so
 
     whole_is : u ≡ cut_text c
     whole_is = whole_text t u read all
 
-    behind_done : before.done ≤ length h.before
-    behind_done = omega (arith, ordered, h.start)
+    after_done : before.done ≤ length h.before
+    after_done = omega (arith, ordered, h.start)
 
     put_at_row : (after : PutRun) → HasPut (cut_text c) (length h.before) (length h.before + length h.old) new before after → RowsGoOn op c before (Some (x.doc, x.row)) after
     put_at_row after a =
         let out : List ℕ = string_bytes before.text in
         let start : ℕ = length h.before in
         let finish : ℕ = length h.before + length h.old in
-        let old_there : drop start (take finish (cut_text c)) ≡ h.old = old_is c run.document run.row out before.done run.run op h.steps h.entry h.found later h.before h.old new h.behind h.text behind_done puts in
+        let old_there : drop start (take finish (cut_text c)) ≡ h.old = old_is c run.document run.row out before.done run.run op h.steps h.entry h.found later h.before h.old new h.after h.text after_done puts in
         let cs : List Splice = splice_at (length (run_front (cut_text c) before start)) (drop start (take finish (cut_text c))) new in
         let text : text_with_run (cut_text c) (run_front (cut_text c) before start ++ new) finish ≡ now_text c after = λ i. text_with_run (cut_text c) (sym a.text i) (sym a.done i) in
         let comes : carried op (now_text c before) ≡ gives (now_text c after) cs =
-        row_put_comes c run.document run.row out before.done run.run op h.steps h.entry h.found later h.before h.old new h.behind h.text behind_done puts a.size
+        row_put_comes c run.document run.row out before.done run.run op h.steps h.entry h.found later h.before h.old new h.after h.text after_done puts a.size
         ∙ (λ i. gives (text i) (splice_at (length (run_front (cut_text c) before start)) (sym old_there i) new)) in
         let edge : IsCharBoundary (cut_text c) finish = subst (IsCharBoundary (cut_text c)) h.finish h.ends in
-        let on = row_goes_on c run.document run.row out before.done run.run op h.steps h.entry h.found later h.before h.old new h.behind h.text behind_done puts edge h.valid fitting a.size in
+        let on = row_goes_on c run.document run.row out before.done run.run op h.steps h.entry h.found later h.before h.old new h.after h.text after_done puts edge h.valid fitting a.size in
         record {
           new_bytes = cs;
           comes = comes;
@@ -137,7 +137,7 @@ module _ (t u : List ℕ) (op : Operation) (o : Option (ℕ × ℕ)) (before : P
 
     large : (e : ExprError) → PutFails e (cut_text c) (length h.before) (length h.before + length h.old) new before → EditFails e (carried op (now_text c before))
     large (failure.Fault why) fails =
-        row_put_large c run.document run.row (string_bytes before.text) before.done run.run op h.steps h.entry h.found later h.before h.old new h.behind h.text behind_done puts fails.1
+        row_put_large c run.document run.row (string_bytes before.text) before.done run.run op h.steps h.entry h.found later h.before h.old new h.after h.text after_done puts fails.1
         ∙ ap refuses (sym fails.0)
     large failure.Memory fails = tt
 

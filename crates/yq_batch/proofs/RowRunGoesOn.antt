@@ -4,20 +4,20 @@ use Rattle.std.{proofs.Common.{ap, ◌∙◌, subst, arith}, proofs.Math.Seq.tak
 use Rattle.std.proofs.lemmas.Option.{same_Some}
 use Rattle.yq_core.{specs.Answers.◌>>=◌, specs.Paths.Step, specs.Text.{is_empty, joined, text_lines}}
 use Rattle.yq_row_table.{specs.Gap.{AreGapLines, IsGap}, specs.Grammar.{AreRows, IsRow, Limit, limit_after, no_rows, unlimited}}
-use Rattle.yq_row_table.{specs.Rows.{Row, Part, Cut, behind_gap, cut_text, rows_text}, specs.Splices.{end_gap, first_gap, with_first_gap}}
-use Rattle.yq_row_table.{specs.Removal.{last_block, next_column}, proofs.NothingLaws.some_behind, proofs.seams.BlockFronts.gap_front}
-use Rattle.yq_row_table.{proofs.seams.FrontSeams.behind_row_some, proofs.seams.GapFronts.lines_joined_of}
-use Rattle.yq_row_table.proofs.seams.GapSeams.{gap_lines_of}
+use Rattle.yq_row_table.specs.Rows.{Row, Part, Cut, following_gap, cut_text, rows_text}
+use Rattle.yq_row_table.{specs.Splices.{end_gap, first_gap, with_first_gap}, specs.Removal.{last_block, next_column}}
+use Rattle.yq_row_table.{proofs.NothingLaws.some_after, proofs.seams.BlockFronts.gap_front, proofs.seams.FrontSeams.after_row_some}
+use Rattle.yq_row_table.{proofs.seams.GapFronts.lines_joined_of, proofs.seams.GapSeams.gap_lines_of}
 use Rattle.yq_documents.{specs.Pieces.{before_run, last_run}, specs.Reading.{documents, read_at}}
 use Rattle.yq_places.specs.PlacedRows.{PlacedPart, placed_at, placed_document}
 use Rattle.yq_places.specs.RemovalPlaces.{OwnRows, Removal, has_others_at, kept_gap, own_rows, removal_place, rows_out}
 use Rattle.yq_places.{proofs.PlacedPartLaws.{map_some, part_rows}, proofs.RemovalTexts.run_parts}
-use Rattle.yq_edit_rules.{specs.Changed.KeepsRows, specs.Removes.left_gap, proofs.RemovalChangeLaws.removal_stands}
+use Rattle.yq_edit_rules.{specs.Changed.KeepsRows, specs.Removes.left_gap, proofs.RemovalChangeLaws.removal_is_there}
 use Rattle.yq_edit_rules.proofs.RemovalTextLaws.{gap_mended}
 use Rattle.yq_semantics.{specs.Fits.Fits, specs.Operations.remove, specs.Rooms.room_of}
 use Rattle.yq_edit_laws.proofs.CutLaws.{cut_read}
-use Rattle.yq_batch.{specs.RowRemovals.{AreLow, IsLeast, IsRowRemovalRun, StandsBefore, StayLow, StaysAt}, proofs.RowsInFront.in_front}
-use Rattle.yq_batch.proofs.EntryRemains.{entry_remains, has, own_first, rows_behind}
+use Rattle.yq_batch.specs.RowRemovals.{AreLow, IsLeast, IsRowRemovalRun, IsPlacedBefore, StayLow, StaysAt}
+use Rattle.yq_batch.{proofs.RowsBeforeOffset.before_offset, proofs.EntryRemains.{entry_remains, has, own_first, following_rows}}
 use Rattle.yq_batch.proofs.RowsTaken.{before_is, left_is, low_now, old, old_now, out, start, there}
 use Rattle.yq_batch.proofs.RowsTakenOn.{back_same, mended_is, next_cut, placed_put, q, read_next, text_next}
 
@@ -39,9 +39,9 @@ low_front n (l ∷ a) b h = (h.0, h.1, low_front n a b h.2)
 joined_low : (n : ℕ) (limit : Limit) (r : Row) (rest next : List ℕ) → IsRow limit r rest → AreLow n (text_lines r.gap) → AreLow n (text_lines next) → AreLow n (text_lines (joined (before_run (text_lines r.gap)) ++ next))
 joined_low n limit r rest next h own low =
     let ls : List (List ℕ) = text_lines r.gap in
-    let x : List ℕ = joined (last_run ls) ++ behind_gap r rest in
-    let lines : AreGapLines (before_run ls) x = gap_front r.gap (behind_gap r rest) (before_run ls) (last_run ls) h.gap (run_parts ls) in
-    let some : is_empty x ≡ false = some_behind (joined (last_run ls)) (behind_gap r rest) (behind_row_some limit r rest h) in
+    let x : List ℕ = joined (last_run ls) ++ following_gap r rest in
+    let lines : AreGapLines (before_run ls) x = gap_front r.gap (following_gap r rest) (before_run ls) (last_run ls) h.gap (run_parts ls) in
+    let some : is_empty x ≡ false = some_after (joined (last_run ls)) (following_gap r rest) (after_row_some limit r rest h) in
     let gap : IsGap (joined (before_run ls)) x = record { lines = before_run ls; spelled = refl; each = lines } in
     subst (AreLow n) (sym (lines_joined_of (joined (before_run ls)) next x some gap))
     (low_both n (text_lines (joined (before_run ls))) (text_lines next)
@@ -72,7 +72,7 @@ module _ (c : Cut) (n : ℕ) (above : List Step) (s : Step) (least next : Option
     (d : PlacedPart) (placed : placed_document n c ≡ Some d) (x : OwnRows) (own : own_rows (above ++ (s ∷ [])) d.part.rows ≡ Some x) (short : length (rows_out d x).before + length (rows_out d x).gone ≤ keep)
     (others : has_others_at n (above ++ (s ∷ [])) run.cut ≡ true) (stays : StaysAt (rows_out d x).seam next) (low : IsLeast least (rows_out d x).gap next)
     (fits : Fits (room_of (cut_text run.cut)) (remove n (above ++ (s ∷ []))) (documents run.cut)) where
-  abbrev now_there : StandsBefore d x run.cut n (above ++ (s ∷ [])) least
+  abbrev now_there : IsPlacedBefore d x run.cut n (above ++ (s ∷ [])) least
   now_there = there c n above s least next keep tail run read d placed x own short others stays low
 
   abbrev p : Part
@@ -106,7 +106,7 @@ module _ (c : Cut) (n : ℕ) (above : List Step) (s : Step) (least next : Option
 
   -- one in front of it
   module _ (t : Step) (y : OwnRows) (own_y : own_rows (above ++ (t ∷ [])) d.part.rows ≡ Some y) (before : length (rows_out d y).before + length (rows_out d y).gone ≤ at) where
-    abbrev was : StandsBefore d y run.cut n (above ++ (t ∷ [])) least
+    abbrev was : IsPlacedBefore d y run.cut n (above ++ (t ∷ [])) least
     was = run.stays t d y placed own_y (omega (arith, before, short))
 
     same_now : was.now ≡ now_there.now
@@ -121,7 +121,7 @@ module _ (c : Cut) (n : ℕ) (above : List Step) (s : Step) (least next : Option
     between : (m : List Row) × (x.front ≡ y.front ++ (y.own ++ m))
     between =
         let is = old c n above s least next keep tail run read d placed x own short others stays low in
-        in_front d y x (ap no_rows first_y.2) first.0 first.1 first.2 (has (cut_text c) c n d.part above t y is own_y).rows.rows_are (has (cut_text c) c n d.part above s x is own).rows.rows_are
+        before_offset d y x (ap no_rows first_y.2) first.0 first.1 first.2 (has (cut_text c) c n d.part above t y is own_y).rows.rows_are (has (cut_text c) c n d.part above s x is own).rows.rows_are
         (part_rows n c d (cut_read (cut_text c) c read).parts placed) before
 
     abbrev new_back : List Row
@@ -140,7 +140,7 @@ module _ (c : Cut) (n : ℕ) (above : List Step) (s : Step) (least next : Option
 
     was_back : was.back ≡ between.0 ++ (x.own ++ back)
     was_back =
-        rows_behind (cut_text run.cut) run.cut n p above t s (record y { back = was.back }) (record x { back = back }) (old_now c n above s least next keep tail run read d placed x own short others stays low)
+        following_rows (cut_text run.cut) run.cut n p above t s (record y { back = was.back }) (record x { back = back }) (old_now c n above s least next keep tail run read d placed x own short others stays low)
         own_now now_there.own between.0 between.1 gap_now (back_same c n above s least next keep tail run read d placed x own short others stays low fits)
 
     -- the gap after it is as low
@@ -167,16 +167,16 @@ module _ (c : Cut) (n : ℕ) (above : List Step) (s : Step) (least next : Option
                 let rows : p.rows ≡ x.front ++ (r ∷ (first.1 ++ back)) =
                 (has (cut_text run.cut) run.cut n p above s (record x { back = back }) (old_now c n above s least next keep tail run read d placed x own short others stays low) now_there.own).rows.rows_are
                 ∙ ap (λ (rs : List Row). x.front ++ (rs ++ back)) first.2 in
-                let are : AreRows unlimited p.rows p.end now_there.now.behind =
+                let are : AreRows unlimited p.rows p.end now_there.now.after =
                 part_rows n run.cut now_there.now (cut_read _ run.cut run.read).parts now_there.placed in
-                let row = row_rest x.front r (first.1 ++ back) unlimited p.end now_there.now.behind (subst (λ (rs : List Row). AreRows unlimited rs p.end now_there.now.behind) rows are) in
+                let row = row_rest x.front r (first.1 ++ back) unlimited p.end now_there.now.after (subst (λ (rs : List Row). AreRows unlimited rs p.end now_there.now.after) rows are) in
                 let both : AreLow m (text_lines (joined (before_run (text_lines r.gap)) ++ gone.gap)) =
                 joined_low m row.0 r row.1 gone.gap row.2 own_low (low_more k m (text_lines gone.gap) more (low_now c n above s least next keep tail run read d placed x own short others stays low k e)) in
                 let now_is : gap_now ≡ joined (before_run (text_lines r.gap)) ++ gone.gap = gap_is ∙ ap (λ (rs : List Row). kept_gap rs p.end ++ gone.gap) first.2 in
                 subst (λ (rs : List Row). AreLow m (text_lines (first_gap (rs ++ with_first_gap gap_now back) left.end))) (sym is)
                 (subst (λ (g : List ℕ). AreLow m (text_lines g)) (sym (put_first gap_now back p.end ∙ now_is)) both)
 
-    pub remains : StandsBefore d y new n (above ++ (t ∷ [])) next
+    pub remains : IsPlacedBefore d y new n (above ++ (t ∷ [])) next
     remains =
         let there_now = (old_now c n above s least next keep tail run read d placed x own short others stays low).there in
         let parts = map_some (λ (z : Part). placed_at _ run.cut) _ now_there.now now_there.placed in
@@ -189,19 +189,19 @@ module _ (c : Cut) (n : ℕ) (above : List Step) (s : Step) (least next : Option
           low = gap_low;
         }
 
-  pub goes_on : IsRowRemovalRun c n above next at (gone.gap ++ gone.behind)
+  pub goes_on : IsRowRemovalRun c n above next at (gone.gap ++ gone.after)
   goes_on =
       let place_c : removal_place n (above ++ (s ∷ [])) c ≡ Some (rows_out d x) =
       ap (λ (o : Option PlacedPart). o >>= λ e. option_map (rows_out e) (own_rows (above ++ (s ∷ [])) e.part.rows)) placed ∙ ap (option_map (rows_out d)) own in
-      let front : take at (cut_text c) ≡ (rows_out d x).before = ap (take at) (removal_stands c n (above ++ (s ∷ [])) (rows_out d x) read place_c) ∙ take-append_seam (rows_out d x).before _ in
-      let text : take at (cut_text c) ++ (gone.gap ++ gone.behind) ≡ cut_text new =
-      ap (λ (t : List ℕ). t ++ (gone.gap ++ gone.behind)) (front ∙ sym (before_is c n above s least next keep tail run read d placed x own short others stays low))
+      let front : take at (cut_text c) ≡ (rows_out d x).before = ap (take at) (removal_is_there c n (above ++ (s ∷ [])) (rows_out d x) read place_c) ∙ take-append_seam (rows_out d x).before _ in
+      let text : take at (cut_text c) ++ (gone.gap ++ gone.after) ≡ cut_text new =
+      ap (λ (t : List ℕ). t ++ (gone.gap ++ gone.after)) (front ∙ sym (before_is c n above s least next keep tail run read d placed x own short others stays low))
       ∙ (sym (left_is c n above s least next keep tail run read d placed x own short others stays low) ∙ sym (text_next c n above s least next keep tail run read d placed x own short others stays low fits)) in
       record {
         within = (let most = run.within in omega (arith, short, most));
         cut = new;
         read = ap read_at text ∙ read_next c n above s least next keep tail run read d placed x own short others stays low fits;
         stays = λ t e y placed_e own_e before.
-            subst (λ (f : PlacedPart). own_rows (above ++ (t ∷ [])) f.part.rows ≡ Some y → length (rows_out f y).before + length (rows_out f y).gone ≤ at → StandsBefore f y new n (above ++ (t ∷ [])) next)
+            subst (λ (f : PlacedPart). own_rows (above ++ (t ∷ [])) f.part.rows ≡ Some y → length (rows_out f y).before + length (rows_out f y).gone ≤ at → IsPlacedBefore f y new n (above ++ (t ∷ [])) next)
             (same_Some _ _ (sym placed ∙ placed_e)) (λ o b. remains t y o b) own_e before;
       }

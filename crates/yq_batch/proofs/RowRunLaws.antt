@@ -7,8 +7,8 @@ use Rattle.yq_text.{specs.Limit.text_limit, specs.Script.{Segment, changes, keep
 use Rattle.yq_core.specs.Paths.{Step}
 use Rattle.yq_row_table.specs.Rows.{Cut, cut_text}
 use Rattle.yq_documents.{specs.Reading.{documents, read_at}, proofs.ReadLaws.parts_read}
-use Rattle.yq_places.specs.Standings.{RowsOfEntry, rows_of_entry}
-use Rattle.yq_edit_rules.{specs.Appends.inserted, specs.Changed.put_document, specs.RowStays.{IsBehind, StandsStill, StaysFrom}}
+use Rattle.yq_places.specs.Placements.{RowsOfEntry, rows_of_entry}
+use Rattle.yq_edit_rules.{specs.Appends.inserted, specs.Changed.put_document, specs.RowStays.{IsAfter, StaysInRows, StaysFrom}}
 use Rattle.yq_edit_rules.{proofs.RowStayLaws.rows_stay_there, specs.Edits.{op_edits, or_stay}, specs.Operands.HasOperand}
 use Rattle.yq_edit_rules.specs.RowChanges.{ChangesRow}
 use Rattle.yq_semantics.{specs.After.op_document, specs.Fits.Fits, specs.Operations.Operation, specs.Rooms.room_of}
@@ -20,19 +20,19 @@ use Rattle.yq_batch.{specs.RowRuns.{IsRowRun, PutsText, rows_still}, specs.Runs.
 use Rattle.yq_text.specs.Exchanging as exchange
 
 -- what is after one row after another is after that
-pub behind_both : (k n m i l j : ℕ) → IsBehind k n m i → IsBehind m (suc i) l j → IsBehind k n l j
-behind_both k n m i l j (inl a) (inl b) = inl (omega (arith, a, b))
-behind_both k n m i l j (inl a) (inr b) = inl (omega (arith, a, b.0))
-behind_both k n m i l j (inr a) (inl b) = inl (omega (arith, a.0, b))
-behind_both k n m i l j (inr a) (inr b) = inr (a.0 ∙ b.0, omega (arith, a.1, b.1))
+pub after_both : (k n m i l j : ℕ) → IsAfter k n m i → IsAfter m (suc i) l j → IsAfter k n l j
+after_both k n m i l j (inl a) (inl b) = inl (omega (arith, a, b))
+after_both k n m i l j (inl a) (inr b) = inl (omega (arith, a, b.0))
+after_both k n m i l j (inr a) (inl b) = inl (omega (arith, a.0, b))
+after_both k n m i l j (inr a) (inr b) = inr (a.0 ∙ b.0, omega (arith, a.1, b.1))
 
-pub sized : (k n m i j : ℕ) → i ≡ j → IsBehind k n m i → IsBehind k n m j
-sized k n m i j e h = subst (λ (x : ℕ). IsBehind k n m x) e h
+pub sized : (k n m i j : ℕ) → i ≡ j → IsAfter k n m i → IsAfter k n m j
+sized k n m i j e h = subst (λ (x : ℕ). IsAfter k n m x) e h
 
 module _ (c : Cut) (k n : ℕ) (out : List ℕ) (done : ℕ) (run : IsRowRun c k n out done) (op : Operation) (steps : List Step) (e : RowsOfEntry)
-    (at : rows_of_entry (op_document op) steps c ≡ Some e) (later : IsBehind k n (op_document op) (length e.front)) where
+    (at : rows_of_entry (op_document op) steps c ≡ Some e) (later : IsAfter k n (op_document op) (length e.front)) where
   -- the rows in the text as it is now
-  abbrev pub still : StandsStill e (op_document op) steps run.cut
+  abbrev pub still : StaysInRows e (op_document op) steps run.cut
   still = run.stays (op_document op) steps e at later
 
   abbrev now : List ℕ
@@ -56,7 +56,7 @@ module _ (c : Cut) (k n : ℕ) (out : List ℕ) (done : ℕ) (run : IsRowRun c k
       ∙ (ap (λ (b : Bool). exchange_edit (cond b (exchange.gives t []) exchange.too_large)) (le-leb (length t) text_limit (cut_read t run.cut read_now).size) ∙ ap (λ (u : List ℕ). gives u []) text_now))
 
   -- a text is put there
-  module _ (before old new behind : List ℕ) (text_is : cut_text c ≡ before ++ (old ++ behind)) (ordered : done ≤ length before) (x : PutsText op run.cut (rows_still e still) old new behind) where
+  module _ (before old new following : List ℕ) (text_is : cut_text c ≡ before ++ (old ++ following)) (ordered : done ≤ length before) (x : PutsText op run.cut (rows_still e still) old new following) where
     abbrev t : List ℕ
     t = cut_text c
 
@@ -76,32 +76,32 @@ module _ (c : Cut) (k n : ℕ) (out : List ℕ) (done : ℕ) (run : IsRowRun c k
     ss = x.segments
 
     before_is : take start t ≡ before
-    before_is = ap (take start) text_is ∙ take-append_seam before (old ++ behind)
+    before_is = ap (take start) text_is ∙ take-append_seam before (old ++ following)
 
     -- the text in front is what the run has made, and what stays after that
     front_is : x.front ≡ new_front
     front_is =
-        append_cancel_right x.front new_front (old ++ behind)
+        append_cancel_right x.front new_front (old ++ following)
         (sym x.puts.old_is
         ∙ (x.whole
         ∙ (text_now
         ∙ (ap (λ (u : List ℕ). out ++ drop done u) text_is
-        ∙ (ap (λ (u : List ℕ). out ++ u) (drop-append-le done before (old ++ behind) ordered)
-        ∙ (sym (append_assoc out (drop done before) (old ++ behind))
-        ∙ ap (λ (u : List ℕ). (out ++ drop done u) ++ (old ++ behind)) (sym before_is)))))))
+        ∙ (ap (λ (u : List ℕ). out ++ u) (drop-append-le done before (old ++ following) ordered)
+        ∙ (sym (append_assoc out (drop done before) (old ++ following))
+        ∙ ap (λ (u : List ℕ). (out ++ drop done u) ++ (old ++ following)) (sym before_is)))))))
 
     size : finish ≡ length (before ++ old)
     size = omega (arith, length-append before old)
 
-    apart : t ≡ (before ++ old) ++ behind
-    apart = text_is ∙ sym (append_assoc before old behind)
+    apart : t ≡ (before ++ old) ++ following
+    apart = text_is ∙ sym (append_assoc before old following)
 
-    left_is : drop finish t ≡ behind
-    left_is = (λ i. drop (size i) (apart i)) ∙ drop-append_seam (before ++ old) behind
+    left_is : drop finish t ≡ following
+    left_is = (λ i. drop (size i) (apart i)) ∙ drop-append_seam (before ++ old) following
 
     pub old_is : drop start (take finish t) ≡ old
     old_is =
-        let upto : take finish t ≡ before ++ old = (λ i. take (size i) (apart i)) ∙ take-append_seam (before ++ old) behind in
+        let upto : take finish t ≡ before ++ old = (λ i. take (size i) (apart i)) ∙ take-append_seam (before ++ old) following in
         ap (drop start) upto ∙ drop-append_seam before old
 
     new_is : new_text ss ≡ text_with_run t new_out finish
@@ -133,12 +133,12 @@ module _ (c : Cut) (k n : ℕ) (out : List ℕ) (done : ℕ) (run : IsRowRun c k
         let kept : StaysFrom (suc (length e.front)) y.part (inserted y.front (y.new ∷ []) y.back y.part) =
         subst (λ (i : ℕ). StaysFrom (suc i) y.part (inserted y.front (y.new ∷ []) y.back y.part)) front_size (rows_stay_there.exchanges y.part y.front y.back y.row y.new y.rows_are y.shape) in
         record {
-          within = omega (arith, ap length text_is, length-append before (old ++ behind), length-append old behind);
+          within = omega (arith, ap length text_is, length-append before (old ++ following), length-append old following);
           edge = edge;
           cut = put_document m (inserted y.front (y.new ∷ []) y.back y.part) run.cut;
           read = ap read_at (sym new_is) ∙ y.read;
           stays = λ l path f found after.
-              let first : StandsStill f l path run.cut = run.stays l path f found (behind_both k n m (length e.front) l (length f.front) later after) in
+              let first : StaysInRows f l path run.cut = run.stays l path f found (after_both k n m (length e.front) l (length f.front) later after) in
               let z = rows_stay_there.entries run.cut m (suc (length e.front)) y.part (inserted y.front (y.new ∷ []) y.back y.part) l path (record f { start = first.start; front = first.front }) y.there kept first.found
               (sized m (suc (length e.front)) l (length f.front) (length first.front) (sym first.size) after) in
               record { start = z.start; front = z.front; found = z.found; size = z.size ∙ first.size };

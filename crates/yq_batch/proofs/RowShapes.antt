@@ -5,11 +5,11 @@ use Rattle.std.{proofs.lemmas.Option.{none-some, same_Some}, specs.List.slice_ge
 use mathlib.Core.List.{head-eq_of_cons-eq, tail-eq_of_cons-eq}
 use Rattle.yq_core.{specs.Answers.◌>>=◌, specs.Paths.Step}
 use Rattle.yq_outline.{specs.Ends.line_at_steps, specs.Lines.lines_of_rows, specs.RowWalk.deeper_rows}
-use Rattle.yq_row_table.{specs.Rows.{Cut, Part, Row}, specs.Splices.behind_part, specs.View.slices}
-use Rattle.yq_documents.{specs.Documents.document_parts, specs.LinesInRows.{RowLine, behind_one, row_line, row_line_of}}
+use Rattle.yq_row_table.{specs.Rows.{Cut, Part, Row}, specs.Splices.after_part, specs.View.slices}
+use Rattle.yq_documents.{specs.Documents.document_parts, specs.LinesInRows.{RowLine, one_row_later, row_line, row_line_of}}
 use Rattle.yq_documents.{specs.PartNumbers.part_number, proofs.PartNumberLaws.part_there}
 use Rattle.yq_places.specs.PlacedRows.{PlacedPart, before_part, placed_at, placed_document}
-use Rattle.yq_places.{specs.Standings.{RowsOfEntry, entry_rows_at, rows_of_entry, under_count}, proofs.PlacedPartLaws.map_some}
+use Rattle.yq_places.{specs.Placements.{RowsOfEntry, entry_rows_at, rows_of_entry, under_count}, proofs.PlacedPartLaws.map_some}
 use Rattle.yq_edit_rules.{specs.Changed.{KeepsRows, put_document}, specs.Rooms.row_shape, proofs.ShapeLaws.line_by_shape}
 use Rattle.yq_batch.{proofs.RowOrder.some_line, proofs.RowsTakenOn.placed_put, proofs.RowsUnder.{deeper_by_shapes, level_by_shape}}
 
@@ -35,17 +35,17 @@ row_line_like n (r ∷ rs) (x ∷ ss) s e is =
     let same : row_shape x ≡ row_shape r = head-eq_of_cons-eq e in
     let h = go same (nat_lt (length r.dashes) n) is (λ y at. row_line_like (n - suc (length r.dashes)) rs ss y (tail-eq_of_cons-eq e) at) in (
       h.0,
-      ap (λ (l : ℕ). cond (nat_lt l n) (option_map behind_one (row_line (n - suc l) ss)) (Some (record { before = 0; row = x; line = n }))) (ap (λ y. length y.dashes) same) ∙ h.1,
+      ap (λ (l : ℕ). cond (nat_lt l n) (option_map one_row_later (row_line (n - suc l) ss)) (Some (record { before = 0; row = x; line = n }))) (ap (λ y. length y.dashes) same) ∙ h.1,
       h.2,
     )
   where
-    go : row_shape x ≡ row_shape r → (b : Bool) → cond b (option_map behind_one (row_line (n - suc (length r.dashes)) rs)) (Some (record { before = 0; row = r; line = n })) ≡ Some s →
+    go : row_shape x ≡ row_shape r → (b : Bool) → cond b (option_map one_row_later (row_line (n - suc (length r.dashes)) rs)) (Some (record { before = 0; row = r; line = n })) ≡ Some s →
         ((y : RowLine) → row_line (n - suc (length r.dashes)) rs ≡ Some y → (q : Row) × (row_line (n - suc (length r.dashes)) ss ≡ Some (record y { row = q })) × (row_shape q ≡ row_shape y.row)) →
-        (q : Row) × (cond b (option_map behind_one (row_line (n - suc (length r.dashes)) ss)) (Some (record { before = 0; row = x; line = n })) ≡ Some (record s { row = q })) × (row_shape q ≡ row_shape s.row)
+        (q : Row) × (cond b (option_map one_row_later (row_line (n - suc (length r.dashes)) ss)) (Some (record { before = 0; row = x; line = n })) ≡ Some (record s { row = q })) × (row_shape q ≡ row_shape s.row)
     go same true at again =
-        let y = map_some behind_one (row_line (n - suc (length r.dashes)) rs) s at in
+        let y = map_some one_row_later (row_line (n - suc (length r.dashes)) rs) s at in
         let h = again y.0 y.1 in
-        (h.0, ap (option_map behind_one) h.1 ∙ ap (λ (z : RowLine). Some (record z { row = h.0 })) y.2, h.2 ∙ ap (λ (z : RowLine). row_shape z.row) y.2)
+        (h.0, ap (option_map one_row_later) h.1 ∙ ap (λ (z : RowLine). Some (record z { row = h.0 })) y.2, h.2 ∙ ap (λ (z : RowLine). row_shape z.row) y.2)
     go same false at again =
         let t : record { before = 0; row = r; line = n } ≡ s = same_Some _ _ at in
         (x, ap (λ (z : RowLine). Some (record z { row = x })) t, same ∙ ap (λ (z : RowLine). row_shape z.row) t)
@@ -61,10 +61,10 @@ pub record IsLike (e : RowsOfEntry) (m : ℕ) (steps : List Step) (d : Cut) : Ty
 
 module _ (d : Cut) (m : ℕ) (p q : Part) (there : slice_get (document_parts d) m ≡ Some p) (shapes : map row_shape q.rows ≡ map row_shape p.rows) (keeps : KeepsRows p q) where
   abbrev old : PlacedPart
-  old = record { before = (placed_at (part_number m d) d).before; part = p; behind = (placed_at (part_number m d) d).behind }
+  old = record { before = (placed_at (part_number m d) d).before; part = p; after = (placed_at (part_number m d) d).after }
 
   abbrev next : PlacedPart
-  next = record { before = before_part (part_number m d) d; part = q; behind = behind_part (part_number m d) d }
+  next = record { before = before_part (part_number m d) d; part = q; after = after_part (part_number m d) d }
 
   placed_old : placed_document m d ≡ Some old
   placed_old =

@@ -6,11 +6,11 @@ use Rattle.yq_core.{specs.Paths.Step, specs.Text.is_empty}
 use Rattle.yq_outline.specs.Outline.{null_node}
 use Rattle.yq_row_table.{specs.Exchange.row_front, specs.Rows.{Cut, Row, cut_text, rows_text}, specs.Seams.is_block, specs.View.slices}
 use Rattle.yq_documents.specs.Reading.{read_at}
-use Rattle.yq_places.{specs.RowPieces.{anchor_before, space_before}, specs.Standings.{RowsOfEntry, held, rows_of_entry}}
-use Rattle.yq_edit_rules.{specs.Changed.put_document, specs.RowChanges.{ChangesRow, HoldsInline}, specs.RowStays.StandsStill}
+use Rattle.yq_places.{specs.RowPieces.{anchor_before, space_before}, specs.Placements.{RowsOfEntry, held, rows_of_entry}}
+use Rattle.yq_edit_rules.{specs.Changed.put_document, specs.RowChanges.{ChangesRow, HoldsInline}, specs.RowStays.StaysInRows}
 use Rattle.yq_edit_rules.proofs.RowStayLaws.{rows_stay_there}
 use Rattle.yq_batch.specs.OpenRows.{AreRowsStill, IsHeadAt, IsRowStill, IsRowThere, head_back, head_front}
-use Rattle.yq_batch.{proofs.RowOrder.{StaysInFront, comes_before, front_stays, others_stay, q}, proofs.RowPutLaws.value_text_is}
+use Rattle.yq_batch.{proofs.RowOrder.{StaysBefore, comes_before, front_stays, others_stay, q}, proofs.RowPutLaws.value_text_is}
 use Rattle.yq_batch.{proofs.SlotLaws.{front_of, order_at}, proofs.SlotStills.{new_text_is, old_text}}
 use Rattle.yq_batch.{specs.declared.slots.SlotPlace.SlotPlace, specs.Slots.{AreInOrder, SlotView, slot_places, slot_text, text_from}}
 
@@ -50,10 +50,10 @@ head_some e h p at = go (slices e.row).head h.some at.end
 
 -- An item or entry before a text that is exchanged for another one, up to which there is a text, if its row stays.
 module _ (c d next : Cut) (m : ℕ) (read_d : read_at (cut_text d) ≡ Some d) (read_next : read_at (cut_text next) ≡ Some next) (front gone made : List ℕ) (text_d : cut_text d ≡ front ++ gone) (text_next : cut_text next ≡ front ++ made) where
-  pub row_in_front : (s : SlotView) (mid : List ℕ) → IsRowStill c d m s (mid ++ gone) →
-      ((u : Step) (us : List Step) (e : RowsOfEntry) → rows_of_entry m (u ∷ us) c ≡ Some e → HoldsInline e → IsHeadAt e s.place → (k : IsRowThere e m (u ∷ us) d (mid ++ gone)) → StaysInFront k.now m (u ∷ us) next) →
+  pub row_at_front : (s : SlotView) (mid : List ℕ) → IsRowStill c d m s (mid ++ gone) →
+      ((u : Step) (us : List Step) (e : RowsOfEntry) → rows_of_entry m (u ∷ us) c ≡ Some e → HoldsInline e → IsHeadAt e s.place → (k : IsRowThere e m (u ∷ us) d (mid ++ gone)) → StaysBefore k.now m (u ∷ us) next) →
       IsRowStill c next m s (mid ++ made)
-  row_in_front s mid h stays none u us e found holds at =
+  row_at_front s mid h stays none u us e found holds at =
       let k = h none u us e found holds at in
       let w = stays u us e found holds at k in
       let holds_k : HoldsInline k.now = holds_now e k.now k.row k.line holds in
@@ -93,27 +93,27 @@ module _ (c d : Cut) (m : ℕ) (read_c : read_at (cut_text c) ≡ Some c) (read_
     t = cut_text c
 
     -- one that begins after it
-    row_behind : (s : SlotView) (rest : List ℕ) → IsRowStill c d m s rest → length (head_front e0) < s.place.start → IsRowStill c next m s rest
-    row_behind s rest h later none u us e found holds at =
+    following_row : (s : SlotView) (rest : List ℕ) → IsRowStill c d m s rest → length (head_front e0) < s.place.start → IsRowStill c next m s rest
+    following_row s rest h later none u us e found holds at =
         let k = h none u us e found holds at in
         let order : length e0.front < length e.front = comes_before m u s0 us ss0 c e e0 read_c found found0 (omega (arith, later, at.start)) in
-        let z : StandsStill k.now m (u ∷ us) next = rows_stay_there.entries d m (suc (length y.front)) y.part _ m (u ∷ us) k.now y.there (others_stay d m y.part y.front y.back y.row y.new y.there y.rows_are y.shape) k.found
+        let z : StaysInRows k.now m (u ∷ us) next = rows_stay_there.entries d m (suc (length y.front)) y.part _ m (u ∷ us) k.now y.there (others_stay d m y.part y.front y.back y.row y.new y.there y.rows_are y.shape) k.found
         (inr (refl, omega (arith, order, size0, y.front_size, k.size))) in
         record { now = record k.now { start = z.start; front = z.front }; found = z.found; row = k.row; line = k.line; size = z.size ∙ k.size; back = k.back }
 
     -- one that begins before it, up to which there is a text
     row_before : (s : SlotView) (mid : List ℕ) → IsRowStill c d m s (mid ++ gone) → s.place.start < length (head_front e0) → IsRowStill c next m s (mid ++ made)
     row_before s mid h earlier =
-        row_in_front c d next m read_d read_next front gone made text_d text_next s mid h (λ u us e found holds at k.
+        row_at_front c d next m read_d read_next front gone made text_d text_next s mid h (λ u us e found holds at k.
         let order : length e.front < length e0.front = comes_before m s0 u ss0 us c e0 e read_c found0 found (omega (arith, earlier, at.start)) in
         front_stays d m y.part y.front y.back y.row y.new y.there y.rows_are y.shape (u ∷ us) k.now k.found (omega (arith, order, size0, y.front_size, k.size)))
 
     -- those at places after its own
-    pub rows_behind : (p : ℕ) (ss : List SlotView) → length (head_front e0) < p → AreInOrder p (slot_places ss) (length t) → AreRowsStill c d m ss → AreRowsStill c next m ss
-    rows_behind p [] less order h = tt
-    rows_behind p (s ∷ ss) less order h = (
-      row_behind s (text_from t s.place.end ss) h.0 (omega (arith, less, order.0)),
-      rows_behind s.place.end ss (omega (arith, less, order.0, order.1)) order.3 h.1,
+    pub following_rows : (p : ℕ) (ss : List SlotView) → length (head_front e0) < p → AreInOrder p (slot_places ss) (length t) → AreRowsStill c d m ss → AreRowsStill c next m ss
+    following_rows p [] less order h = tt
+    following_rows p (s ∷ ss) less order h = (
+      following_row s (text_from t s.place.end ss) h.0 (omega (arith, less, order.0)),
+      following_rows s.place.end ss (omega (arith, less, order.0, order.1)) order.3 h.1,
     )
 
     module _ (s s2 : SlotView) (bs : List SlotView) (same : s2.place ≡ s.place) (old new : List ℕ) (old_is : slot_text t s ≡ [] ++ old) (new_is : slot_text t s2 ≡ [] ++ new)
@@ -122,7 +122,7 @@ module _ (c d : Cut) (m : ℕ) (read_c : read_at (cut_text c) ≡ Some c) (read_
       pub rows_around : (p : ℕ) (fs : List SlotView) → AreInOrder p (slot_places (fs ++ (s ∷ bs))) (length t) → AreRowsStill c d m (fs ++ (s ∷ bs)) → AreRowsStill c next m (fs ++ (s2 ∷ bs))
       rows_around p [] order h =
           let some = head_some e0 holds0 s.place at0 in
-          (subst (λ (x : SlotPlace). IsRowStill c next m s2 (text_from t x.end bs)) (sym same) own, rows_behind s.place.end bs (omega (arith, some, at0.start)) order.3 h.1)
+          (subst (λ (x : SlotPlace). IsRowStill c next m s2 (text_from t x.end bs)) (sym same) own, following_rows s.place.end bs (omega (arith, some, at0.start)) order.3 h.1)
       rows_around p (a ∷ fs) order h =
           let mid : List ℕ = front_of t a.place.end fs s.place.start ++ [] in
           let was : text_from t a.place.end (fs ++ (s ∷ bs)) ≡ mid ++ gone = old_text c s s2 bs same [] old new old_is new_is a.place.end fs order.3 ∙ ap (λ (l : List ℕ). mid ++ l) (sym gone_is) in

@@ -6,23 +6,24 @@ use Rattle.yq_text.{specs.Limit.text_limit, specs.Script.{Segment, are_kept, spl
 use Rattle.yq_core.{specs.Answers.◌>>=◌, specs.Block.{BlockText, keeps}, specs.Paths.Step, specs.Text.text_lines, specs.Tree.Node}
 use Rattle.yq_core.specs.Collections.{CollPieces}
 use Rattle.yq_row_table.{specs.Removal.{hold_comment, last_block, next_column}, specs.Rows.{Row, rows_text, Part, Cut, cut_text}}
-use Rattle.yq_row_table.specs.Splices.{behind_first}
+use Rattle.yq_row_table.specs.Splices.{after_first}
 use Rattle.yq_outline.specs.Outline.{LineMark, Bare, Key, Dash, Outline, end, row}
 use Rattle.yq_outline.{specs.Places.{FoundLine, here, find, in_head, lines_before, place_inside}, specs.Positions.has_no_mark}
 use Rattle.yq_documents.{specs.LinesInRows.document_row, specs.Reading.{part_outline, read_at}}
 use Rattle.yq_places.{specs.FirstPlaces.first_removal, specs.FlowNodes.{bare_line, find_head, flow_collection, head_line, line_collection}}
-use Rattle.yq_places.{specs.PlacedRows.{PlacedPart, placed_document}, specs.Standings.last_step}
+use Rattle.yq_places.{specs.PlacedRows.{PlacedPart, placed_document}, specs.Placements.last_step}
 use Rattle.yq_places.specs.RemovalPlaces.{OwnRows, Removal, Seam, comment_above, has_others_at, kept_gap, own_rows, removal_place, rows_out}
-use Rattle.yq_places.specs.RemovalPlaces.{seam_behind}
+use Rattle.yq_places.specs.RemovalPlaces.{seam_after}
 use Rattle.yq_edit_rules.{specs.DocumentRows.IsDocumentPart, specs.EntryEdits.one_removed}
 use Rattle.yq_edit_rules.{specs.Edits.{op_edits, or_stay, part_removed, rows_or_sole}, specs.FlowParts.flow_removed}
 use Rattle.yq_edit_rules.specs.Removing.{first_removed, gap_mended, rows_removed}
-use Rattle.yq_edit_rules.{specs.Siblings.{HasEntries, IsEntry, NodeLines, lines_at, lines_below}, proofs.PlacedPartLaws.document_stands_at}
-use Rattle.yq_edit_rules.proofs.RemovalChangeLaws.{removal_stands}
+use Rattle.yq_edit_rules.specs.Siblings.{HasEntries, IsEntry, NodeLines, lines_at, lines_below}
+use Rattle.yq_edit_rules.{proofs.PlacedPartLaws.document_is_there_at, proofs.RemovalChangeLaws.removal_is_there}
 use Rattle.yq_semantics.specs.Operations.{remove}
 use Rattle.yq_edit_laws.{proofs.CutLaws.{cut_read, text_read}, specs.Carried.{carried, carry_one}}
 use Rattle.yq_edit_laws.specs.Edit.{by_reading, edit_of_segments, gives}
-use Rattle.yq_batch.{specs.RemovalRuns.text_exchanged, specs.RowRemovals.{AreLow, IsLeast, IsRowRemovalRun, StandsBefore, StayLow, StaysAt}}
+use Rattle.yq_batch.specs.RemovalRuns.{text_exchanged}
+use Rattle.yq_batch.specs.RowRemovals.{AreLow, IsLeast, IsRowRemovalRun, IsPlacedBefore, StayLow, StaysAt}
 use Rattle.yq_batch.{proofs.EntryRemains.{has, own_first}, proofs.GapStays.{gap_kept, segments_come}}
 
 -- ---- a block collection is no flow collection
@@ -62,7 +63,7 @@ last_is (a ∷ (b ∷ above)) s = ap (option_map (λ (x : List Step × Step). (a
 
 -- ---- seams in another column
 
-other_column : (o : Option BlockText) (i j : ℕ) (kept : List ℕ) (m : Option ℕ) → StaysAt (seam_behind o i kept) m → StaysAt (seam_behind o j kept) m
+other_column : (o : Option BlockText) (i j : ℕ) (kept : List ℕ) (m : Option ℕ) → StaysAt (seam_after o i kept) m → StaysAt (seam_after o j kept) m
 other_column None i j kept m h = tt
 other_column (Some b) i j kept m h = go (hold_comment (text_lines kept)) m h
   where
@@ -83,7 +84,7 @@ module _ (c : Cut) (n : ℕ) (above : List Step) (s : Step) (least next : Option
   abbrev pub now : List ℕ
   now = take keep (cut_text c) ++ tail
 
-  abbrev pub there : StandsBefore d x run.cut n steps least
+  abbrev pub there : IsPlacedBefore d x run.cut n steps least
   there = run.stays s d x placed own short
 
   -- what is taken out of the text as it is now
@@ -100,10 +101,10 @@ module _ (c : Cut) (n : ℕ) (above : List Step) (s : Step) (least next : Option
   read_now = ap read_at text ∙ run.read
 
   pub old : IsDocumentPart (cut_text c) c n d.part
-  old = record { read = read; there = (document_stands_at c n d placed).there }
+  old = record { read = read; there = (document_is_there_at c n d placed).there }
 
   pub old_now : IsDocumentPart (cut_text run.cut) run.cut n there.now.part
-  old_now = record { read = read_now; there = (document_stands_at run.cut n there.now there.placed).there }
+  old_now = record { read = read_now; there = (document_is_there_at run.cut n there.now there.placed).there }
 
   -- its rows begin with one
   pub some : (r : Row) × (g : List Row) × (x.own ≡ r ∷ g)
@@ -120,11 +121,11 @@ module _ (c : Cut) (n : ℕ) (above : List Step) (s : Step) (least next : Option
   before_is = λ i. there.before i ++ rows_text x.front (kept_same there.now.part.end d.part.end i)
 
   pub gone_is : out.gone ≡ (rows_out d x).gone
-  gone_is = ap (λ (t : List ℕ). t ++ behind_first x.own [] []) (comment_same there.now.part.end d.part.end)
+  gone_is = ap (λ (t : List ℕ). t ++ after_first x.own [] []) (comment_same there.now.part.end d.part.end)
 
   pub seam_stays : StaysAt out.seam next
   seam_stays =
-      subst (λ (k : List ℕ). StaysAt (seam_behind (last_block x.front) (next_column there.back) k) next) (kept_same d.part.end there.now.part.end)
+      subst (λ (k : List ℕ). StaysAt (seam_after (last_block x.front) (next_column there.back) k) next) (kept_same d.part.end there.now.part.end)
       (other_column (last_block x.front) (next_column x.back) (next_column there.back) (kept_gap x.own d.part.end) next stays)
 
   -- the gap stays as it is
@@ -156,8 +157,8 @@ module _ (c : Cut) (n : ℕ) (above : List Step) (s : Step) (least next : Option
       let rows : rows_or_sole n steps run.cut ≡ Some (rows_removed out) = rw (others) one in
       ap (λ o. option_or o (rows_or_sole n steps run.cut)) no_flow ∙ rows
 
-  pub whole : now ≡ out.before ++ (out.gone ++ (out.gap ++ out.behind))
-  whole = sym text ∙ removal_stands run.cut n steps out read_now place
+  pub whole : now ≡ out.before ++ (out.gone ++ (out.gap ++ out.after))
+  whole = sym text ∙ removal_is_there run.cut n steps out read_now place
 
   abbrev pub start : ℕ
   start = length (rows_out d x).before
@@ -168,28 +169,28 @@ module _ (c : Cut) (n : ℕ) (above : List Step) (s : Step) (least next : Option
   sizes : (start ≡ length out.before) × (finish ≡ length (out.before ++ out.gone))
   sizes = (ap length (sym before_is), omega (arith, ap length before_is, ap length gone_is, length-append out.before out.gone))
 
-  in_two : now ≡ (out.before ++ out.gone) ++ (out.gap ++ out.behind)
-  in_two = whole ∙ sym (append_assoc out.before out.gone (out.gap ++ out.behind))
+  in_two : now ≡ (out.before ++ out.gone) ++ (out.gap ++ out.after)
+  in_two = whole ∙ sym (append_assoc out.before out.gone (out.gap ++ out.after))
 
-  pub left_is : text_exchanged now start finish [] ≡ out.before ++ (out.gap ++ out.behind)
+  pub left_is : text_exchanged now start finish [] ≡ out.before ++ (out.gap ++ out.after)
   left_is =
       (λ i. take (sizes.0 i) (whole i) ++ drop (sizes.1 i) (in_two i))
-      ∙ (λ i. take-append_seam out.before (out.gone ++ (out.gap ++ out.behind)) i ++ drop-append_seam (out.before ++ out.gone) (out.gap ++ out.behind) i)
+      ∙ (λ i. take-append_seam out.before (out.gone ++ (out.gap ++ out.after)) i ++ drop-append_seam (out.before ++ out.gone) (out.gap ++ out.after) i)
 
   pub gone_there : drop start (take finish now) ≡ out.gone
   gone_there =
       (λ i. drop (sizes.0 i) (take (sizes.1 i) (in_two i)))
-      ∙ (ap (drop (length out.before)) (take-append_seam (out.before ++ out.gone) (out.gap ++ out.behind)) ∙ drop-append_seam out.before out.gone)
+      ∙ (ap (drop (length out.before)) (take-append_seam (out.before ++ out.gone) (out.gap ++ out.after)) ∙ drop-append_seam out.before out.gone)
 
-  pub small : length (out.before ++ (out.gap ++ out.behind)) ≤ text_limit
+  pub small : length (out.before ++ (out.gap ++ out.after)) ≤ text_limit
   small =
       omega (
         arith,
         (cut_read (cut_text run.cut) run.cut read_now).size,
         ap length (text ∙ whole),
-        length-append out.before (out.gone ++ (out.gap ++ out.behind)),
-        length-append out.gone (out.gap ++ out.behind),
-        length-append out.before (out.gap ++ out.behind),
+        length-append out.before (out.gone ++ (out.gap ++ out.after)),
+        length-append out.gone (out.gap ++ out.after),
+        length-append out.before (out.gap ++ out.after),
       )
 
   -- it comes to this that its lines go

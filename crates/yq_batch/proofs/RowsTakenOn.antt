@@ -6,15 +6,15 @@ use Rattle.yq_text.specs.Limit.{text_limit}
 use Rattle.yq_core.{specs.Paths.{Step, changed_at, remove_child, within}, specs.Text.{joined, text_lines, ends_line, past_white}}
 use Rattle.yq_core.proofs.LineLaws.{joined_lines}
 use Rattle.yq_core.specs.BlockRepair.{is_outdented_comment, is_short, repair, repaired_blank, repaired_comment}
-use Rattle.yq_core.specs.Lines.{behind_spaces, is_blank, is_tab, spaces}
+use Rattle.yq_core.specs.Lines.{without_spaces, is_blank, is_tab, spaces}
 use Rattle.yq_row_table.{specs.Grammar.begins_document, specs.Rows.{Row, Part, Cut, last, marked, cut_text, part_text}}
-use Rattle.yq_row_table.specs.Splices.{behind_part, nth_part, with_first_gap}
+use Rattle.yq_row_table.specs.Splices.{after_part, nth_part, with_first_gap}
 use Rattle.yq_outline.{specs.Laws.with_lines, specs.Lines.lines_of_rows}
 use Rattle.yq_edit_rules.{specs.Siblings.put_lines, specs.Changed.{IsChanged, KeepsRows, put_document, put_part}}
 use Rattle.yq_edit_rules.{specs.RemovalChanges.{HasOwnRows, MayTakeOut, mended}, specs.DocumentRows.IsDocumentPart}
 use Rattle.yq_edit_rules.{specs.Removes.{left_gap, without}, specs.TextPieces.IsPiece}
 use Rattle.yq_edit_rules.{proofs.ChangedLaws.{document_put, first_stays, nth_changed}, proofs.PlacedLaws.entry_placed}
-use Rattle.yq_edit_rules.{proofs.PlacedPartLaws.document_stands_at, proofs.RemovalChangeLaws.{entry_taken, may_go}}
+use Rattle.yq_edit_rules.{proofs.PlacedPartLaws.document_is_there_at, proofs.RemovalChangeLaws.{entry_taken, may_go}}
 use Rattle.yq_edit_rules.{proofs.RemovalTextLaws.new_text, proofs.PartLaws.document_known, proofs.RemoveLaws.block_gone}
 use Rattle.yq_edit_rules.proofs.TextPieceLaws.{text_is_piece}
 use Rattle.yq_documents.{specs.Documents.{begins_bare, document_parts, has_begin, lead_of}, specs.PartNumbers.{number_from, part_number}}
@@ -35,7 +35,7 @@ unfolding repair
 lines_same m column n [] less low = refl
 lines_same m column n (l ∷ ls) less low = go (lines_same m column n ls less low.2) (is_blank l) low.0
   where
-    go : repair false m column ls ≡ ls → (b : Bool) → cond b (ends_line (behind_spaces l)) (not (is_tab (behind_spaces l))) ≡ true → cond b (repaired_blank m l ∷ repair false m column ls) (repaired_comment m column l ∷ ls) ≡ l ∷ ls
+    go : repair false m column ls ≡ ls → (b : Bool) → cond b (ends_line (without_spaces l)) (not (is_tab (without_spaces l))) ≡ true → cond b (repaired_blank m l ∷ repair false m column ls) (repaired_comment m column l ∷ ls) ≡ l ∷ ls
     go more true e =
         let short : is_short m l ≡ true = (λ i. e i && le-leb (spaces l) m (let lt = low.1 in omega (arith, less, lt)) i) in
         (λ i. cond (short i) l (past_white l) ∷ more i)
@@ -77,13 +77,13 @@ nth_put i q (last p) = refl
 nth_put zero q (marked p marker c) = refl
 nth_put (suc i) q (marked p marker c) = nth_put i q c
 
-behind_put : (i : ℕ) (q : Part) (c : Cut) → behind_part i (put_part i q c) ≡ behind_part i c
-behind_put i q (last p) = refl
-behind_put zero q (marked p marker c) = refl
-behind_put (suc i) q (marked p marker c) = behind_put i q c
+past_put : (i : ℕ) (q : Part) (c : Cut) → after_part i (put_part i q c) ≡ after_part i c
+past_put i q (last p) = refl
+past_put zero q (marked p marker c) = refl
+past_put (suc i) q (marked p marker c) = past_put i q c
 
 pub placed_put : (c : Cut) (k : ℕ) (p q : Part) → slice_get (document_parts c) k ≡ Some p → KeepsRows p q →
-    placed_document k (put_document k q c) ≡ Some (record { before = before_part (part_number k c) c; part = q; behind = behind_part (part_number k c) c })
+    placed_document k (put_document k q c) ≡ Some (record { before = before_part (part_number k c) c; part = q; after = after_part (part_number k c) c })
 placed_put c k p q there keeps =
     let i : ℕ = part_number k c in
     let still : slice_get (document_parts (put_document k q c)) k ≡ Some q =
@@ -91,7 +91,7 @@ placed_put c k p q there keeps =
     let number : part_number k (put_document k q c) ≡ i =
     ap (λ (b : Bool). number_from b k (put_document k q c)) (first_stays c k p q there keeps) ∙ number_stays (begins_bare c || not (has_begin c)) k i q c in
     ap (option_map (λ (x : Part). placed_at (part_number k (put_document k q c)) (put_document k q c))) still
-    ∙ (ap (λ (j : ℕ). Some (placed_at j (put_document k q c))) number ∙ (λ j. Some (record { before = before_put i q c j; part = nth_put i q c j; behind = behind_put i q c j })))
+    ∙ (ap (λ (j : ℕ). Some (placed_at j (put_document k q c))) number ∙ (λ j. Some (record { before = before_put i q c j; part = nth_put i q c j; after = past_put i q c j })))
 
 -- ---- the next cut
 
@@ -129,8 +129,8 @@ module _ (c : Cut) (n : ℕ) (above : List Step) (s : Step) (least next : Option
       go None e (Some k) is = absurd (subst (λ (o : Option Seam). StaysAt o None) is (subst (StaysAt gone.seam) e stay))
       go (Some m) e (Some k) is = gap_same gone.seam m gone.gap (subst (StaysAt gone.seam) e stay) (low_now c n above s least next keep tail run read d placed x own short others stays low m e)
 
-  size : length (gone.before ++ (mended gone.seam gone.gap ++ gone.behind)) ≤ text_limit
-  size = subst (λ (g : List ℕ). length (gone.before ++ (g ++ gone.behind)) ≤ text_limit) (sym mended_is) (small c n above s least next keep tail run read d placed x own short others stays low)
+  size : length (gone.before ++ (mended gone.seam gone.gap ++ gone.after)) ≤ text_limit
+  size = subst (λ (g : List ℕ). length (gone.before ++ (g ++ gone.after)) ≤ text_limit) (sym mended_is) (small c n above s least next keep tail run read d placed x own short others stays low)
 
   abbrev old : IsDocumentPart (cut_text run.cut) run.cut n now_part.part
   old = old_now c n above s least next keep tail run read d placed x own short others stays low
@@ -141,9 +141,9 @@ module _ (c : Cut) (n : ℕ) (above : List Step) (s : Step) (least next : Option
   abbrev may : MayTakeOut run.cut n (above ++ (s ∷ []))
   may = may_take n (above ++ (s ∷ [])) run.cut others fits
 
-  text_q : cut_text next_cut ≡ gone.before ++ (mended gone.seam gone.gap ++ gone.behind)
+  text_q : cut_text next_cut ≡ gone.before ++ (mended gone.seam gone.gap ++ gone.after)
   text_q =
-      let st = document_stands_at run.cut n now_part (there c n above s least next keep tail run read d placed x own short others stays low).placed in
+      let st = document_is_there_at run.cut n now_part (there c n above s least next keep tail run read d placed x own short others stays low).placed in
       st.put q ∙ new_text now_part y
 
   readable : IsReadable (cut_text next_cut)
@@ -168,7 +168,7 @@ module _ (c : Cut) (n : ℕ) (above : List Step) (s : Step) (least next : Option
 
   pub text_next : cut_text next_cut ≡ text_exchanged (now c n above s least next keep tail run read d placed x own short others stays low)
       (start c n above s least next keep tail run read d placed x own short others stays low) (finish c n above s least next keep tail run read d placed x own short others stays low) []
-  text_next = text_q ∙ (ap (λ (g : List ℕ). gone.before ++ (g ++ gone.behind)) mended_is ∙ sym (left_is c n above s least next keep tail run read d placed x own short others stays low))
+  text_next = text_q ∙ (ap (λ (g : List ℕ). gone.before ++ (g ++ gone.after)) mended_is ∙ sym (left_is c n above s least next keep tail run read d placed x own short others stays low))
 
   -- the lines of the rows after those that go stay
   pub back_same : lines_of_rows (with_first_gap (left_gap x.front x.own back now_part.part) back) ≡ lines_of_rows back

@@ -9,10 +9,10 @@ use Rattle.yq_outline.{specs.Extents.dash_at, specs.Lines.line_mark, specs.Posit
 use Rattle.yq_row_table.{specs.Rows.{Cut, Part, Row, cut_text, dashes_text, rows_text}, specs.View.{colon_of, last_dash, slices}}
 use Rattle.yq_documents.{specs.Documents.document_parts, specs.LinesInRows.row_line_of, specs.Reading.read_at}
 use Rattle.yq_places.{specs.PlacedRows.{PlacedPart, placed_document}, proofs.PlacedPartLaws.map_some}
-use Rattle.yq_places.specs.Standings.{RowsOfEntry, entry_rows_at, is_alone, rows_of_entry}
-use Rattle.yq_edit_rules.{specs.Rooms.{RowShape, row_shape}, specs.StandingLaws.StandsThere, proofs.StandingRows.rows_stand}
-use Rattle.yq_edit_rules.{proofs.CommentRowLaws.rows_front, proofs.PlacedPartLaws.document_stands_at}
-use Rattle.yq_batch.{specs.RowEnds.AreMappingRows, proofs.RowOrder.StaysInFront, proofs.RowsInFront.split_front}
+use Rattle.yq_places.specs.Placements.{RowsOfEntry, entry_rows_at, is_alone, rows_of_entry}
+use Rattle.yq_edit_rules.{specs.Rooms.{RowShape, row_shape}, specs.PlacementLaws.HasItsRows, proofs.PlacementRows.rows_located}
+use Rattle.yq_edit_rules.{proofs.CommentRowLaws.rows_front, proofs.PlacedPartLaws.document_is_there_at}
+use Rattle.yq_batch.{specs.RowEnds.AreMappingRows, proofs.RowOrder.StaysBefore, proofs.RowsBeforeOffset.split_front}
 
 -- ---- how many rows are under another one
 
@@ -71,14 +71,14 @@ same_split (x ∷ a) b (y ∷ c) d e size =
     (λ i. head-eq_of_cons-eq e i ∷ h.0 i, h.1)
 
 -- An item or entry is there as it was but for the rows after its own, which are these then: they are under it if so many are deeper.
-module _ (m : ℕ) (s : Step) (ss : List Step) (now : RowsOfEntry) (next : Cut) (read : read_at (cut_text next) ≡ Some next) (w : StaysInFront now m (s ∷ ss) next) (q : Part) (there : slice_get (document_parts next) m ≡ Some q)
+module _ (m : ℕ) (s : Step) (ss : List Step) (now : RowsOfEntry) (next : Cut) (read : read_at (cut_text next) ≡ Some next) (w : StaysBefore now m (s ∷ ss) next) (q : Part) (there : slice_get (document_parts next) m ≡ Some q)
     (us bs : List Row) (rows_are : q.rows ≡ now.front ++ (now.row ∷ (us ++ bs))) (deep : deeper_rows (line_level now.line (slices now.row)) (map slices (us ++ bs)) ≡ length us) where
   pub under_then : (w.now.under ≡ us) × (w.now.back ≡ bs)
   under_then =
-      let stands : StandsThere m s ss next w.now = rows_stand m s ss next w.now read w.found in
-      let same : stands.part ≡ q = same_Some _ _ (sym stands.old.there ∙ there) in
+      let is_located : HasItsRows m s ss next w.now = rows_located m s ss next w.now read w.found in
+      let same : is_located.part ≡ q = same_Some _ _ (sym is_located.old.there ∙ there) in
       let rows : now.front ++ (now.row ∷ (w.now.under ++ w.now.back)) ≡ now.front ++ (now.row ∷ (us ++ bs)) =
-      (λ i. sym w.front i ++ (sym w.row i ∷ (w.now.under ++ w.now.back))) ∙ (sym stands.rows_are ∙ (ap (λ (p : Part). p.rows) same ∙ rows_are)) in
+      (λ i. sym w.front i ++ (sym w.row i ∷ (w.now.under ++ w.now.back))) ∙ (sym is_located.rows_are ∙ (ap (λ (p : Part). p.rows) same ∙ rows_are)) in
       let after : w.now.under ++ w.now.back ≡ us ++ bs = tail-eq_of_cons-eq (append_cancel_left now.front _ _ rows) in
       let size : length w.now.under ≡ length us =
       sym (under_size m (s ∷ ss) next w.now w.found) ∙ ((λ i. deeper_rows (line_level (w.line i) (slices (w.row i))) (map slices (after i))) ∙ deep) in
@@ -121,8 +121,8 @@ entries_more column us new h = record { first = h.first; others = h.others ++ (n
 -- ---- the text of rows of a document, and of those after them
 
 pub rows_split : (m : ℕ) (d : Cut) (q : PlacedPart) (front back : List Row) → placed_document m d ≡ Some q → q.part.rows ≡ front ++ back →
-    cut_text d ≡ (q.before ++ rows_text front []) ++ rows_text back (q.part.end ++ q.behind)
+    cut_text d ≡ (q.before ++ rows_text front []) ++ rows_text back (q.part.end ++ q.after)
 rows_split m d q front back at are =
-    (document_stands_at d m q at).text
-    ∙ (ap (λ (rs : List Row). q.before ++ rows_text rs (q.part.end ++ q.behind)) are
-    ∙ (ap (λ (t : List ℕ). q.before ++ t) (rows_front front back (q.part.end ++ q.behind)) ∙ sym (append_assoc q.before (rows_text front []) (rows_text back (q.part.end ++ q.behind)))))
+    (document_is_there_at d m q at).text
+    ∙ (ap (λ (rs : List Row). q.before ++ rows_text rs (q.part.end ++ q.after)) are
+    ∙ (ap (λ (t : List ℕ). q.before ++ t) (rows_front front back (q.part.end ++ q.after)) ∙ sym (append_assoc q.before (rows_text front []) (rows_text back (q.part.end ++ q.after)))))

@@ -7,7 +7,7 @@ use Rattle.yq_core.{specs.Paths.Step, specs.Tree.Node, specs.Entries.tree_step, 
 use Rattle.yq_row_table.specs.Rows.{cut_text}
 use Rattle.yq_documents.specs.Reading.{cut_of, read_at}
 use Rattle.yq_places.{specs.FlowNodes.flow_collection, specs.FlowViews.{FlowAgrees, LeadsToHead}, specs.NodesAt.node_in}
-use Rattle.yq_places.{specs.Standings.last_step, specs.declared.places.flow_node.FlowHead.FlowHead}
+use Rattle.yq_places.{specs.Placements.last_step, specs.declared.places.flow_node.FlowHead.FlowHead}
 use Rattle.yq_semantics.{specs.Operations.{Operation, replace}, specs.declared.refusal.Refusal.TheVariants.TooLarge}
 use Rattle.yq_semantics.specs.Judgement.{ExprError}
 use Rattle.yq_text.{specs.Limit.text_limit, specs.Script.splice_at, specs.Splice.Splice}
@@ -87,7 +87,7 @@ puts_at x op m path v r o y is operand beside h place written =
       valid = subst HasOperand is operand;
       ends = beside.1;
       part = a.0;
-      standing = a.1;
+      placement = a.1;
       placed = subst (IsPlaceOf (cut_text (cut_with x)) v a.0) (sym place) a.2;
       written = subst (IsWrittenPart (node_in x.doc path (cut_with x)) v a.0) (sym written) a.3;
     }
@@ -140,7 +140,7 @@ module _ (x : HeadInText) (u : List ℕ) (all : u ≡ cut_text (cut_with x)) (op
 
 -- a value comes at a part
 module _ (x : HeadInText) (u : List ℕ) (all : u ≡ cut_text (cut_with x)) (op : Operation) (before : PutRun) (y : HeadChange) (there : IsInText x) (run : Runs x before) (h : PutsAt op x y)
-    (behind : before.done ≤ y.place.start) (passes : before.done < y.place.end) (fitting : IsFitting op (now_text (cut_with x) before)) where
+    (following : before.done ≤ y.place.start) (passes : before.done < y.place.end) (fitting : IsFitting op (now_text (cut_with x) before)) where
   abbrev own : Operation
   own = replace x.doc h.path h.value
 
@@ -157,7 +157,7 @@ module _ (x : HeadInText) (u : List ℕ) (all : u ≡ cut_text (cut_with x)) (op
   pub kept_on : y.written ≡ None → RunsOn op x before before
   kept_on none =
       let kept = subst (IsWrittenPart (node_in x.doc h.path (cut_with x)) h.value h.part) none h.written in
-      let comes = kept_there (cut_with x) x.doc (stem_of x) h.path h.value (string_bytes before.text) before.done again run h.ends h.part h.standing (change_place y) h.placed behind passes kept in
+      let comes = kept_there (cut_with x) x.doc (stem_of x) h.path h.value (string_bytes before.text) before.done again run h.ends h.part h.placement (change_place y) h.placed following passes kept in
       subst (λ (o : Operation). RunsOn o x before before) (sym h.operation)
       (record { new_bytes = []; comes = comes; applied = applied_by own now h.valid own_fits now [] comes; splices = sym (append-nil before.splices.items); run = run })
 
@@ -173,10 +173,10 @@ module _ (x : HeadInText) (u : List ℕ) (all : u ≡ cut_text (cut_with x)) (op
     put_on after has_put =
         subst (λ (o : Operation). RunsOn o x before after) (sym h.operation)
         (fill_on x u all own before y.place.start y.place.end new h.valid own_fits None
-        (put_there (cut_with x) x.doc (stem_of x) h.path h.value (string_bytes before.text) before.done again run h.ends h.part h.standing (change_place y) h.placed behind passes (string_bytes s) is.0 is.1)
+        (put_there (cut_with x) x.doc (stem_of x) h.path h.value (string_bytes before.text) before.done again run h.ends h.part h.placement (change_place y) h.placed following passes (string_bytes s) is.0 is.1)
         (λ small. (
-          goes_on (cut_with x) x.doc (stem_of x) h.path h.value (string_bytes before.text) before.done again run h.ends h.part h.standing
-              (change_place y) h.placed behind passes (string_bytes s) is.0 is.1 h.valid own_fits small,
+          goes_on (cut_with x) x.doc (stem_of x) h.path h.value (string_bytes before.text) before.done again run h.ends h.part h.placement
+              (change_place y) h.placed following passes (string_bytes s) is.0 is.1 h.valid own_fits small,
           tt,
         ))
         after has_put).0
@@ -186,4 +186,4 @@ module _ (x : HeadInText) (u : List ℕ) (all : u ≡ cut_text (cut_with x)) (op
     put_fails e fails =
         subst (λ (o : Operation). EditFails e (carried o now)) (sym h.operation)
         (run_fails x u all own before y.place.start y.place.end new h.valid own_fits
-        (large_there (cut_with x) x.doc (stem_of x) h.path h.value (string_bytes before.text) before.done again run h.ends h.part h.standing (change_place y) h.placed behind passes (string_bytes s) is.0 is.1) e fails)
+        (large_there (cut_with x) x.doc (stem_of x) h.path h.value (string_bytes before.text) before.done again run h.ends h.part h.placement (change_place y) h.placed following passes (string_bytes s) is.0 is.1) e fails)

@@ -33,11 +33,11 @@ fits_now op now d operand fitting read =
     subst (λ (c : Cut). Fits (room_of (cut_text c)) op (documents c)) same (fits op now operand fitting)
 
 -- how long the text is, by the edit
-pub edit_size : (t : List ℕ) (e : FlowEdit) (place : PlacedEdit) (at : IsEditPlace t e place) → length t ≡ length at.before + (length e.old + length e.behind)
-edit_size t e place at = omega (arith, ap length at.text, length-append at.before (e.old ++ e.behind), length-append e.old e.behind)
+pub edit_size : (t : List ℕ) (e : FlowEdit) (place : PlacedEdit) (at : IsEditPlace t e place) → length t ≡ length at.before + (length e.old + length e.after)
+edit_size t e place at = omega (arith, ap length at.text, length-append at.before (e.old ++ e.after), length-append e.old e.after)
 
 module _ (c : Cut) (n : ℕ) (stem : List Step) (out : List ℕ) (done : ℕ) (run : IsPutRun c n stem out done) (e : FlowEdit) (place : PlacedEdit) (at : IsEditPlace (cut_text c) e place)
-    (behind : done ≤ place.start) (written : List ℕ) (written_is : written ≡ e.written) where
+    (after : done ≤ place.start) (written : List ℕ) (written_is : written ≡ e.written) where
   abbrev t : List ℕ
   t = cut_text c
 
@@ -50,17 +50,17 @@ module _ (c : Cut) (n : ℕ) (stem : List Step) (out : List ℕ) (done : ℕ) (r
   abbrev finish : ℕ
   finish = place.end
 
-  start_is : start ≡ length t - length (e.old ++ e.behind)
+  start_is : start ≡ length t - length (e.old ++ e.after)
   start_is = ap (λ (p : PlacedEdit). p.start) at.place_is
 
-  finish_is : finish ≡ length t - length e.behind
+  finish_is : finish ≡ length t - length e.after
   finish_is = ap (λ (p : PlacedEdit). p.end) at.place_is
 
-  size : length t ≡ length at.before + (length e.old + length e.behind)
+  size : length t ≡ length at.before + (length e.old + length e.after)
   size = edit_size t e place at
 
   front_size : start ≡ length at.before
-  front_size = omega (arith, start_is, size, length-append e.old e.behind)
+  front_size = omega (arith, start_is, size, length-append e.old e.after)
 
   text : cut_text run.cut ≡ now
   text = text_read now run.cut run.read
@@ -75,30 +75,30 @@ module _ (c : Cut) (n : ℕ) (stem : List Step) (out : List ℕ) (done : ℕ) (r
   cs = run_splices t out done start finish (place.lead ++ written)
 
   front_is : take start t ≡ at.before
-  front_is = (λ i. take (front_size i) (at.text i)) ∙ take-append_seam at.before (e.old ++ e.behind)
+  front_is = (λ i. take (front_size i) (at.text i)) ∙ take-append_seam at.before (e.old ++ e.after)
 
-  rest_is : drop done t ≡ drop done (take start t) ++ (e.old ++ e.behind)
+  rest_is : drop done t ≡ drop done (take start t) ++ (e.old ++ e.after)
   rest_is =
       ap (drop done) at.text
-      ∙ (drop-append-le done at.before (e.old ++ e.behind) (omega (arith, behind, front_size))
-      ∙ ap (λ (l : List ℕ). drop done l ++ (e.old ++ e.behind)) (sym front_is))
+      ∙ (drop-append-le done at.before (e.old ++ e.after) (omega (arith, after, front_size))
+      ∙ ap (λ (l : List ℕ). drop done l ++ (e.old ++ e.after)) (sym front_is))
 
-  split : cut_text run.cut ≡ front ++ (e.old ++ e.behind)
-  split = text ∙ (ap (λ (l : List ℕ). out ++ l) rest_is ∙ sym (append_assoc out (drop done (take start t)) (e.old ++ e.behind)))
+  split : cut_text run.cut ≡ front ++ (e.old ++ e.after)
+  split = text ∙ (ap (λ (l : List ℕ). out ++ l) rest_is ∙ sym (append_assoc out (drop done (take start t)) (e.old ++ e.after)))
 
-  whole_split : t ≡ (at.before ++ e.old) ++ e.behind
-  whole_split = at.text ∙ sym (append_assoc at.before e.old e.behind)
+  whole_split : t ≡ (at.before ++ e.old) ++ e.after
+  whole_split = at.text ∙ sym (append_assoc at.before e.old e.after)
 
   finish_size : finish ≡ length (at.before ++ e.old)
   finish_size = omega (arith, finish_is, size, length-append at.before e.old)
 
   old_is : drop start (take finish t) ≡ e.old
   old_is =
-      let upto : take finish t ≡ at.before ++ e.old = (λ i. take (finish_size i) (whole_split i)) ∙ take-append_seam (at.before ++ e.old) e.behind in
+      let upto : take finish t ≡ at.before ++ e.old = (λ i. take (finish_size i) (whole_split i)) ∙ take-append_seam (at.before ++ e.old) e.after in
       (λ i. drop (front_size i) (upto i)) ∙ drop-append_seam at.before e.old
 
-  pub left_is : drop finish t ≡ e.behind
-  left_is = (λ i. drop (finish_size i) (whole_split i)) ∙ drop-append_seam (at.before ++ e.old) e.behind
+  pub left_is : drop finish t ≡ e.after
+  left_is = (λ i. drop (finish_size i) (whole_split i)) ∙ drop-append_seam (at.before ++ e.old) e.after
 
   lead_is : place.lead ≡ e.lead
   lead_is = ap (λ (p : PlacedEdit). p.lead) at.place_is

@@ -7,13 +7,14 @@ use Rattle.yq_core.{specs.Entries.item_at, specs.Nodes.{node_text, without_ancho
 use Rattle.yq_flow_edits.{specs.FlowEdits.FlowEdit, specs.FlowPlaces.PlacedEdit, specs.Valued.IsValueTree}
 use Rattle.yq_row_table.specs.Rows.{Cut, cut_text}
 use Rattle.yq_documents.specs.Reading.{read_at}
-use Rattle.yq_places.{specs.FlowNodes.flow_collection, specs.NodesAt.node_in, specs.Standings.{FlowPart, flow_standing, last_step}}
+use Rattle.yq_places.{specs.FlowNodes.flow_collection, specs.NodesAt.node_in, specs.Placements.{FlowPart, flow_placement, last_step}}
 use Rattle.yq_semantics.{specs.Operations.replace, specs.declared.refusal.Refusal.TheVariants.TooLarge}
 use Rattle.yq_edit_rules.{specs.FlowParts.flow_segments, specs.Replacing.keeps_scalar}
 use Rattle.yq_edit_laws.{specs.PartPuts.{IsEditPlace, IsPartOf, IsPlaceOf, put_edit}, proofs.CutLaws.text_read}
-use Rattle.yq_edit_laws.{proofs.FlowPartNodes.part_node, proofs.FlowPutLaws.{end_behind, head_behind, next, part_behind, replaced_reads}}
-use Rattle.yq_edit_laws.{proofs.LaterEnds.ends_on, proofs.FlowStandings.{EntryAt, entry_found}, specs.Carried.carried}
-use Rattle.yq_edit_laws.{specs.Edit.{edit_of_segments, gives, refuses}, specs.Theorems.IsFitting}
+use Rattle.yq_edit_laws.proofs.FlowPartNodes.{part_node}
+use Rattle.yq_edit_laws.{proofs.FlowPutLaws.{following_end, head_after, next, following_part, replaced_reads}, proofs.LaterEnds.ends_on}
+use Rattle.yq_edit_laws.{proofs.FlowPlacements.{EntryAt, entry_found}, specs.Carried.carried, specs.Edit.{edit_of_segments, gives, refuses}}
+use Rattle.yq_edit_laws.specs.Theorems.{IsFitting}
 use Rattle.yq_batch.{specs.Runs.{EndsInCollection, IsPutRun, text_with_run}, proofs.PutComes.{kept_comes, put_comes}}
 use Rattle.yq_batch.proofs.HeadRunLaws.{head_row_on}
 use Rattle.yq_batch.proofs.RunEdits.{edit_large, edit_size, edit_there, fits_now, new_text_is, run_out, run_splices}
@@ -21,8 +22,8 @@ use Rattle.yq_edit_laws.proofs.FlowPutLaws as puts
 
 -- A value is put at a part.
 module _ (c : Cut) (n : ℕ) (stem path : List Step) (v : Node) (out : List ℕ) (done : ℕ) (whole : read_at (cut_text c) ≡ Some c) (run : IsPutRun c n stem out done)
-    (ends : EndsInCollection stem path) (z : FlowPart) (standing : flow_standing n c (last_step path) ≡ Some z) (place : PlacedEdit)
-    (placed : IsPlaceOf (cut_text c) v z place) (behind : done ≤ place.start) (passes : done < place.end) where
+    (ends : EndsInCollection stem path) (z : FlowPart) (placement : flow_placement n c (last_step path) ≡ Some z) (place : PlacedEdit)
+    (placed : IsPlaceOf (cut_text c) v z place) (following : done ≤ place.start) (passes : done < place.end) where
   abbrev t : List ℕ
   t = cut_text c
 
@@ -37,7 +38,7 @@ module _ (c : Cut) (n : ℕ) (stem path : List Step) (v : Node) (out : List ℕ)
 
   -- the part as it was read
   abbrev b : EntryAt c n path
-  b = (entry_found c n path z standing).0
+  b = (entry_found c n path z placement).0
 
   abbrev first_part : FlowPart
   first_part = record { step = b.step; collection = b.coll; part = b.item }
@@ -46,15 +47,15 @@ module _ (c : Cut) (n : ℕ) (stem path : List Step) (v : Node) (out : List ℕ)
   e = put_edit v first_part
 
   at : IsEditPlace t e place
-  at = subst (λ (y : FlowPart). IsPlaceOf t v y place) (sym (entry_found c n path z standing).1) placed
+  at = subst (λ (y : FlowPart). IsPlaceOf t v y place) (sym (entry_found c n path z placement).1) placed
 
-  start_is : start ≡ length t - length (e.old ++ e.behind)
+  start_is : start ≡ length t - length (e.old ++ e.after)
   start_is = ap (λ (p : PlacedEdit). p.start) at.place_is
 
-  finish_is : finish ≡ length t - length e.behind
+  finish_is : finish ≡ length t - length e.after
   finish_is = ap (λ (p : PlacedEdit). p.end) at.place_is
 
-  size : length t ≡ length at.before + (length e.old + length e.behind)
+  size : length t ≡ length at.before + (length e.old + length e.after)
   size = edit_size t e place at
 
   -- and as it is now
@@ -67,11 +68,11 @@ module _ (c : Cut) (n : ℕ) (stem path : List Step) (v : Node) (out : List ℕ)
   first : IsPartOf c n (stem ++ left) b.step b.item
   first = ap (λ (o : Option CollPieces). o >>= λ w. item_at w.close b.step w.items w.rest) (ap (λ (ss : List Step). flow_collection n ss c) (sym steps_are) ∙ b.found) ∙ b.at
 
-  content_is : length (e.old ++ e.behind) ≡ length (node_text (without_anchor b.item.node) b.item.rest)
+  content_is : length (e.old ++ e.after) ≡ length (node_text (without_anchor b.item.node) b.item.rest)
   content_is = ap length (sym (node_then (without_anchor b.item.node) b.item.rest))
 
   stays : IsPartOf run.cut n (stem ++ left) b.step b.item
-  stays = run.stays left b.step b.item first (omega (arith, passes, finish_is, size)) (omega (arith, behind, start_is, content_is, size, run.within, length-append e.old e.behind))
+  stays = run.stays left b.step b.item first (omega (arith, passes, finish_is, size)) (omega (arith, following, start_is, content_is, size, run.within, length-append e.old e.after))
 
   abbrev a : EntryAt run.cut n path
   a =
@@ -94,7 +95,7 @@ module _ (c : Cut) (n : ℕ) (stem path : List Step) (v : Node) (out : List ℕ)
   -- another value
   module _ (written : List ℕ) (other : keeps_scalar (node_in n path c) v ≡ false) (is : written ≡ (put_edit v z).written) where
     written_is : written ≡ e.written
-    written_is = is ∙ ap (λ (y : FlowPart). (put_edit v y).written) (sym (entry_found c n path z standing).1)
+    written_is = is ∙ ap (λ (y : FlowPart). (put_edit v y).written) (sym (entry_found c n path z placement).1)
 
     abbrev new_out : List ℕ
     new_out = run_out t out done start (place.lead ++ written)
@@ -103,15 +104,15 @@ module _ (c : Cut) (n : ℕ) (stem path : List Step) (v : Node) (out : List ℕ)
     comes = ap (carried (replace n path v)) (sym text) ∙ put_comes run.cut n path v read a (sym same_kept ∙ other)
 
     pub put_there : length (text_with_run t new_out finish) ≤ text_limit → carried (replace n path v) now ≡ gives (text_with_run t new_out finish) (run_splices t out done start finish (place.lead ++ written))
-    put_there = edit_there c n stem out done run e place at behind written written_is (replace n path v) comes
+    put_there = edit_there c n stem out done run e place at following written written_is (replace n path v) comes
 
     pub large_there : text_limit < length (text_with_run t new_out finish) → carried (replace n path v) now ≡ refuses TooLarge
-    large_there = edit_large c n stem out done run e place at behind written written_is (replace n path v) comes
+    large_there = edit_large c n stem out done run e place at following written written_is (replace n path v) comes
 
     -- the run goes on after it
     pub goes_on : IsValueTree v → IsFitting (replace n path v) now → length (text_with_run t new_out finish) ≤ text_limit → IsPutRun c n stem new_out finish
     goes_on value fitting small =
-        let new_bytes : new_text (flow_segments (cut_text run.cut) e) ≡ text_with_run t new_out finish = new_text_is c n stem out done run e place at behind written written_is in
+        let new_bytes : new_text (flow_segments (cut_text run.cut) e) ≡ text_with_run t new_out finish = new_text_is c n stem out done run e place at following written written_is in
         let fit = fits_now (replace n path v) now run.cut value fitting run.read in
         let reads = replaced_reads run.cut n path v read a value fit (omega (arith, small, ap length new_bytes)) in
         record {
@@ -119,13 +120,13 @@ module _ (c : Cut) (n : ℕ) (stem path : List Step) (v : Node) (out : List ℕ)
           edge = at.lies.end;
           cut = next run.cut n path v read a stem left refl run.leads;
           read = ap read_at (sym new_bytes) ∙ reads;
-          leads = head_behind run.cut n path v read a stem left refl run.leads;
+          leads = head_after run.cut n path v read a stem left refl run.leads;
           stays = λ ss r y there less begins.
-              part_behind run.cut n path v read a stem left refl run.leads ss r y
+              following_part run.cut n path v read a stem left refl run.leads ss r y
               (run.stays ss r y there (omega (arith, less, passes)) (omega (arith, begins, passes))) (omega (arith, less, finish_is, size)) (omega (arith, begins, finish_is, size));
           ends = λ ss w found after.
               let d = run.ends ss w found (omega (arith, after.0, passes), λ none. omega (arith, after.1 none, passes)) in
-              let f = end_behind run.cut n path v read a stem left refl run.leads ss d.0 d.1 (omega (arith, after.0, finish_is, size, ap length d.2.behind)) in
+              let f = following_end run.cut n path v read a stem left refl run.leads ss d.0 d.1 (omega (arith, after.0, finish_is, size, ap length d.2.after)) in
               (f.0, f.1, ends_on w d.0 f.0 d.2 f.2);
           row =
               let z : FlowEdit = puts.e run.cut n path v read a in

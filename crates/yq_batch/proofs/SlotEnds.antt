@@ -6,11 +6,11 @@ use Rattle.yq_batch.{specs.RowEnds.{LeaveRoom, EndAt}, specs.declared.slots.Slot
 use Rattle.yq_batch.{specs.Slots.{AreInOrder, SlotView, passed, slot_places, text_from}, proofs.SlotLaws.{between_length, starts_at}}
 
 -- one that isn't the last one comes before that
-pub last_behind : (fs : List SlotView) (s : SlotView) (bs gs : List SlotView) (l : SlotView) → fs ++ (s ∷ bs) ≡ gs ++ (l ∷ []) → (s ≡ l → ⊥) → (hs : List SlotView) × (bs ≡ hs ++ (l ∷ []))
-last_behind [] s bs [] l e other = absurd (other (head-eq_of_cons-eq e))
-last_behind [] s bs (g ∷ gs) l e other = (gs, tail-eq_of_cons-eq e)
-last_behind (f ∷ fs) s bs [] l e other = absurd (omega (arith, ap length (tail-eq_of_cons-eq e), length-append fs (s ∷ bs)))
-last_behind (f ∷ fs) s bs (g ∷ gs) l e other = last_behind fs s bs gs l (tail-eq_of_cons-eq e) other
+pub following_last : (fs : List SlotView) (s : SlotView) (bs gs : List SlotView) (l : SlotView) → fs ++ (s ∷ bs) ≡ gs ++ (l ∷ []) → (s ≡ l → ⊥) → (hs : List SlotView) × (bs ≡ hs ++ (l ∷ []))
+following_last [] s bs [] l e other = absurd (other (head-eq_of_cons-eq e))
+following_last [] s bs (g ∷ gs) l e other = (gs, tail-eq_of_cons-eq e)
+following_last (f ∷ fs) s bs [] l e other = absurd (omega (arith, ap length (tail-eq_of_cons-eq e), length-append fs (s ∷ bs)))
+following_last (f ∷ fs) s bs (g ∷ gs) l e other = following_last fs s bs gs l (tail-eq_of_cons-eq e) other
 
 -- places from one of them on
 pub apart_from : (fs : List SlotView) (s : SlotView) (bs : List SlotView) → LeaveRoom (slot_places (fs ++ (s ∷ bs))) → LeaveRoom (s.place ∷ slot_places bs)

@@ -74,16 +74,16 @@ module _ (t : List ℕ) where
       go (Some w) = refl
   split_at p (a ∷ fs) s bs h = go a.new (split_at p fs s bs (order_from a.place.end p (length t) (slot_places (fs ++ (s ∷ bs))) (omega (arith, h.0, h.1)) h.3)) (split_at a.place.end fs s bs h.3)
     where
-      behind : List ℕ
-      behind = slot_text t s ++ text_from t s.place.end bs
+      following : List ℕ
+      following = slot_text t s ++ text_from t s.place.end bs
 
-      go : (o : Option (List ℕ)) → text_from t p (fs ++ (s ∷ bs)) ≡ front_of p fs s.place.start ++ behind → text_from t a.place.end (fs ++ (s ∷ bs)) ≡ front_of a.place.end fs s.place.start ++ behind →
-          passed t p a.place.start (text_from t p (fs ++ (s ∷ bs))) (text_from t a.place.end (fs ++ (s ∷ bs))) o ≡ passed t p a.place.start (front_of p fs s.place.start) (front_of a.place.end fs s.place.start) o ++ behind
+      go : (o : Option (List ℕ)) → text_from t p (fs ++ (s ∷ bs)) ≡ front_of p fs s.place.start ++ following → text_from t a.place.end (fs ++ (s ∷ bs)) ≡ front_of a.place.end fs s.place.start ++ following →
+          passed t p a.place.start (text_from t p (fs ++ (s ∷ bs))) (text_from t a.place.end (fs ++ (s ∷ bs))) o ≡ passed t p a.place.start (front_of p fs s.place.start) (front_of a.place.end fs s.place.start) o ++ following
       go None before after = before
       go (Some w) before after =
           ap (λ (l : List ℕ). drop p (take a.place.start t) ++ (w ++ l)) after
-          ∙ (ap (λ (l : List ℕ). drop p (take a.place.start t) ++ l) (sym (append_assoc w (front_of a.place.end fs s.place.start) behind))
-          ∙ sym (append_assoc (drop p (take a.place.start t)) (w ++ front_of a.place.end fs s.place.start) behind))
+          ∙ (ap (λ (l : List ℕ). drop p (take a.place.start t) ++ l) (sym (append_assoc w (front_of a.place.end fs s.place.start) following))
+          ∙ sym (append_assoc (drop p (take a.place.start t)) (w ++ front_of a.place.end fs s.place.start) following))
 
   -- how long the text before a place is
   pub front_length : (p : ℕ) (fs : List SlotView) (s : SlotView) (bs : List SlotView) → AreInOrder p (slot_places (fs ++ (s ∷ bs))) (length t) →

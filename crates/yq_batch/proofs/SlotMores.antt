@@ -13,8 +13,8 @@ use Rattle.yq_semantics.{specs.Fits.Fits, specs.Operations.append, specs.Rooms.r
 use Rattle.yq_edit_rules.{specs.Edits.{op_edits, or_stay}, specs.FlowParts.{flow_more, flow_segments, takes_key}, specs.Operands.HasOperand}
 use Rattle.yq_edit_laws.{specs.PartPuts.{IsEditPlace, more_edit}, proofs.CutLaws.text_read}
 use Rattle.yq_edit_laws.proofs.EarlierPuts.{coll_before_more, part_before_more}
-use Rattle.yq_edit_laws.proofs.FlowAppendLaws.{appended_reads, end_behind, head_behind, next, part_behind}
-use Rattle.yq_edit_laws.{proofs.HeadStandings.no_rows_more, specs.Carried.{carried, carry_one}}
+use Rattle.yq_edit_laws.proofs.FlowAppendLaws.{appended_reads, following_end, head_after, next, following_part}
+use Rattle.yq_edit_laws.{proofs.HeadPlacements.no_rows_more, specs.Carried.{carried, carry_one}}
 use Rattle.yq_edit_laws.{specs.Edit.{by_reading, edit_of_segments, gives}, specs.Theorems.IsFitting}
 use Rattle.yq_batch.{proofs.PutComes.{made_text, new_is, segments_come}, proofs.RunEdits.{edit_size, fits_now}}
 use Rattle.yq_batch.specs.declared.slots.SlotPlace.{SlotPlace}
@@ -56,23 +56,23 @@ module _ (c : Cut) (n : ℕ) (stem left : List Step) (key : Option (List ℕ)) (
   abbrev lead : List ℕ
   lead = place.lead
 
-  start_is : start ≡ length t - length e.behind
+  start_is : start ≡ length t - length e.after
   start_is = ap (λ (q : PlacedEdit). q.start) there.place_is
 
-  finish_is : finish ≡ length t - length e.behind
+  finish_is : finish ≡ length t - length e.after
   finish_is = ap (λ (q : PlacedEdit). q.end) there.place_is
 
   lead_is : lead ≡ e.lead
   lead_is = ap (λ (q : PlacedEdit). q.lead) there.place_is
 
-  size : length t ≡ length there.before + (0 + length e.behind)
+  size : length t ≡ length there.before + (0 + length e.after)
   size = edit_size t e place there
 
   finish_size : finish ≡ length there.before
   finish_size = omega (arith, finish_is, size)
 
-  behind_is : drop finish t ≡ e.behind
-  behind_is = (λ i. drop (finish_size i) (there.text i)) ∙ drop-append_seam there.before e.behind
+  following_is : drop finish t ≡ e.after
+  following_is = (λ i. drop (finish_size i) (there.text i)) ∙ drop-append_seam there.before e.after
 
   -- its place
   abbrev front : List SlotView
@@ -111,7 +111,7 @@ module _ (c : Cut) (n : ℕ) (stem left : List Step) (key : Option (List ℕ)) (
 
   -- the collection fs it is now
   ends : EndsBefore w run.cut n path rest
-  ends = (still_at c run.cut n stem front s back still).ends (ap (λ (q : SlotPlace). q.more) s_place) left w found (sym behind_is ∙ ap (λ (q : SlotPlace). drop q.end t) (sym s_place)) none_new
+  ends = (still_at c run.cut n stem front s back still).ends (ap (λ (q : SlotPlace). q.more) s_place) left w found (sym following_is ∙ ap (λ (q : SlotPlace). drop q.end t) (sym s_place)) none_new
 
   abbrev z : CollPieces
   z = ends.coll
@@ -181,14 +181,14 @@ module _ (c : Cut) (n : ℕ) (stem left : List Step) (key : Option (List ℕ)) (
   pub new_size : length (text_from t 0 slots2) + was ≡ length now + length (lead ++ written)
   new_size = omega (arith, none_gone, ap length new_text_at, ap length old_split, length-append before_text ((lead ++ written) ++ rest), length-append (lead ++ written) rest, length-append before_text ([] ++ rest))
 
-  split : cut_text run.cut ≡ before_text ++ (e2.old ++ e2.behind)
-  split = text ∙ (old_split ∙ ap (λ (l : List ℕ). before_text ++ l) (sym ends.behind))
+  split : cut_text run.cut ≡ before_text ++ (e2.old ++ e2.after)
+  split = text ∙ (old_split ∙ ap (λ (l : List ℕ). before_text ++ l) (sym ends.after))
 
-  new_is_made : (lead ++ written) ++ rest ≡ (e2.lead ++ e2.written) ++ e2.behind
-  new_is_made = λ i. ((lead_is ∙ ap (λ (b : Bool). cond b [] (44 ∷ (32 ∷ []))) (sym ends.none)) i ++ is i) ++ sym ends.behind i
+  new_is_made : (lead ++ written) ++ rest ≡ (e2.lead ++ e2.written) ++ e2.after
+  new_is_made = λ i. ((lead_is ∙ ap (λ (b : Bool). cond b [] (44 ∷ (32 ∷ []))) (sym ends.none)) i ++ is i) ++ sym ends.after i
 
   made_is : made_text before_text e2 ≡ text_from t 0 slots2
-  made_is = append_assoc before_text (e2.lead ++ e2.written) e2.behind ∙ (ap (λ (l : List ℕ). before_text ++ l) (sym new_is_made) ∙ sym new_text_at)
+  made_is = append_assoc before_text (e2.lead ++ e2.written) e2.after ∙ (ap (λ (l : List ℕ). before_text ++ l) (sym new_is_made) ∙ sym new_text_at)
 
   module _ (small : length (text_from t 0 slots2) ≤ text_limit) where
     pub more_put_there : carried (append n path key v) now ≡ gives (text_from t 0 slots2) (splice_at at (drop start (take finish t)) (lead ++ written))
@@ -204,10 +204,10 @@ module _ (c : Cut) (n : ℕ) (stem left : List Step) (key : Option (List ℕ)) (
       abbrev following : Cut
       following = next run.cut n path key v z read ends.is stem left refl run.leads
 
-      leaves : Leaves run.cut following n stem (e2.old ++ e2.behind) ((e2.lead ++ e2.written) ++ e2.behind) (length rest) 1
+      leaves : Leaves run.cut following n stem (e2.old ++ e2.after) ((e2.lead ++ e2.written) ++ e2.after) (length rest) 1
       leaves = record {
-        parts_behind = λ ss r y part less begins. part_behind run.cut n path key v z read ends.is stem left refl run.leads ss r y part (omega (arith, less, ap length ends.behind)) (omega (arith, begins, ap length ends.behind));
-        ends_behind = λ ss u there fits. end_behind run.cut n path key v z read ends.is stem left refl run.leads ss u there (omega (arith, fits, ap length ends.behind), λ none. omega (arith, fits, ap length ends.behind));
+        parts_after = λ ss r y part less begins. following_part run.cut n path key v z read ends.is stem left refl run.leads ss r y part (omega (arith, less, ap length ends.after)) (omega (arith, begins, ap length ends.after));
+        following_ends = λ ss u there fits. following_end run.cut n path key v z read ends.is stem left refl run.leads ss u there (omega (arith, fits, ap length ends.after), λ none. omega (arith, fits, ap length ends.after));
         parts_before = λ ss r y part long begins. part_before_more run.cut n path key v z read ends.is stem left refl run.leads operand.0 operand.1 takes_now fit ss r y part long begins;
         colls_before = λ ss u there long. coll_before_more run.cut n path key v z read ends.is stem left refl run.leads operand.0 operand.1 takes_now fit ss u there long;
       }
@@ -216,11 +216,11 @@ module _ (c : Cut) (n : ℕ) (stem left : List Step) (key : Option (List ℕ)) (
       own_after : IsStill c following n stem s2 rest
       own_after = record {
         part = λ none_now. absurd (none-some _ (sym none_now ∙ put.put.new));
-        ends = λ more ss u there behind none.
+        ends = λ more ss u there after none.
             let some : is_none u.items ≡ false = some_of (is_none u.items) (λ no. none-some _ (sym (none no) ∙ put.put.new)) in
-            let d = (still_at c run.cut n stem front s back still).ends (ap (λ (q : SlotPlace). q.more) s_place) ss u there (behind ∙ ap (λ (q : SlotPlace). drop q.end t) same_place) (λ no. absurd (false≢true (sym some ∙ no))) in
-            let f = end_behind run.cut n path key v z read ends.is stem left refl run.leads ss d.coll d.is (omega (arith, ap length d.behind, ap length ends.behind), λ no. absurd (false≢true (sym (d.none ∙ some) ∙ no))) in
-            record { coll = f.0; is = f.1; close = f.2.close ∙ d.close; none = f.2.none ∙ d.none; behind = f.2.behind ∙ d.behind };
+            let d = (still_at c run.cut n stem front s back still).ends (ap (λ (q : SlotPlace). q.more) s_place) ss u there (after ∙ ap (λ (q : SlotPlace). drop q.end t) same_place) (λ no. absurd (false≢true (sym some ∙ no))) in
+            let f = following_end run.cut n path key v z read ends.is stem left refl run.leads ss d.coll d.is (omega (arith, ap length d.after, ap length ends.after), λ no. absurd (false≢true (sym (d.none ∙ some) ∙ no))) in
+            record { coll = f.0; is = f.1; close = f.2.close ∙ d.close; none = f.2.none ∙ d.none; after = f.2.after ∙ d.after };
       }
         where
           some_of : (b : Bool) → (b ≡ true → ⊥) → b ≡ false
@@ -239,11 +239,11 @@ module _ (c : Cut) (n : ℕ) (stem left : List Step) (key : Option (List ℕ)) (
         read = ap read_at (sym (new_is (cut_text run.cut) before_text e2 split ∙ made_is))
             ∙ appended_reads run.cut n path key v z read ends.is operand.0 operand.1 takes_now fit
             (omega (arith, small, ap length (new_is (cut_text run.cut) before_text e2 split ∙ made_is)));
-        leads = head_behind run.cut n path key v z read ends.is stem left refl run.leads;
+        leads = head_after run.cut n path key v z read ends.is stem left refl run.leads;
         still =
             subst (AreStill c following n stem) (sym put.new_is)
-            (stills c run.cut following n stem (e2.old ++ e2.behind) ((e2.lead ++ e2.written) ++ e2.behind) (length rest) 1 leaves s s2 back same_place before [] (lead ++ written) slot_old slot_new ends.behind (sym new_is_made) own_after
-            (room_more c run.cut following n stem (e2.old ++ e2.behind) ((e2.lead ++ e2.written) ++ e2.behind) (length rest) 1 leaves s.place back
+            (stills c run.cut following n stem (e2.old ++ e2.after) ((e2.lead ++ e2.written) ++ e2.after) (length rest) 1 leaves s s2 back same_place before [] (lead ++ written) slot_old slot_new ends.after (sym new_is_made) own_after
+            (room_more c run.cut following n stem (e2.old ++ e2.after) ((e2.lead ++ e2.written) ++ e2.after) (length rest) 1 leaves s.place back
             (ap (λ (q : SlotPlace). q.more) s_place) (order_at 0 (length t) front s back order).2 (order_at 0 (length t) front s back order).3
             (omega arith) (omega arith)) 0 front order still);
       }

@@ -8,13 +8,13 @@ use Rattle.yq_core.{specs.Entries.item_at, specs.Nodes.{node_text, without_ancho
 use Rattle.yq_flow_edits.{specs.FlowEdits.FlowEdit, specs.FlowPlaces.PlacedEdit, specs.Valued.IsValueTree}
 use Rattle.yq_row_table.specs.Rows.{Cut, cut_text}
 use Rattle.yq_documents.specs.Reading.{documents, read_at}
-use Rattle.yq_places.{specs.FlowNodes.flow_collection, specs.NodesAt.node_in, specs.Standings.{FlowPart, flow_standing, last_step}}
+use Rattle.yq_places.{specs.FlowNodes.flow_collection, specs.NodesAt.node_in, specs.Placements.{FlowPart, flow_placement, last_step}}
 use Rattle.yq_semantics.{specs.Fits.Fits, specs.Operations.replace, specs.Rooms.room_of}
 use Rattle.yq_edit_rules.specs.Replacing.{keeps_scalar}
 use Rattle.yq_edit_laws.{specs.PartPuts.{IsEditPlace, IsPartOf, IsPlaceOf, put_edit}, proofs.CutLaws.text_read}
 use Rattle.yq_edit_laws.{proofs.EarlierPuts.{coll_before_put, part_before_put}, proofs.FlowPartNodes.part_node}
-use Rattle.yq_edit_laws.proofs.FlowPutLaws.{end_behind, head_behind, next, part_behind, replaced_reads}
-use Rattle.yq_edit_laws.{proofs.FlowStandings.{EntryAt, entry_found}, specs.Carried.carried, specs.Edit.gives, specs.Theorems.IsFitting}
+use Rattle.yq_edit_laws.proofs.FlowPutLaws.{following_end, head_after, next, following_part, replaced_reads}
+use Rattle.yq_edit_laws.{proofs.FlowPlacements.{EntryAt, entry_found}, specs.Carried.carried, specs.Edit.gives, specs.Theorems.IsFitting}
 use Rattle.yq_batch.{specs.Runs.EndsInCollection, proofs.PutComes.{kept_comes, made_text, new_is, put_comes, segments_come}}
 use Rattle.yq_batch.{proofs.RunEdits.{edit_size, fits_now}, specs.declared.slots.SlotPlace.SlotPlace}
 use Rattle.yq_batch.specs.Slots.{AreInOrder, IsPutIn, SlotView, count_of, slot_places, put_or, slot_text, text_from}
@@ -38,7 +38,7 @@ none_put None h = refl
 none_put (Some w) h = absurd (false≢true (h w refl))
 
 module _ (c : Cut) (n : ℕ) (stem path : List Step) (v : Node) (slots slots2 : List SlotView) (whole : read_at (cut_text c) ≡ Some c) (run : IsOpenRun c n stem slots)
-    (ends : EndsInCollection stem path) (z : FlowPart) (standing : flow_standing n c (last_step path) ≡ Some z) (place : PlacedEdit)
+    (ends : EndsInCollection stem path) (z : FlowPart) (placement : flow_placement n c (last_step path) ≡ Some z) (place : PlacedEdit)
     (placed : IsPlaceOf (cut_text c) v z place) (lead written : List ℕ) (at was : ℕ)
     (put : IsPutIn slots slots2 (record { start = place.start; end = place.end; more = false }) lead written at was) where
   abbrev t : List ℕ
@@ -58,41 +58,41 @@ module _ (c : Cut) (n : ℕ) (stem path : List Step) (v : Node) (slots slots2 : 
 
   -- the part fs it was read
   abbrev b : EntryAt c n path
-  b = (entry_found c n path z standing).0
+  b = (entry_found c n path z placement).0
 
   abbrev e : FlowEdit
   e = put_edit v (record { step = b.step; collection = b.coll; part = b.item })
 
   there : IsEditPlace t e place
-  there = subst (λ (y : FlowPart). IsPlaceOf t v y place) (sym (entry_found c n path z standing).1) placed
+  there = subst (λ (y : FlowPart). IsPlaceOf t v y place) (sym (entry_found c n path z placement).1) placed
 
-  start_is : start ≡ length t - length (e.old ++ e.behind)
+  start_is : start ≡ length t - length (e.old ++ e.after)
   start_is = ap (λ (q : PlacedEdit). q.start) there.place_is
 
-  finish_is : finish ≡ length t - length e.behind
+  finish_is : finish ≡ length t - length e.after
   finish_is = ap (λ (q : PlacedEdit). q.end) there.place_is
 
   lead_is : place.lead ≡ e.lead
   lead_is = ap (λ (q : PlacedEdit). q.lead) there.place_is
 
-  size : length t ≡ length there.before + (length e.old + length e.behind)
+  size : length t ≡ length there.before + (length e.old + length e.after)
   size = edit_size t e place there
 
   front_size : start ≡ length there.before
-  front_size = omega (arith, start_is, size, length-append e.old e.behind)
+  front_size = omega (arith, start_is, size, length-append e.old e.after)
 
-  whole_split : t ≡ (there.before ++ e.old) ++ e.behind
-  whole_split = there.text ∙ sym (append_assoc there.before e.old e.behind)
+  whole_split : t ≡ (there.before ++ e.old) ++ e.after
+  whole_split = there.text ∙ sym (append_assoc there.before e.old e.after)
 
   finish_size : finish ≡ length (there.before ++ e.old)
   finish_size = omega (arith, finish_is, size, length-append there.before e.old)
 
-  behind_is : drop finish t ≡ e.behind
-  behind_is = (λ i. drop (finish_size i) (whole_split i)) ∙ drop-append_seam (there.before ++ e.old) e.behind
+  following_is : drop finish t ≡ e.after
+  following_is = (λ i. drop (finish_size i) (whole_split i)) ∙ drop-append_seam (there.before ++ e.old) e.after
 
   old_is : drop start (take finish t) ≡ e.old
   old_is =
-      let upto : take finish t ≡ there.before ++ e.old = (λ i. take (finish_size i) (whole_split i)) ∙ take-append_seam (there.before ++ e.old) e.behind in
+      let upto : take finish t ≡ there.before ++ e.old = (λ i. take (finish_size i) (whole_split i)) ∙ take-append_seam (there.before ++ e.old) e.after in
       (λ i. drop (front_size i) (upto i)) ∙ drop-append_seam there.before e.old
 
   -- its place
@@ -135,14 +135,14 @@ module _ (c : Cut) (n : ℕ) (stem path : List Step) (v : Node) (slots slots2 : 
   first : IsPartOf c n (stem ++ left) b.step b.item
   first = ap (λ (o : Option CollPieces). o >>= λ w. item_at w.close b.step w.items w.rest) (ap (λ (ss : List Step). flow_collection n ss c) (sym steps_are) ∙ b.found) ∙ b.at
 
-  content_is : length (e.old ++ e.behind) ≡ length (node_text (without_anchor b.item.node) b.item.rest)
+  content_is : length (e.old ++ e.after) ≡ length (node_text (without_anchor b.item.node) b.item.rest)
   content_is = ap length (sym (node_then (without_anchor b.item.node) b.item.rest))
 
   -- and fs it is now
   stays : IsPartOf run.cut n (stem ++ left) b.step (record b.item { rest = rest })
   stays =
-      (still_at c run.cut n stem front s back still).part none (ap (λ (q : SlotPlace). q.more) s_place) left b.step b.item first (sym behind_is ∙ ap (λ (q : SlotPlace). drop q.end t) (sym s_place))
-      (omega (arith, ap (λ (q : SlotPlace). q.start) s_place, start_is, content_is, size, length-append e.old e.behind))
+      (still_at c run.cut n stem front s back still).part none (ap (λ (q : SlotPlace). q.more) s_place) left b.step b.item first (sym following_is ∙ ap (λ (q : SlotPlace). drop q.end t) (sym s_place))
+      (omega (arith, ap (λ (q : SlotPlace). q.start) s_place, start_is, content_is, size, length-append e.old e.after))
 
   abbrev a : EntryAt run.cut n path
   a =
@@ -173,7 +173,7 @@ module _ (c : Cut) (n : ℕ) (stem path : List Step) (v : Node) (slots slots2 : 
     start_is,
     finish_is,
     size,
-    length-append e.old e.behind,
+    length-append e.old e.after,
   )
 
   abbrev before_text : List ℕ
@@ -234,19 +234,19 @@ module _ (c : Cut) (n : ℕ) (stem path : List Step) (v : Node) (slots slots2 : 
   module _ (other : keeps_scalar (node_in n path c) v ≡ false) (lead_same : lead ≡ place.lead) (is : written ≡ (put_edit v z).written)
       (value : IsValueTree v) (fitting : IsFitting (replace n path v) now) (small : length (text_from t 0 slots2) ≤ text_limit) where
     written_is : written ≡ e.written
-    written_is = is ∙ ap (λ (y : FlowPart). (put_edit v y).written) (sym (entry_found c n path z standing).1)
+    written_is = is ∙ ap (λ (y : FlowPart). (put_edit v y).written) (sym (entry_found c n path z placement).1)
 
     abbrev e2 : FlowEdit
     e2 = put_edit v (record { step = a.step; collection = a.coll; part = a.item })
 
-    split : cut_text run.cut ≡ before_text ++ (e2.old ++ e2.behind)
+    split : cut_text run.cut ≡ before_text ++ (e2.old ++ e2.after)
     split = text ∙ old_split
 
-    new_is_made : (lead ++ written) ++ rest ≡ (e2.lead ++ e2.written) ++ e2.behind
+    new_is_made : (lead ++ written) ++ rest ≡ (e2.lead ++ e2.written) ++ e2.after
     new_is_made = λ i. ((lead_same ∙ lead_is) i ++ written_is i) ++ rest
 
     made_is : made_text before_text e2 ≡ text_from t 0 slots2
-    made_is = append_assoc before_text (e2.lead ++ e2.written) e2.behind ∙ (ap (λ (l : List ℕ). before_text ++ l) (sym new_is_made) ∙ sym new_text_at)
+    made_is = append_assoc before_text (e2.lead ++ e2.written) e2.after ∙ (ap (λ (l : List ℕ). before_text ++ l) (sym new_is_made) ∙ sym new_text_at)
 
     pub put_there : carried (replace n path v) now ≡ gives (text_from t 0 slots2) (splice_at at (drop start (take finish t)) (lead ++ written))
     put_there =
@@ -261,10 +261,10 @@ module _ (c : Cut) (n : ℕ) (stem path : List Step) (v : Node) (slots slots2 : 
     abbrev following : Cut
     following = next run.cut n path v read a stem left refl run.leads
 
-    leaves : Leaves run.cut following n stem (e2.old ++ e2.behind) ((e2.lead ++ e2.written) ++ e2.behind) (length rest) 0
+    leaves : Leaves run.cut following n stem (e2.old ++ e2.after) ((e2.lead ++ e2.written) ++ e2.after) (length rest) 0
     leaves = record {
-      parts_behind = λ ss r y part less begins. part_behind run.cut n path v read a stem left refl run.leads ss r y part less begins;
-      ends_behind = λ ss w found fits. end_behind run.cut n path v read a stem left refl run.leads ss w found (omega (arith, fits));
+      parts_after = λ ss r y part less begins. following_part run.cut n path v read a stem left refl run.leads ss r y part less begins;
+      following_ends = λ ss w found fits. following_end run.cut n path v read a stem left refl run.leads ss w found (omega (arith, fits));
       parts_before = λ ss r y part long begins. part_before_put run.cut n path v read a stem left refl run.leads value fit ss r y part long begins;
       colls_before = λ ss w found long. coll_before_put run.cut n path v read a stem left refl run.leads value fit ss w found long;
     }
@@ -275,11 +275,11 @@ module _ (c : Cut) (n : ℕ) (stem path : List Step) (v : Node) (slots slots2 : 
       edges = edges2;
       cut = following;
       read = ap read_at (sym (new_is (cut_text run.cut) before_text e2 split ∙ made_is)) ∙ replaced_reads run.cut n path v read a value fit (omega (arith, small, ap length (new_is (cut_text run.cut) before_text e2 split ∙ made_is)));
-      leads = head_behind run.cut n path v read a stem left refl run.leads;
+      leads = head_after run.cut n path v read a stem left refl run.leads;
       still =
           subst (AreStill c following n stem) (sym put.new_is)
-          (stills c run.cut following n stem (e2.old ++ e2.behind) ((e2.lead ++ e2.written) ++ e2.behind) (length rest) 0 leaves s s2 back same_place [] e.old (lead ++ written) slot_old slot_new refl (sym new_is_made) (own_after following)
-          (room_next c run.cut following n stem (e2.old ++ e2.behind) ((e2.lead ++ e2.written) ++ e2.behind) (length rest) 0 leaves s.place back
+          (stills c run.cut following n stem (e2.old ++ e2.after) ((e2.lead ++ e2.written) ++ e2.after) (length rest) 0 leaves s s2 back same_place [] e.old (lead ++ written) slot_old slot_new refl (sym new_is_made) (own_after following)
+          (room_next c run.cut following n stem (e2.old ++ e2.after) ((e2.lead ++ e2.written) ++ e2.after) (length rest) 0 leaves s.place back
           (order_at 0 (length t) front s back order).2 (order_at 0 (length t) front s back order).3 (omega arith)) 0 front order still);
     }
 

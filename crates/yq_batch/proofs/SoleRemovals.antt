@@ -5,19 +5,19 @@ use Rattle.std.{specs.Prelude.nat_lt, specs.Str.IsCharBoundary}
 use Rattle.yq_text.{specs.Limit.text_limit, specs.Script.splice_at}
 use Rattle.yq_core.{specs.Paths.Step, specs.Collections.CollPieces, specs.Nodes.{coll, flow_items_text, node_text}, specs.Trees.items_tree}
 use Rattle.yq_core.{proofs.NodesWrittenLaws.node_then, proofs.NodeAgain.items_longer}
-use Rattle.yq_flow_edits.{specs.FlowEdits.{FlowEdit, behind_appended}, specs.Valued.IsValueTree}
+use Rattle.yq_flow_edits.{specs.FlowEdits.{FlowEdit, after_appended}, specs.Valued.IsValueTree}
 use Rattle.yq_outline.specs.Counts.{count}
 use Rattle.yq_row_table.specs.Rows.{Cut, cut_text}
 use Rattle.yq_documents.specs.Reading.{read_at}
-use Rattle.yq_places.{specs.FlowNodes.flow_collection, specs.Standings.last_step}
+use Rattle.yq_places.{specs.FlowNodes.flow_collection, specs.Placements.last_step}
 use Rattle.yq_semantics.{specs.Operations.{remove, replace}, specs.declared.refusal.Refusal.TheVariants.TooLarge}
 use Rattle.yq_edit_rules.specs.FlowParts.{flow_segments}
 use Rattle.yq_edit_laws.{proofs.CutLaws.text_read, proofs.EarlierPuts.coll_before_put}
-use Rattle.yq_edit_laws.{proofs.FlowPutLaws.{bounds, head_behind, next, replaced_reads, there}, proofs.FlowSoundLaws.last_is}
+use Rattle.yq_edit_laws.{proofs.FlowPutLaws.{bounds, head_after, next, replaced_reads, there}, proofs.FlowSoundLaws.last_is}
 use Rattle.yq_edit_laws.{proofs.LaterEnds.last_longer, proofs.SoleLaws.empty_value}
 use Rattle.yq_edit_laws.proofs.SoleParts.{IsEmptiedBy, sole_comes, sole_fitting}
-use Rattle.yq_edit_laws.proofs.SoleEntries.{InnerEntry, coll_size, empty_bytes, g, inner_entry, node_emptied, sole_behind, sole_old}
-use Rattle.yq_edit_laws.{proofs.SoleEntries.{sole_other, sole_written, v}, proofs.FlowWholeLaws.StandsBefore, specs.Carried.carried}
+use Rattle.yq_edit_laws.proofs.SoleEntries.{InnerEntry, coll_size, empty_bytes, g, inner_entry, node_emptied, sole_after, sole_old}
+use Rattle.yq_edit_laws.{proofs.SoleEntries.{sole_other, sole_written, v}, proofs.FlowWholeLaws.IsPlacedBefore, specs.Carried.carried}
 use Rattle.yq_edit_laws.{specs.Edit.{edit_of_segments, gives, refuses}, specs.Theorems.IsFitting}
 use Rattle.yq_batch.{specs.RemovalRuns.{IsRemovalRun, text_exchanged}, proofs.PutComes.put_comes, proofs.RunEdits.fits_now}
 use Rattle.yq_batch.proofs.BackEdits.{back_finish, back_large, back_new, back_order, back_start, back_text, back_there, drop_is, gone_first}
@@ -65,14 +65,14 @@ module _ (c : Cut) (n : ℕ) (stem left path : List Step) (s : Step) (keep : ℕ
   value : IsValueTree (v run.cut n steps z read y.entry y.inside)
   value = empty_value _ _ emptied.0
 
-  abbrev pub stands : StandsBefore (cut_text run.cut) (e.old ++ e.behind)
-  stands = there run.cut n steps (v run.cut n steps z read y.entry y.inside) read y.entry
+  abbrev pub is_located : IsPlacedBefore (cut_text run.cut) (e.old ++ e.after)
+  is_located = there run.cut n steps (v run.cut n steps z read y.entry y.inside) read y.entry
 
   abbrev pub before : List ℕ
-  before = stands.before
+  before = is_located.before
 
-  now_is : now ≡ before ++ (e.old ++ e.behind)
-  now_is = sym text ∙ stands.text
+  now_is : now ≡ before ++ (e.old ++ e.after)
+  now_is = sym text ∙ is_located.text
 
   -- what the operation comes to
   comes : carried (remove n path) now ≡ edit_of_segments (flow_segments (cut_text run.cut) e)
@@ -83,8 +83,8 @@ module _ (c : Cut) (n : ℕ) (stem left path : List Step) (s : Step) (keep : ℕ
       ∙ put_comes run.cut n steps (v run.cut n steps z read y.entry y.inside) read y.entry (sole_other run.cut n steps z read y.entry y.inside)))
 
   -- where it is
-  old_text : e.old ++ e.behind ≡ node_text (coll z.close z.gap z.items) z.rest
-  old_text = (λ i. sole_old run.cut n steps z read y.entry y.inside i ++ sole_behind run.cut n steps z read y.entry y.inside i) ∙ sym (node_then (coll z.close z.gap z.items) z.rest)
+  old_text : e.old ++ e.after ≡ node_text (coll z.close z.gap z.items) z.rest
+  old_text = (λ i. sole_old run.cut n steps z read y.entry y.inside i ++ sole_after run.cut n steps z read y.entry y.inside i) ∙ sym (node_then (coll z.close z.gap z.items) z.rest)
 
   pub opens : (opening : List ℕ) → cut_text run.cut ≡ opening ++ flow_items_text z.close z.items z.rest → length before + suc (length z.gap) ≡ length opening
   opens opening is =
@@ -92,8 +92,8 @@ module _ (c : Cut) (n : ℕ) (stem left path : List Step) (s : Step) (keep : ℕ
         arith,
         ap length is,
         length-append opening (flow_items_text z.close z.items z.rest),
-        ap length stands.text,
-        length-append before (e.old ++ e.behind),
+        ap length is_located.text,
+        length-append before (e.old ++ e.after),
         ap length old_text,
         coll_size z.close z.gap z.items z.rest,
       )
@@ -103,10 +103,10 @@ module _ (c : Cut) (n : ℕ) (stem left path : List Step) (s : Step) (keep : ℕ
       omega (
         arith,
         ap length now_is,
-        length-append before (e.old ++ e.behind),
-        length-append e.old e.behind,
+        length-append before (e.old ++ e.after),
+        length-append e.old e.after,
         length-append before e.old,
-        ap length (sole_behind run.cut n steps z read y.entry y.inside),
+        ap length (sole_after run.cut n steps z read y.entry y.inside),
       )
 
   pub new_is : new ≡ empty_bytes z.close
@@ -142,14 +142,14 @@ module _ (c : Cut) (n : ℕ) (stem left path : List Step) (s : Step) (keep : ℕ
           items_longer z.close z.items [],
         )
 
-    pub sole_text : text_exchanged now start finish new ≡ take start t ++ (new ++ e.behind)
+    pub sole_text : text_exchanged now start finish new ≡ take start t ++ (new ++ e.after)
     sole_text = back_text c n stem keep tail run e before now_is start finish start_is finish_is short
 
     abbrev first : List ℕ
     first = gone_first c n stem keep tail run e before now_is start finish start_is finish_is short
 
     -- the run goes on after it
-    pub sole_goes_on : IsFitting (remove n path) now → length (text_exchanged now start finish new) ≤ text_limit → IsRemovalRun c n stem start (new ++ e.behind)
+    pub sole_goes_on : IsFitting (remove n path) now → length (text_exchanged now start finish new) ≤ text_limit → IsRemovalRun c n stem start (new ++ e.after)
     sole_goes_on fitting small =
         let own_fits = sole_fitting run.cut n steps s (v run.cut n steps z read y.entry y.inside) read y.entry emptied
         (subst (λ (p : List Step). IsFitting (remove n p) (cut_text run.cut)) path_is (subst (IsFitting (remove n path)) (sym text) fitting)) in
@@ -160,14 +160,14 @@ module _ (c : Cut) (n : ℕ) (stem left path : List Step) (s : Step) (keep : ℕ
           within = omega (arith, short, run.within);
           cut = next run.cut n steps (v run.cut n steps z read y.entry y.inside) read y.entry stem own.0 y.init run.leads;
           read = ap read_at (sym (new_bytes ∙ sole_text)) ∙ reads;
-          leads = head_behind run.cut n steps (v run.cut n steps z read y.entry y.inside) read y.entry stem own.0 y.init run.leads;
+          leads = head_after run.cut n steps (v run.cut n steps z read y.entry y.inside) read y.entry stem own.0 y.init run.leads;
           stays = λ ss u m at_end u_rest.
               let own_rest : u.rest ≡ (m ++ first) ++ drop keep t =
               u_rest ∙ (ap (λ (l : List ℕ). m ++ l) (drop_is c n stem keep tail run e before now_is start finish start_is finish_is short) ∙ sym (append_assoc m first (drop keep t))) in
-              let rest : (m ++ first) ++ tail ≡ m ++ (e.old ++ e.behind) =
+              let rest : (m ++ first) ++ tail ≡ m ++ (e.old ++ e.after) =
               append_assoc m first tail ∙ ap (λ (l : List ℕ). m ++ l) (gone_is c n stem keep tail run e before now_is start finish start_is finish_is short) in
               let u2 : CollPieces = record u { rest = (m ++ first) ++ tail } in
-              let longer : length (e.old ++ e.behind) < length (behind_appended u2) = omega (arith, last_longer u2.close u2.gap u2.items u2.rest, ap length rest, length-append m (e.old ++ e.behind)) in
+              let longer : length (e.old ++ e.after) < length (after_appended u2) = omega (arith, last_longer u2.close u2.gap u2.items u2.rest, ap length rest, length-append m (e.old ++ e.after)) in
               let b = coll_before_put run.cut n steps (v run.cut n steps z read y.entry y.inside) read y.entry stem own.0 y.init run.leads value fits ss u2 (run.stays ss u (m ++ first) at_end own_rest) longer in
-              b.2 ∙ ap (λ (l : List ℕ). Some (record u { rest = l ++ (new ++ e.behind) })) (append_cancel_right b.0 m (e.old ++ e.behind) (sym b.1 ∙ rest));
+              b.2 ∙ ap (λ (l : List ℕ). Some (record u { rest = l ++ (new ++ e.after) })) (append_cancel_right b.0 m (e.old ++ e.after) (sym b.1 ∙ rest));
         }

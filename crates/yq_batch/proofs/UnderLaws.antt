@@ -10,7 +10,7 @@ use Rattle.yq_text.specs.Splice.{Splice}
 use Rattle.yq_edit_rules.specs.Operands.{HasOperand}
 use Rattle.yq_edit_laws.{specs.Answers.EditFails, specs.Carried.{carried, carry_all}, specs.Edit.{edit_after, gives}}
 use Rattle.yq_edit_laws.{specs.Theorems.{IsApplied, IsFitting}, specs.Valid.{AreServed, HaveOperands}}
-use Rattle.yq_edit_laws.{proofs.OrderLaws.{behind_both, behind_none, fails_behind, fails_on}, proofs.ServeLaws.{fits, others_serve}}
+use Rattle.yq_edit_laws.{proofs.OrderLaws.{after_both, following_none, fails_after, fails_on}, proofs.ServeLaws.{fits, others_serve}}
 use Rattle.yq_batch.{specs.Together.CarriesFirst, specs.Under.{CarriesUnder, IsPathUnder, op_at, path_in}, proofs.RunAnswers.begins_with}
 use Rattle.yq_batch.{specs.Runs.now_text, specs.declared.run.PutRun.PutRun, specs.declared.together.Together.Together}
 use Rattle.yq_core.specs.declared.path.Step as declared
@@ -58,7 +58,7 @@ module _ (front : List declared.Step) where
   -- one that others follow
   pub others_come : (os : List Op) (o : Op) (t m : List ℕ) (bs cs all : List Splice) → 1 ≤ length os → o ≡ slice_index_or os 0 o → carried (op_under front o) t ≡ gives m cs → all ≡ bs ++ cs →
       edit_after all (carry_all (ops_under front (later os)) m) ≡ edit_after bs (carry_all (ops_under front os) t)
-  others_come os o t m bs cs all some at new_bytes joined = search (rules, behind_both, apart)
+  others_come os o t m bs cs all some at new_bytes joined = search (rules, after_both, apart)
 
   pub others_served : (os : List Op) (o : Op) (t m : List ℕ) (cs : List Splice) → 1 ≤ length os → o ≡ slice_index_or os 0 o → AreServed (ops_under front os) t →
       IsApplied (op_under front o) t m cs → AreServed (ops_under front (later os)) m
@@ -70,7 +70,7 @@ module _ (front : List declared.Step) where
   pub first_fails : (os : List Op) (o : Op) (t : List ℕ) (bs : List Splice) (e : ExprError) → 1 ≤ length os → o ≡ slice_index_or os 0 o →
       EditFails e (carried (op_under front o) t) → EditFails e (edit_after bs (carry_all (ops_under front os) t))
   first_fails os o t bs e some at h =
-      fails_behind e bs (carry_all (ops_under front os) t)
+      fails_after e bs (carry_all (ops_under front os) t)
       (subst (λ (x : List Operation). EditFails e (carry_all x t)) (sym (apart os o some at)) (fails_on e (carry_all (ops_under front (later os))) (carried (op_under front o) t) h))
 
   pub first_fits : (os : List Op) (o : Op) (t : List ℕ) → 1 ≤ length os → o ≡ slice_index_or os 0 o → AreServed (ops_under front os) t → IsFitting (op_under front o) t
@@ -93,7 +93,7 @@ module _ (front : List declared.Step) where
   pub under_begin : (t : List ℕ) (r : PutRun) (ops : List Op) → read_at t ≡ Some (cut_of t) → string_bytes r.text ≡ [] → r.done ≡ 0 → r.splices.items ≡ [] →
       edit_after r.splices.items (carry_all (ops_under front ops) (now_text (cut_of t) r)) ≡ carry_all (ops_under front ops) t
   under_begin t r ops read text done splices =
-      (λ i. edit_after (splices i) (carry_all (ops_under front ops) (begins_with t r read text done i))) ∙ behind_none (carry_all (ops_under front ops) t)
+      (λ i. edit_after (splices i) (carry_all (ops_under front ops) (begins_with t r read text done i))) ∙ following_none (carry_all (ops_under front ops) t)
 
 -- operations at and below the root
 pub first_whole : (ops : List Op) (t : List ℕ) (x : Together) → CarriesUnder [] ops t x → CarriesFirst ops t x

@@ -56,18 +56,18 @@ module _ (x : HeadInText) (u : List ℕ) (all : u ≡ cut_text (cut_with x)) (op
         arith,
         a.size,
         run.size,
-        put.new_size c x.doc (stem_of x) h.path h.value (slots_of before.slots) (slots_of after.slots) again run.run h.ends h.part h.standing
+        put.new_size c x.doc (stem_of x) h.path h.value (slots_of before.slots) (slots_of after.slots) again run.run h.ends h.part h.placement
             (change_place y) h.placed y.lead.now (string_bytes s) a.at a.was a.put,
       ) in
       let small : length (open_text c after) ≤ text_limit = omega (arith, a.small, size) in
       let fits = subst (λ (o : Operation). IsFitting o (open_text c before)) h.operation fitting in
       opens_on op (replace x.doc h.path h.value) x before after (splice_at a.at (drop y.place.start (take y.place.end (cut_text c))) (y.lead.now ++ string_bytes s)) h.operation
-      (put.put_there c x.doc (stem_of x) h.path h.value (slots_of before.slots) (slots_of after.slots) again run.run h.ends h.part h.standing
+      (put.put_there c x.doc (stem_of x) h.path h.value (slots_of before.slots) (slots_of after.slots) again run.run h.ends h.part h.placement
       (change_place y) h.placed y.lead.now (string_bytes s) a.at a.was a.put is.0 refl is.1 h.valid fits small)
       fitting h.valid a.splices
       (record {
         run = put.put_goes_on c x.doc (stem_of x) h.path h.value (slots_of before.slots) (slots_of after.slots) again run.run h.ends h.part
-            h.standing (change_place y) h.placed y.lead.now (string_bytes s) a.at a.was a.put is.0 refl is.1 h.valid fits small;
+            h.placement (change_place y) h.placed y.lead.now (string_bytes s) a.at a.was a.put is.0 refl is.1 h.valid fits small;
         counts = a.counts;
         size = size;
       })
@@ -78,14 +78,14 @@ module _ (x : HeadInText) (u : List ℕ) (all : u ≡ cut_text (cut_with x)) (op
       let bytes : List ℕ = drop y.place.start (take y.place.end (cut_text c)) in
       let kept = subst (IsWrittenPart (node_in x.doc h.path c) h.value h.part) none h.written in
       let same : open_text c after ≡ open_text c before =
-      put.same_text c x.doc (stem_of x) h.path h.value (slots_of before.slots) (slots_of after.slots) again run.run h.ends h.part h.standing
+      put.same_text c x.doc (stem_of x) h.path h.value (slots_of before.slots) (slots_of after.slots) again run.run h.ends h.part h.placement
       (change_place y) h.placed [] bytes a.at a.was a.put refl refl in
       opens_on op (replace x.doc h.path h.value) x before after [] h.operation
-      (put.kept_there c x.doc (stem_of x) h.path h.value (slots_of before.slots) (slots_of after.slots) again run.run h.ends h.part h.standing
+      (put.kept_there c x.doc (stem_of x) h.path h.value (slots_of before.slots) (slots_of after.slots) again run.run h.ends h.part h.placement
       (change_place y) h.placed [] bytes a.at a.was a.put kept ∙ ap (λ (l : List ℕ). gives l []) (sym same))
       fitting h.valid (a.splices ∙ sym (append-nil before.splices.items))
       (record {
-        run = put.kept_goes_on c x.doc (stem_of x) h.path h.value (slots_of before.slots) (slots_of after.slots) again run.run h.ends h.part h.standing (change_place y) h.placed [] bytes a.at a.was a.put refl refl;
+        run = put.kept_goes_on c x.doc (stem_of x) h.path h.value (slots_of before.slots) (slots_of after.slots) again run.run h.ends h.part h.placement (change_place y) h.placed [] bytes a.at a.was a.put refl refl;
         counts = a.counts;
         size = a.size ∙ (run.size ∙ ap length (sym same));
       })
@@ -135,7 +135,7 @@ stills_empty c n stem [] = tt
 stills_empty c n stem (p ∷ ps) = (
   record {
     part = λ none one left r y there is size. subst (λ (l : List ℕ). IsPartOf c n (stem ++ left) r (record y { rest = l })) (is ∙ sym (text_empty (cut_text c) p.end ps)) there;
-    ends = λ more left w found is none. record { coll = w; is = found; close = refl; none = refl; behind = is ∙ sym (text_empty (cut_text c) p.end ps) };
+    ends = λ more left w found is none. record { coll = w; is = found; close = refl; none = refl; after = is ∙ sym (text_empty (cut_text c) p.end ps) };
   },
   stills_empty c n stem ps,
 )

@@ -1,7 +1,7 @@
 -- Items and entries put into a flow collection of a head that was empty when that was read, after the first one (YAML 1.2.2, 7.4; own).
 use Rattle.std.specs.Prelude.{◌≡◌, ⊤, ℕ, false, List, [], ◌++◌, drop, map, Option, Some, None}
 use Rattle.yq_core.{specs.Collections.CollPieces, specs.Entries.tree_step, specs.Paths.Step}
-use Rattle.yq_flow_edits.specs.FlowEdits.{behind_appended, is_none}
+use Rattle.yq_flow_edits.specs.FlowEdits.{after_appended, is_none}
 use Rattle.yq_row_table.specs.Rows.{Cut, cut_text}
 use Rattle.yq_places.specs.FlowNodes.{flow_collection}
 use Rattle.yq_semantics.specs.Operations.{Operation}
@@ -9,12 +9,12 @@ use Rattle.yq_batch.{specs.Runs.{Runs, RunsOn, cut_with, now_text, stem_of}, spe
 use Rattle.yq_batch.{specs.declared.adding.FilledRun.FilledRun, specs.declared.head.HeadInText.HeadInText}
 
 -- The collection to which steps lead in a cut has an item or entry, and the bracket of another one, and one more comes before these last bytes (own).
-pub record IsFilledCollection (w : CollPieces) (cut : Cut) (n : ℕ) (steps : List Step) (behind : List ℕ) : Type 0 where
+pub record IsFilledCollection (w : CollPieces) (cut : Cut) (n : ℕ) (steps : List Step) (after : List ℕ) : Type 0 where
   pub coll : CollPieces
   pub found : flow_collection n steps cut ≡ Some coll
   pub close : coll.close ≡ w.close
   pub some : is_none coll.items ≡ false
-  pub behind_is : behind_appended coll ≡ behind
+  pub following_is : after_appended coll ≡ after
 
 -- what is known of the empty collection into which a run put the last one, if it did: the next one comes where the run ends (own)
 abbrev pub IsKnownFilled : (c cut : Cut) → ℕ → List Step → ℕ → Option Filled → Type 0

@@ -4,7 +4,7 @@ use Rattle.yq_core.{specs.Entries.tree_step, specs.Paths.Step}
 use Rattle.yq_outline.specs.Lines.{head_of}
 use Rattle.yq_row_table.specs.Rows.{Cut}
 use Rattle.yq_documents.{specs.LinesInRows.document_row, specs.Reading.cut_of}
-use Rattle.yq_places.specs.Standings.{RowsOfEntry, rows_of_entry}
+use Rattle.yq_places.specs.Placements.{RowsOfEntry, rows_of_entry}
 use Rattle.yq_semantics.{specs.Operations.operations_of, specs.declared.op.Op.Op}
 use Rattle.yq_edit_laws.{specs.Carried.carry_all, specs.Edit.{Edit, edit_after}, specs.Valid.AreServed}
 use Rattle.yq_batch.{specs.RowRuns.IsRowsRun, specs.Runs.{IsPutRun, Runs, cut_with, now_text}, specs.Together.CarriesSome}

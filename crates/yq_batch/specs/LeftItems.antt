@@ -3,7 +3,7 @@ use Rattle.std.specs.Prelude.{◌≡◌, ℕ, zero, suc, Bool, true, false, ◌&
 use Rattle.yq_core.{specs.Paths.{Step, is_here, further}, specs.PlainText.begins_marker, specs.Trees.key_content, specs.Tree.key_label}
 use Rattle.yq_core.{specs.Nodes.{Key, FlowNode, Sep, Items, none, item, key_text, node_text, sep_text}, specs.Alike.fresh}
 use Rattle.yq_core.{specs.Places.{Parts, end, part}, specs.Entries.{end_of, entry_start}}
-use Rattle.yq_flow_edits.{specs.FlowEdits.FlowEdit, specs.FlowPlaces.behind_feed, specs.Removals.{ends_marked, gap_of, removing_from}}
+use Rattle.yq_flow_edits.{specs.FlowEdits.FlowEdit, specs.FlowPlaces.past_feed, specs.Removals.{ends_marked, gap_of, removing_from}}
 use Rattle.yq_core.specs.Nodes as nodes
 
 -- ---- items
@@ -78,9 +78,9 @@ pub record TakesOut (k : ℕ) (rest g : List ℕ) (s : Step) (left new : Items) 
   pub gap : edit.gap ≡ g
   pub items : edit.items ≡ new
   pub lead : edit.lead ≡ []
-  pub text : nodes.flow_items_text k left rest ≡ front ++ (edit.old ++ edit.behind)
+  pub text : nodes.flow_items_text k left rest ≡ front ++ (edit.old ++ edit.after)
   pub old : front ++ edit.old ≡ upto
-  pub left_text : nodes.flow_items_text k new rest ≡ front ++ edit.behind
+  pub left_text : nodes.flow_items_text k new rest ≡ front ++ edit.after
 
 -- no space has to come between a gap and what comes after it (own)
 abbrev pub NeedsNoSpace : List ℕ → List ℕ → Type 0
@@ -105,4 +105,4 @@ count_parts (part key n parts) = suc (count_parts parts)
 
 -- what goes is from one place up to another one, before what perhaps begins with a marker, and no space has to come there (own)
 abbrev pub GoesUpTo : List ℕ → (from upto : ℕ) → Bool → (start finish : ℕ) → Option Bool → Type 0
-GoesUpTo t from upto marked start finish after = (start ≡ from) × (finish ≡ upto) × (after ≡ Some marked) × ((behind_feed t from && marked) ≡ false)
+GoesUpTo t from upto marked start finish after = (start ≡ from) × (finish ≡ upto) × (after ≡ Some marked) × ((past_feed t from && marked) ≡ false)

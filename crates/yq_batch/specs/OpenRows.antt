@@ -5,7 +5,7 @@ use Rattle.yq_text.specs.Splice.{Splice}
 use Rattle.yq_core.{specs.Paths.Step, specs.Tree.Node}
 use Rattle.yq_row_table.specs.Rows.{Cut, cut_text}
 use Rattle.yq_documents.specs.Reading.{cut_of, read_at}
-use Rattle.yq_places.{specs.NodesAt.node_in, specs.Standings.{RowsOfEntry, held, rows_of_entry}}
+use Rattle.yq_places.{specs.NodesAt.node_in, specs.Placements.{RowsOfEntry, held, rows_of_entry}}
 use Rattle.yq_semantics.{specs.Operations.{Operation, operation_of, replace}, specs.declared.op.Op.Op}
 use Rattle.yq_edit_rules.{specs.BlockReading.is_filled, specs.Operands.HasOperand, specs.RowChanges.HoldsInline}
 use Rattle.yq_edit_laws.{specs.Carried.carried, specs.Edit.gives, specs.Theorems.IsApplied}
@@ -21,7 +21,7 @@ head_front e = (held e).before ++ (held e).space
 
 -- the text after it, where no lines are below (8.2)
 abbrev pub head_back : RowsOfEntry → List ℕ
-head_back e = (held e).white ++ ((held e).comment ++ ((held e).last ++ (held e).behind))
+head_back e = (held e).white ++ ((held e).comment ++ ((held e).last ++ (held e).after))
 
 -- What the key or dash of rows holds is at this place (own).
 pub record IsHeadAt (e : RowsOfEntry) (p : SlotPlace) : Type 0 where

@@ -4,7 +4,7 @@ use Rattle.std.{specs.Prelude.{String, string_bytes}, specs.Str.IsCharBoundary, 
 use Rattle.yq_text.{specs.Halves.whole, specs.declared.halves.Halves.Halves, specs.Limit.text_limit, specs.Script.splice_at}
 use Rattle.yq_text.specs.Splice.{Splice}
 use Rattle.yq_core.{specs.Paths.Step, specs.Collections.CollPieces, specs.Entries.EntryPieces, specs.Nodes.{node_text, without_anchor}}
-use Rattle.yq_flow_edits.specs.FlowEdits.{behind_appended, is_none}
+use Rattle.yq_flow_edits.specs.FlowEdits.{after_appended, is_none}
 use Rattle.yq_row_table.specs.Rows.{Cut, cut_text}
 use Rattle.yq_documents.specs.Reading.{read_at}
 use Rattle.yq_places.{specs.FlowNodes.flow_collection, specs.FlowViews.LeadsToHead}
@@ -20,7 +20,7 @@ pub record EndsBefore (w : CollPieces) (cut : Cut) (n : ℕ) (steps : List Step)
   pub is : flow_collection n steps cut ≡ Some coll
   pub close : coll.close ≡ w.close
   pub none : is_none coll.items ≡ is_none w.items
-  pub behind : behind_appended coll ≡ rest
+  pub after : after_appended coll ≡ rest
 
 -- an item or entry has its content at a place of a cut's text (7.4; own)
 abbrev pub BeginsAtPlace : Cut → SlotPlace → EntryPieces → Type 0
@@ -35,7 +35,7 @@ PartIsStill c cut n stem p rest =
 -- the collection that ends at a place is in another cut, with this text after its last item, if it was not empty or nothing was put there (7.4; own)
 abbrev pub EndIsStill : (c cut : Cut) → ℕ → List Step → SlotView → List ℕ → Type 0
 EndIsStill c cut n stem s rest =
-    (left : List Step) (w : CollPieces) → flow_collection n (stem ++ left) c ≡ Some w → behind_appended w ≡ drop s.place.end (cut_text c) →
+    (left : List Step) (w : CollPieces) → flow_collection n (stem ++ left) c ≡ Some w → after_appended w ≡ drop s.place.end (cut_text c) →
     (is_none w.items ≡ true → s.new ≡ None) → EndsBefore w cut n (stem ++ left) rest
 
 -- What is known in a cut of a place of another one, after which is this text: the part that has its content there, as long as nothing was put there, or

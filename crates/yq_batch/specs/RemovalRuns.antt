@@ -7,8 +7,8 @@ use Rattle.yq_core.{specs.Places.{CoreNode, Placed, mapping, name, nothing, plac
 use Rattle.yq_core.specs.declared.inline.Inline.{Inline}
 use Rattle.yq_row_table.specs.Rows.{Cut, cut_text}
 use Rattle.yq_documents.specs.Reading.{read_at}
-use Rattle.yq_places.{specs.FlowNodes.flow_collection, specs.FlowViews.{LeadsToHead, behind_anchor, collection_view}}
-use Rattle.yq_places.{specs.Standings.last_step, specs.declared.places.flow_node.FlowHead.FlowHead}
+use Rattle.yq_places.{specs.FlowNodes.flow_collection, specs.FlowViews.{LeadsToHead, following_anchor, collection_view}}
+use Rattle.yq_places.{specs.Placements.last_step, specs.declared.places.flow_node.FlowHead.FlowHead}
 use Rattle.yq_semantics.{specs.Operations.Operation, specs.declared.refusal.Refusal.TheVariants.TooLarge, specs.Judgement.ExprError}
 use Rattle.yq_edit_laws.{specs.Carried.carried, specs.Edit.gives, specs.Theorems.IsApplied, specs.NearParts.{LeadsToPart, head_with}}
 use Rattle.yq_batch.specs.LeftItems.{Ending, closing, count_parts, others, left_items, upto_text}
@@ -43,11 +43,11 @@ left_coll w count e rest = record { close = w.close; gap = w.gap; items = left_i
 
 -- So many of the first items of a collection are left in another cut, before an ending, in the place where they were, in bytes that stay, and so many bytes
 -- come after the collection (own).
-pub record AreFirstLeft (w : CollPieces) (c cut : Cut) (n : ℕ) (steps : List Step) (keep count : ℕ) (after : Option Bool) (behind : ℕ) : Type 0 where
+pub record AreFirstLeft (w : CollPieces) (c cut : Cut) (n : ℕ) (steps : List Step) (keep count : ℕ) (after : Option Bool) (following : ℕ) : Type 0 where
   pub ending : Ending
   pub ends : AreAfter after ending
   pub rest : List ℕ
-  pub behind_is : behind ≡ length rest
+  pub following_is : following ≡ length rest
   pub left : flow_collection n steps cut ≡ Some (left_coll w count ending rest)
   pub opening : List ℕ
   pub was : cut_text c ≡ opening ++ flow_items_text w.close w.items w.rest
@@ -55,14 +55,14 @@ pub record AreFirstLeft (w : CollPieces) (c cut : Cut) (n : ℕ) (steps : List S
   pub kept : (i : ℕ) → i < count → length opening + length (upto_text i w.items) ≤ keep
 
 -- the same of the collection to which steps lead (own)
-abbrev pub IsLeftOf : (c cut : Cut) → ℕ → List Step → (keep count : ℕ) → Option Bool → (behind : ℕ) → Type 0
-IsLeftOf c cut n steps keep count after behind =
-    (w : CollPieces) × (flow_collection n steps c ≡ Some w) × AreFirstLeft w c cut n steps keep count after behind
+abbrev pub IsLeftOf : (c cut : Cut) → ℕ → List Step → (keep count : ℕ) → Option Bool → (following : ℕ) → Type 0
+IsLeftOf c cut n steps keep count after following =
+    (w : CollPieces) × (flow_collection n steps c ≡ Some w) × AreFirstLeft w c cut n steps keep count after following
 
 -- what is known of the collection from which a run took the last one out, if it took any (own)
 abbrev pub IsKnownLeft : (c cut : Cut) → ℕ → List Step → ℕ → Option LeftOf → Type 0
 IsKnownLeft c cut n stem keep None = ⊤
-IsKnownLeft c cut n stem keep (Some k) = IsLeftOf c cut n (stem ++ map tree_step k.steps.now) keep k.count k.after k.behind
+IsKnownLeft c cut n stem keep (Some k) = IsLeftOf c cut n (stem ++ map tree_step k.steps.now) keep k.count k.after k.following
 
 -- A run of the code is one, of which this is known (own).
 pub record RemovesSo (c : Cut) (n : ℕ) (stem : List Step) (known : Option LeftOf) (r : RemovalRun) : Type 0 where
@@ -74,7 +74,7 @@ pub record RemovesSo (c : Cut) (n : ℕ) (stem : List Step) (known : Option Left
 -- what is left of a collection that ends at a place, in a text so long: as is known of the last one, or all of one that ends before what was taken out (own)
 abbrev pub IsLeftIn : List Step → Option LeftOf → (end keep size all : ℕ) → LeftOf → Type 0
 IsLeftIn steps known end keep size all k =
-    ((known ≡ Some k) × (map tree_step k.steps.now ≡ steps)) ⊎ ((end ≤ keep) × (k.count ≡ all) × (k.after ≡ None) × (k.behind + end ≡ size))
+    ((known ≡ Some k) × (map tree_step k.steps.now ≡ steps)) ⊎ ((end ≤ keep) × (k.count ≡ all) × (k.after ≡ None) × (k.following + end ≡ size))
 
 -- the same of a node of the code after so many bytes, in the text of a run (own)
 abbrev pub HasLeft : List declared.Step → Option LeftOf → ℕ → Inline → RemovalRun → LeftOf → Type 0
@@ -114,7 +114,7 @@ pub record PartGoes (steps : List Step) (x : FlowHead) (node : Placed) (left : L
   pub steps_are : map tree_step known.steps.now ≡ map tree_step x.left.now
   pub count : known.count ≡ index
   pub after : known.after ≡ place.after
-  pub behind : known.behind ≡ left.behind
+  pub following : known.following ≡ left.following
 
 -- The only one that is left of a collection in another one goes, and an empty one comes in the place of that (own).
 pub record SoleGoes (x : FlowHead) (node : Placed) (left : LeftOf) (r : RemovalRun) (z : Removed) : Type 0 where
@@ -123,7 +123,7 @@ pub record SoleGoes (x : FlowHead) (node : Placed) (left : LeftOf) (r : RemovalR
   pub sole : left.count ≡ 1
   pub alone : left.after ≡ None
   pub start : z.start ≡ x.before + content_of node
-  pub finish : z.end + left.behind ≡ length (buffer_text r.text)
+  pub finish : z.end + left.following ≡ length (buffer_text r.text)
   pub new : empty_text node ≡ Some z.new.now
   pub known : z.known ≡ None
 
@@ -134,7 +134,7 @@ SoleGone x steps m left r = SoleGoes (head_with x.head steps) (inline_view m) le
 -- What an operation exchanges in the text of a run, whose path ends in a collection of a head, and what is left of that then (own).
 pub record GoesInHead (steps : List Step) (x : FlowHead) (known : Option LeftOf) (r : RemovalRun) (z : Removed) : Type 0 where
   pub node : Placed
-  pub there : Some (behind_anchor node) ≡ collection_view x
+  pub there : Some (following_anchor node) ≡ collection_view x
   pub left : LeftOf
   pub first : IsLeftIn (map tree_step x.left.now) known (x.before + end_of node) r.keep (length (buffer_text r.text)) (count_parts (parts_of node)) left
   pub goes : PartGoes steps x node left z ⊎ SoleGoes x node left r z

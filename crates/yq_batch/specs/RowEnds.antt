@@ -4,9 +4,9 @@ use Rattle.std.{specs.Prelude.{None, String, string_bytes}, specs.Str.IsCharBoun
 use Rattle.yq_core.{specs.Paths.Step, specs.Text.is_empty, specs.Tree.Node}
 use Rattle.yq_outline.specs.RowWalk.{line_level}
 use Rattle.yq_documents.{specs.LinesInRows.document_row, specs.Located.steps_of, specs.Reading.cut_of, specs.declared.path.Path.Path}
-use Rattle.yq_row_table.{specs.Rows.{Cut, Row, behind_columns, cut_text, rows_text}, specs.Seams.is_block, specs.View.slices}
+use Rattle.yq_row_table.{specs.Rows.{Cut, Row, after_columns, cut_text, rows_text}, specs.Seams.is_block, specs.View.slices}
 use Rattle.yq_places.{specs.FirstBreak.first_break, specs.PlacedRows.{PlacedPart, placed_document}}
-use Rattle.yq_places.specs.Standings.{RowsOfEntry, Standing, is_alone, rows_of_entry, standing_at}
+use Rattle.yq_places.specs.Placements.{RowsOfEntry, Placement, is_alone, rows_of_entry, placement_at}
 use Rattle.yq_semantics.specs.Operations.{Operation, append}
 use Rattle.yq_edit_rules.{specs.BlockReading.is_filled, specs.EntryEdits.more_lines, specs.Layouts.layout_of, specs.Operands.HasOperand}
 use Rattle.yq_batch.{specs.KeptBreaks.KeepsFirstBreak, specs.Slots.{SlotView, slot_places}, specs.declared.change.HeadChange.HeadChange}
@@ -44,7 +44,7 @@ pub record IsUnderMark (z : EndOfEntries) (e : RowsOfEntry) : Type 0 where
 pub record IsAfterDash (z : EndOfEntries) (e : RowsOfEntry) : Type 0 where
   pub first : z.first ≡ length e.front
   pub dash : e.line < length e.row.dashes
-  pub column_is : behind_columns e.row.column (take (suc e.line) e.row.dashes) ≡ z.column
+  pub column_is : after_columns e.row.column (take (suc e.line) e.row.dashes) ≡ z.column
 
 -- It is what an item or entry holds, and deeper than that: rows of its document up to the last of its rows, and those after them (8.2).
 pub record EndsInEntry (m : ℕ) (s : Step) (ss : List Step) (z : EndOfEntries) (d : Cut) (front back : List Row) : Type 0 where
@@ -68,7 +68,7 @@ pub record EndsHere (z : EndOfEntries) (m : ℕ) (d : Cut) (rest : List ℕ) : T
   pub back : List Row
   pub rows_are : placed.part.rows ≡ front ++ back
   pub ends : EndsAfterRows m z.steps z d front back
-  pub behind : rows_text back (placed.part.end ++ placed.behind) ≡ rest
+  pub after : rows_text back (placed.part.end ++ placed.after) ≡ rest
   pub text : List ℕ
   pub ended : cut_text d ≡ text ++ (10 ∷ rest)
 
@@ -131,12 +131,12 @@ pub record AddsAtEnd (op : Operation) (c : Cut) (m : ℕ) (o : Option EndOfEntri
   pub lines : string_bytes written ≡ more_lines (layout_of m c) (Some key) value end.column (10 ∷ [])
 
 -- this is at a path of a text (own)
-abbrev pub StandsSo : Path → List ℕ → Standing → Type 0
-StandsSo p t x = standing_at p.doc (steps_of p) (cut_of t) ≡ Some x
+abbrev pub IsPlacedSo : Path → List ℕ → Placement → Type 0
+IsPlacedSo p t x = placement_at p.doc (steps_of p) (cut_of t) ≡ Some x
 
 -- another text comes at a place, after a line with a break (own)
-abbrev pub EndsLineAt : (text last behind : List ℕ) → ℕ → Type 0
-EndsLineAt text last behind at = (is_empty last ≡ false) × (at + length behind ≡ length text)
+abbrev pub EndsLineAt : (text last after : List ℕ) → ℕ → Type 0
+EndsLineAt text last after at = (is_empty last ≡ false) × (at + length after ≡ length text)
 
 -- What the code tells of the end of a mapping is so (own).
 pub record IsEndAt (c : Cut) (m : ℕ) (w : EntriesEnd) (z : EndOfEntries) : Type 0 where

@@ -2,11 +2,11 @@
 use Rattle.std.specs.Prelude.{◌≡◌, ⊤, ◌⊎◌, not, if◌then◌else◌, ℕ, ◌+◌, ◌-◌, ◌<◌, ◌≤◌, Bool, true, false, List, [], ◌∷◌, ◌++◌, take, length}
 use Rattle.std.specs.Prelude.{Option, Some, None, IfSome}
 use Rattle.yq_text.{specs.Splice.Splice, specs.TextGapBuffer.buffer_text}
-use Rattle.yq_core.{specs.Paths.Step, specs.Lines.{spaces, behind_spaces, is_blank, is_tab}, specs.Text.{ends_line, text_lines}}
+use Rattle.yq_core.{specs.Paths.Step, specs.Lines.{spaces, without_spaces, is_blank, is_tab}, specs.Text.{ends_line, text_lines}}
 use Rattle.yq_row_table.{specs.Rows.{Row, Cut, cut_text}, specs.Splices.first_gap}
 use Rattle.yq_documents.{specs.Located.steps_of, specs.Reading.read_at, specs.declared.path.Path.Path}
 use Rattle.yq_places.specs.PlacedRows.{PlacedPart, placed_document}
-use Rattle.yq_places.{specs.RemovalPlaces.{OwnRows, own_rows, rows_out, Seam, has_others_at}, specs.Standings.last_step}
+use Rattle.yq_places.{specs.RemovalPlaces.{OwnRows, own_rows, rows_out, Seam, has_others_at}, specs.Placements.last_step}
 use Rattle.yq_semantics.{specs.declared.op.Op.Op, specs.Operations.{Operation, operation_of, remove}, specs.Judgement.ExprError}
 use Rattle.yq_edit_laws.{specs.Answers.EditFails, specs.Carried.carried, specs.Edit.gives, specs.Theorems.IsApplied}
 use Rattle.yq_batch.specs.declared.removals.RemovalRun.{RemovalRun}
@@ -15,7 +15,7 @@ use Rattle.yq_batch.specs.declared.removals.RemovalRun.{RemovalRun}
 
 -- only spaces come before the break of a blank line, and no tab before a `#` after spaces (own)
 abbrev pub is_spaced : List ℕ → Bool
-is_spaced l = if is_blank l then ends_line (behind_spaces l) else not (is_tab (behind_spaces l))
+is_spaced l = if is_blank l then ends_line (without_spaces l) else not (is_tab (without_spaces l))
 
 -- lines of a gap are so, with fewer spaces in front than a number (own)
 abbrev pub AreLow : ℕ → List (List ℕ) → Type 0
@@ -42,7 +42,7 @@ StayLow None old new = ⊤
 StayLow (Some least) old new = (n : ℕ) → least ≤ n → AreLow n (text_lines old) → AreLow n (text_lines new)
 
 -- The rows of an item or entry are in another cut, with the same text and rows before them, and a gap after them that is as low (own).
-pub record StandsBefore (d : PlacedPart) (x : OwnRows) (cut : Cut) (n : ℕ) (steps : List Step) (least : Option ℕ) : Type 0 where
+pub record IsPlacedBefore (d : PlacedPart) (x : OwnRows) (cut : Cut) (n : ℕ) (steps : List Step) (least : Option ℕ) : Type 0 where
   pub now : PlacedPart
   pub placed : placed_document n cut ≡ Some now
   pub before : now.before ≡ d.before
@@ -57,7 +57,7 @@ pub record IsRowRemovalRun (c : Cut) (n : ℕ) (above : List Step) (least : Opti
   pub cut : Cut
   pub read : read_at (take keep (cut_text c) ++ tail) ≡ Some cut
   pub stays : (s : Step) (d : PlacedPart) (x : OwnRows) → placed_document n c ≡ Some d → own_rows (above ++ (s ∷ [])) d.part.rows ≡ Some x →
-      length (rows_out d x).before + length (rows_out d x).gone ≤ keep → StandsBefore d x cut n (above ++ (s ∷ [])) least
+      length (rows_out d x).before + length (rows_out d x).gone ≤ keep → IsPlacedBefore d x cut n (above ++ (s ∷ [])) least
 
 -- a run of the code is one (own)
 pub record RemovesRows (c : Cut) (n : ℕ) (above : List Step) (least : Option ℕ) (r : RemovalRun) : Type 0 where

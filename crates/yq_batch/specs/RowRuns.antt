@@ -6,8 +6,8 @@ use Rattle.yq_core.{specs.Paths.Step, specs.Text.is_empty, specs.Tree.Node, spec
 use Rattle.yq_row_table.specs.Rows.{Cut, cut_text}
 use Rattle.yq_documents.{specs.declared.path.Path.Path, specs.LinesInRows.document_row, specs.Located.steps_of}
 use Rattle.yq_documents.specs.Reading.{cut_of, documents, read_at}
-use Rattle.yq_places.{specs.FirstBreak.first_break, specs.Standings.{RowsOfEntry, rows_of_entry}}
-use Rattle.yq_edit_rules.{specs.RowStays.{IsBehind, StandsStill}, specs.Edits.op_edits, specs.Operands.HasOperand}
+use Rattle.yq_places.{specs.FirstBreak.first_break, specs.Placements.{RowsOfEntry, rows_of_entry}}
+use Rattle.yq_edit_rules.{specs.RowStays.{IsAfter, StaysInRows}, specs.Edits.op_edits, specs.Operands.HasOperand}
 use Rattle.yq_edit_rules.{specs.Replacing.keeps_scalar, specs.RowChanges.{ChangesRow, PutsOne}, specs.WrittenValues.value_text}
 use Rattle.yq_semantics.{specs.After.op_document, specs.Fits.Fits, specs.Rooms.room_of}
 use Rattle.yq_semantics.{specs.Operations.{Operation, append, head_comment, line_comment, remove, replace}, specs.declared.op.Op.Op}
@@ -24,7 +24,7 @@ pub record IsRowRun (c : Cut) (k n : ℕ) (out : List ℕ) (done : ℕ) : Type 0
   pub edge : IsCharBoundary (cut_text c) done
   pub cut : Cut
   pub read : read_at (text_with_run (cut_text c) out done) ≡ Some cut
-  pub stays : (m : ℕ) (steps : List Step) (e : RowsOfEntry) → rows_of_entry m steps c ≡ Some e → IsBehind k n m (length e.front) → StandsStill e m steps cut
+  pub stays : (m : ℕ) (steps : List Step) (e : RowsOfEntry) → rows_of_entry m steps c ≡ Some e → IsAfter k n m (length e.front) → StaysInRows e m steps cut
 
 -- the row that was changed last, by its document and how many rows come before it, is the one in front of row n of document k (own)
 abbrev pub IsLast : Cut → Option (ℕ × ℕ) → (k n : ℕ) → Type 0
@@ -46,7 +46,7 @@ pub record IsRowsRun (c : Cut) (o : Option (ℕ × ℕ)) (r : PutRun) : Type 0 w
 -- ---- operations
 
 -- the rows of an item or entry that is still (own)
-abbrev pub rows_still : {m : ℕ} {steps : List Step} {d : Cut} → (e : RowsOfEntry) → StandsStill e m steps d → RowsOfEntry
+abbrev pub rows_still : {m : ℕ} {steps : List Step} {d : Cut} → (e : RowsOfEntry) → StaysInRows e m steps d → RowsOfEntry
 rows_still e s = record e { start = s.start; front = s.front }
 
 -- where what an operation makes fits, it changes one row (own)
@@ -54,18 +54,18 @@ abbrev pub ChangesIfFit : Operation → Cut → RowsOfEntry → List Segment →
 ChangesIfFit op d e ss = HasOperand op → Fits (room_of (cut_text d)) op (documents d) → length (new_text ss) ≤ text_limit → ChangesRow (op_document op) d e ss
 
 -- An operation puts one text in the place of another, and changes one row (own).
-pub record PutsText (op : Operation) (d : Cut) (e : RowsOfEntry) (old new behind : List ℕ) : Type 0 where
+pub record PutsText (op : Operation) (d : Cut) (e : RowsOfEntry) (old new after : List ℕ) : Type 0 where
   pub segments : List Segment
   pub front : List ℕ
   pub edited : op_edits op d ≡ Some segments
   pub whole : old_text segments ≡ cut_text d
-  pub puts : PutsOne segments front old new behind
+  pub puts : PutsOne segments front old new after
   pub changes : ChangesIfFit op d e segments
 
 -- an operation puts this text, or leaves all bytes alone, if there is none (own)
-abbrev pub PutsSo : Operation → Cut → RowsOfEntry → (old behind : List ℕ) → Option (List ℕ) → Type 0
-PutsSo op d e old behind None = op_edits op d ≡ Some (keep (cut_text d) ∷ [])
-PutsSo op d e old behind (Some new) = PutsText op d e old new behind
+abbrev pub PutsSo : Operation → Cut → RowsOfEntry → (old after : List ℕ) → Option (List ℕ) → Type 0
+PutsSo op d e old after None = op_edits op d ≡ Some (keep (cut_text d) ∷ [])
+PutsSo op d e old after (Some new) = PutsText op d e old new after
 
 -- the bytes of a text, if there is one (own)
 abbrev pub bytes_in : {S : Type 0} → (S → List ℕ) → Option S → Option (List ℕ)
@@ -98,10 +98,10 @@ abbrev pub KeepsBreakAt : Op → Cut → PutRun → Type 0
 KeepsBreakAt op c r = (p : Path) → KeepsBreak (op_at p op) c r
 
 -- an operation puts a text, or leaves all bytes alone, wherever the item or entry is still and lines end by the same break (own)
-abbrev pub PutsWhereStill : Operation → List ℕ → RowsOfEntry → List Step → (old behind : List ℕ) → Option (List ℕ) → Type 0
-PutsWhereStill op t e steps old behind new =
-    (d : Cut) → read_at (cut_text d) ≡ Some d → WritesSameBreak op t (cut_text d) → (s : StandsStill e (op_document op) steps d) →
-    PutsSo op d (rows_still e s) old behind new
+abbrev pub PutsWhereStill : Operation → List ℕ → RowsOfEntry → List Step → (old after : List ℕ) → Option (List ℕ) → Type 0
+PutsWhereStill op t e steps old after new =
+    (d : Cut) → read_at (cut_text d) ≡ Some d → WritesSameBreak op t (cut_text d) → (s : StaysInRows e (op_document op) steps d) →
+    PutsSo op d (rows_still e s) old after new
 
 -- An operation puts a text in a row, or leaves it alone, wherever the item or entry is still (own).
 pub record PutsInRow (op : Operation) (c : Cut) (x : RowPut) : Type 0 where
@@ -113,13 +113,13 @@ pub record PutsInRow (op : Operation) (c : Cut) (x : RowPut) : Type 0 where
   pub valid : HasOperand op
   pub before : List ℕ
   pub old : List ℕ
-  pub behind : List ℕ
-  pub text : cut_text c ≡ before ++ (old ++ behind)
+  pub after : List ℕ
+  pub text : cut_text c ≡ before ++ (old ++ after)
   pub start : x.start ≡ length before
   pub finish : x.end ≡ length before + length old
   pub starts : IsCharBoundary (cut_text c) x.start
   pub ends : IsCharBoundary (cut_text c) x.end
-  pub there : PutsWhereStill op (cut_text c) entry steps old behind (bytes_in string_bytes x.written)
+  pub there : PutsWhereStill op (cut_text c) entry steps old after (bytes_in string_bytes x.written)
 
 -- a head comment with a text is put above the row to which a path leads in a text, wherever the item or entry is still (own)
 abbrev pub PutsAbove : Path → (text t : List ℕ) → RowPut → Type 0

@@ -8,7 +8,7 @@ use Rattle.yq_flow_edits.{specs.FlowPlaces.PlacedEdit, specs.Valued.IsValueTree}
 use Rattle.yq_row_table.specs.Rows.{Cut, cut_text}
 use Rattle.yq_documents.specs.Reading.{cut_of, read_at}
 use Rattle.yq_places.{specs.FlowNodes.flow_collection, specs.FlowViews.{LeadsToHead, ReportsHead}, specs.NodesAt.node_in}
-use Rattle.yq_places.specs.Standings.{FlowPart, flow_standing, last_step}
+use Rattle.yq_places.specs.Placements.{FlowPart, flow_placement, last_step}
 use Rattle.yq_semantics.{specs.Operations.{Operation, append, replace}, specs.declared.refusal.Refusal.TheVariants.TooLarge}
 use Rattle.yq_semantics.specs.Judgement.{ExprError}
 use Rattle.yq_edit_rules.{specs.FlowParts.takes_key, specs.Operands.HasOperand}
@@ -85,7 +85,7 @@ pub record PutsAt (op : Operation) (x : HeadInText) (y : HeadChange) : Type 0 wh
   pub valid : IsValueTree value
   pub ends : EndsInCollection (stem_of x) path
   pub part : FlowPart
-  pub standing : flow_standing x.doc (cut_with x) (last_step path) ≡ Some part
+  pub placement : flow_placement x.doc (cut_with x) (last_step path) ≡ Some part
   pub placed : IsPlaceOf (cut_text (cut_with x)) value part (change_place y)
   pub written : IsWrittenPart (node_in x.doc path (cut_with x)) value part y.written
 

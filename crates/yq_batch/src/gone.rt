@@ -25,7 +25,7 @@ pub(crate) struct LeftOf<'s> {
     /// Whether others come after these, and perhaps begin with a document marker.
     pub(crate) after: Option<bool>,
     /// How many bytes come after it.
-    pub(crate) behind: usize,
+    pub(crate) following: usize,
 }
 
 /// What an operation exchanges in the text of a run, and what is left of its collection then.
@@ -58,12 +58,12 @@ fn left_in<'s>(
     if before > run.keep || end > run.keep - before {
         return None;
     }
-    let behind = run.text.len().checked_sub(before + end)?;
+    let following = run.text.len().checked_sub(before + end)?;
     Some(LeftOf {
         steps,
         count: count_of(node),
         after: None,
-        behind,
+        following,
     })
 }
 
@@ -84,7 +84,7 @@ fn part_gone<'s>(
     let place = left_place(at.head.text.as_bytes(), node, index, left.count, left.after)?;
     let start = at.head.before.checked_add(place.start)?;
     let end = at.head.before.checked_add(place.end)?;
-    let behind = left.behind;
+    let following = left.following;
     let after = place.after;
     Some(Removed {
         start,
@@ -94,7 +94,7 @@ fn part_gone<'s>(
             steps,
             count: index,
             after,
-            behind,
+            following,
         }),
     })
 }
@@ -125,7 +125,7 @@ fn sole_gone<'s>(
     let _own = last_step(steps)?;
     let new = empty_of(node)?;
     let start = at.head.before.checked_add(content_of(node))?;
-    let end = run.text.len().checked_sub(left.behind)?;
+    let end = run.text.len().checked_sub(left.following)?;
     Some(Removed {
         start,
         end,

@@ -11,7 +11,7 @@ ghost use Rattle.yq_batch.specs.HeadRuns as spec;
 
 use crate::adding::{FilledRun, carry_next};
 use crate::head::{FoundHead, HeadInText, head_for, is_in_head};
-use crate::in_rows::is_behind;
+use crate::in_rows::comes_later;
 use crate::near::Near;
 use crate::together::Together;
 use crate::under::path_of;
@@ -128,7 +128,7 @@ fn carry_head<'o>(
     let Some(row) = row_at(alloc, cut, doc, found.stem)? else {
         return Ok(None);
     };
-    if !is_behind(last, doc, row) {
+    if !comes_later(last, doc, row) {
         return Ok(None);
     }
     let _text = cut.text();

@@ -43,7 +43,7 @@ fn writes_same_break(cut: &CutText<'_, '_>, op: &Op, run: &PutRun) -> bool
 
 /// Whether a row of a document comes after another one, by its document and how many rows come before
 /// it, if there is that.
-pub(crate) fn is_behind(last: Option<(usize, usize)>, doc: usize, row: usize) -> bool
+pub(crate) fn comes_later(last: Option<(usize, usize)>, doc: usize, row: usize) -> bool
     ensures { result ≡ true → spec.Passed last doc row }
 {
     match last {
@@ -84,7 +84,7 @@ fn put_one<'d>(
         end,
         written,
     } = found;
-    if !is_behind(last, doc, row) || start < run.done {
+    if !comes_later(last, doc, row) || start < run.done {
         return Ok(None);
     }
     let Some(written) = written else {

@@ -9,7 +9,7 @@ ghost use Rattle.yq_batch.specs.RemovalRuns as runs;
 
 use yq_core::text::begins_marker;
 use yq_core::{Form, Inline, Piece, first_is};
-use yq_flow_edits::behind;
+use yq_flow_edits::bytes_after;
 
 /// The place of what goes, and what is after it then.
 #[derive(Clone, Copy)]
@@ -98,24 +98,26 @@ pub(crate) fn count_of(node: &Inline<'_>) -> usize
 }
 
 /// Whether an LF comes before a place.
-fn behind_feed(text: &[u8], at: usize) -> bool
-    ensures { result ≡ places.behind_feed text.now at }
+fn past_feed(text: &[u8], at: usize) -> bool
+    ensures { result ≡ places.past_feed text.now at }
 {
-    at > 0 && first_is(b'\n', behind(text, at - 1))
+    at > 0 && first_is(b'\n', bytes_after(text, at - 1))
 }
 
 /// Whether `---` or `...` in column 0 ends at a place, and doesn't begin before another one.
 fn marks_before(text: &[u8], from: usize, at: usize) -> bool
     ensures { result ≡ places.marks_before text.now from at }
 {
-    at.saturating_sub(from) >= 3 && behind_feed(text, at - 3) && begins_marker(behind(text, at - 3))
+    at.saturating_sub(from) >= 3
+        && past_feed(text, at - 3)
+        && begins_marker(bytes_after(text, at - 3))
 }
 
 /// What goes up to another one that is left.
 fn before_other(text: &[u8], start: usize, end: usize, marked: bool) -> Option<LeftPlace>
     ensures { IfSome result (λ x. spec.GoesUpTo text.now start end marked x.start x.end x.after) }
 {
-    if behind_feed(text, start) && marked {
+    if past_feed(text, start) && marked {
         return None;
     }
     Some(LeftPlace {
@@ -147,7 +149,7 @@ pub(crate) fn left_place(
         let Some((next, _)) = part_place(node, index + 1) else {
             return None;
         };
-        return before_other(text, start, next, begins_marker(behind(text, next)));
+        return before_other(text, start, next, begins_marker(bytes_after(text, next)));
     }
     if let Some(marked) = after {
         let Some((next, _)) = part_place(node, index + 1) else {

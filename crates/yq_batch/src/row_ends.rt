@@ -1,7 +1,7 @@
 //! Where the entries of a mapping end that are on lines of their own, and entries that an update puts there.
 ghost use Rattle.std.specs.Prelude.{◌≡◌, true, IfOk, IfSome, Some};
 ghost use Rattle.yq_text.specs.Halves.{whole};
-ghost use Rattle.yq_places.{specs.StandingViews.{held_view, lines_view}, specs.Standings.{MarkPieces, compact, root, under}};
+ghost use Rattle.yq_places.{specs.PlacementViews.{held_view, lines_view}, specs.Placements.{MarkPieces, compact, root, under}};
 ghost use Rattle.yq_semantics.specs.Operations.{operation_of};
 ghost use Rattle.yq_edit_rules.specs.Operands.{HasOperand};
 ghost use Rattle.yq_batch.specs.RowEnds as spec;
@@ -13,7 +13,7 @@ use yq_block_edits::more_written;
 use yq_documents::Path;
 use yq_edit_rules::{Child, is_filled};
 use yq_lookup::CutText;
-use yq_places::{Held, LinesIn, Standing};
+use yq_places::{Held, LinesIn, Placement};
 use yq_semantics::Op;
 use yq_text::Halves;
 
@@ -31,13 +31,13 @@ pub(crate) struct EntriesEnd<'o> {
 }
 
 /// Where a text comes in another one, if a break ends the line before it.
-fn line_before(text: Halves<'_>, last: &str, behind: Halves<'_>) -> Option<usize>
-    ensures { IfSome result (spec.EndsLineAt (whole text.entry) last.now (whole behind.entry)) }
+fn line_before(text: Halves<'_>, last: &str, after: Halves<'_>) -> Option<usize>
+    ensures { IfSome result (spec.EndsLineAt (whole text.entry) last.now (whole after.entry)) }
 {
     if last.is_empty() {
         return None;
     }
-    text.len().checked_sub(behind.len())
+    text.len().checked_sub(after.len())
 }
 
 /// Where the entries of a mapping end that are on the lines under the key or dash at a path, deeper than that, if the
@@ -48,7 +48,7 @@ fn under_end<'o>(
     held: &Held<'_>,
     column: usize,
 ) -> Option<EntriesEnd<'o>>
-    requires { spec.StandsSo path.now cut.now (under (held_view held.now) column) }
+    requires { spec.IsPlacedSo path.now cut.now (under (held_view held.now) column) }
     ensures { IfSome result (spec.IsEndThere cut.now) }
 {
     if held.mark.column >= column {
@@ -56,7 +56,7 @@ fn under_end<'o>(
     }
     let line = cut.row_line(path)?;
     let first = line.row.checked_add(1)?;
-    let at = line_before(cut.text(), held.last, held.behind)?;
+    let at = line_before(cut.text(), held.last, held.after)?;
     Some(EntriesEnd {
         path,
         first,
@@ -72,11 +72,11 @@ fn dash_end<'o>(
     lines: &LinesIn<'_>,
     column: usize,
 ) -> Option<EntriesEnd<'o>>
-    requires { (k : MarkPieces) × spec.StandsSo path.now cut.now (compact k column (lines_view lines.now)) }
+    requires { (k : MarkPieces) × spec.IsPlacedSo path.now cut.now (compact k column (lines_view lines.now)) }
     ensures { IfSome result (spec.IsEndThere cut.now) }
 {
     let line = cut.row_line(path)?;
-    let at = line_before(cut.text(), lines.last, lines.behind)?;
+    let at = line_before(cut.text(), lines.last, lines.after)?;
     Some(EntriesEnd {
         path,
         first: line.row,
@@ -92,10 +92,10 @@ fn root_end<'o>(
     lines: &LinesIn<'_>,
     column: usize,
 ) -> Option<EntriesEnd<'o>>
-    requires { spec.StandsSo path.now cut.now (root column (lines_view lines.now)) }
+    requires { spec.IsPlacedSo path.now cut.now (root column (lines_view lines.now)) }
     ensures { IfSome result (spec.IsEndThere cut.now) }
 {
-    let at = line_before(cut.text(), lines.last, lines.behind)?;
+    let at = line_before(cut.text(), lines.last, lines.after)?;
     Some(EntriesEnd {
         path,
         first: 0,
@@ -108,10 +108,10 @@ fn root_end<'o>(
 fn entries_end<'o>(cut: &CutText<'_, '_>, path: &'o Path) -> Option<EntriesEnd<'o>>
     ensures { IfSome result (spec.IsEndThere cut.now) }
 {
-    match cut.standing(path) {
-        Some(Standing::Under(held, column)) => under_end(cut, path, &held, column),
-        Some(Standing::Compact(_, column, lines)) => dash_end(cut, path, &lines, column),
-        Some(Standing::Root(column, lines)) => root_end(cut, path, &lines, column),
+    match cut.placement(path) {
+        Some(Placement::Under(held, column)) => under_end(cut, path, &held, column),
+        Some(Placement::Compact(_, column, lines)) => dash_end(cut, path, &lines, column),
+        Some(Placement::Root(column, lines)) => root_end(cut, path, &lines, column),
         _ => None,
     }
 }

@@ -4,7 +4,7 @@ ghost use Rattle.yq_text.specs.Limit.{text_limit};
 ghost use Rattle.yq_core.specs.Values.{value_node};
 ghost use Rattle.yq_documents.{specs.Located.steps_of, specs.Reading.cut_of};
 ghost use Rattle.yq_lookup.specs.PathLines.{IsLineOf};
-ghost use Rattle.yq_places.{specs.NodesAt.node_in, specs.StandingViews.IsHeldRow};
+ghost use Rattle.yq_places.{specs.NodesAt.node_in, specs.PlacementViews.IsHeldRow};
 ghost use Rattle.yq_semantics.specs.Operations.{head_comment, line_comment, replace};
 ghost use Rattle.yq_edit_rules.specs.Operands.{HasOperand};
 ghost use Rattle.yq_batch.specs.Under.{op_meant};
@@ -92,12 +92,12 @@ fn comment_place(text: &str, front: usize, white: &str, comment: &str) -> (usize
     ensures start { result.0 ≡ front + length (spec.white_left text.now white.now comment.now) }
     ensures end { result.1 ≡ front + (length white.now + length comment.now) }
 {
-    let behind = front + white.len();
-    let end = behind + comment.len();
+    let after = front + white.len();
+    let end = after + comment.len();
     if text.is_empty() && !comment.is_empty() {
         (front, end)
     } else {
-        (behind, end)
+        (after, end)
     }
 }
 
@@ -148,7 +148,7 @@ fn comment_above_row(
     let _text = cut.text();
     let run = Halves::of(above.text);
     is_text(run);
-    is_text(above.behind);
+    is_text(above.after);
     let start = above.before.len();
     let written = head_comment_written(alloc, cut, column, text)?;
     Ok(Some(RowPut {

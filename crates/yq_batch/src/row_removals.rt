@@ -16,7 +16,7 @@ use crate::together::Together;
 use crate::under::{go_to, lead_on, path_to, placed};
 use std::alloc::Global;
 use yq_core::lines::split_line;
-use yq_core::{Step, behind_spaces, ends_line, first_is, is_blank, spaces_len};
+use yq_core::{Step, ends_line, first_is, is_blank, spaces_len, without_spaces};
 use yq_documents::Path;
 use yq_edit_laws::last_step;
 use yq_lookup::CutText;
@@ -61,7 +61,7 @@ fn taken_beside<'o>(ops: &'o [Op], doc: usize, above: &[Step]) -> Option<&'o Op>
 fn is_spaced(line: &[u8]) -> bool
     ensures { result ≡ spec.is_spaced line.now }
 {
-    let rest = behind_spaces(line);
+    let rest = without_spaces(line);
     if is_blank(line) {
         ends_line(rest)
     } else {

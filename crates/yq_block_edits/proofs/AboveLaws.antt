@@ -3,7 +3,7 @@ use Rattle.std.proofs.Common.{◌≡◌, ℕ, Bool, true, false, cond, eqb, List
 use Rattle.yq_core.{specs.Answers.◌>>=◌, specs.Paths.Step}
 use Rattle.yq_row_table.specs.Rows.{Cut}
 use Rattle.yq_places.{specs.CommentPlaces.{above_row, lines_above}, specs.PlacedRows.PlacedRow}
-use Rattle.yq_places.specs.Standings.{RowsOfEntry, rows_of_entry}
+use Rattle.yq_places.specs.Placements.{RowsOfEntry, rows_of_entry}
 use Rattle.yq_documents.specs.Pieces.{TextPiece}
 use Rattle.yq_edit_rules.specs.CommentEdits.{above_rows, head_comment_put, head_comment_segments}
 use Rattle.yq_edit_rules.proofs.CommentRowLaws.{entry_row, rows_same}

@@ -5,9 +5,9 @@ use Rattle.yq_core.{specs.BlockWritten.break_text, specs.Paths.Step, specs.Tree.
 use Rattle.yq_core.specs.declared.style.Place.TheVariants.{Block as InBlock}
 use Rattle.yq_row_table.specs.Rows.{Cut}
 use Rattle.yq_places.specs.NodesAt.{node_in, scalar_in}
-use Rattle.yq_places.specs.Standings.{MarkPieces, Standing, alone, beside, under, compact, block, root, no_rows, standing_at}
+use Rattle.yq_places.specs.Placements.{MarkPieces, Placement, alone, beside, under, compact, block, root, no_rows, placement_at}
 use Rattle.yq_edit_rules.{specs.BlockReading.is_filled, specs.BlockRows.{indent_step, item_column}, specs.BlockText.block_value}
-use Rattle.yq_edit_rules.{specs.declared.layout.Layout.Layout, specs.ClosedTexts.{is_closed_text, lines_put_behind}}
+use Rattle.yq_edit_rules.{specs.declared.layout.Layout.Layout, specs.ClosedTexts.{is_closed_text, closed_lines_put}}
 use Rattle.yq_edit_rules.specs.Layouts.{LooksLike, node_asks, is_filled_as, is_under_key, layout_of}
 use Rattle.yq_edit_rules.specs.ReplaceEdits.{compact_put, has_text, held_put, block_scalar_put, value_put}
 use Rattle.yq_edit_rules.specs.WrittenValues.{collection_at, column_under, compact_text, inline, lines, lines_in, takes_compact, value_text}
@@ -54,19 +54,19 @@ module _ (v : Node) (l k : Layout) where
       go false is = unfilled_below l m v is ∙ sym (unfilled_below k m v is)
 
   -- what is put by one look is what is put by another one that is like it
-  put_like : (text : Bool) (t : Standing) → LooksLike (is_under_key t) v l k → value_put text l v t ≡ value_put text k v t
+  put_like : (text : Bool) (t : Placement) → LooksLike (is_under_key t) v l k → value_put text l v t ≡ value_put text k v t
   put_like text (alone w) h = refl
   put_like text (beside held) h = λ i. held_put (break_text (h.0 i)) held (at_like held.mark held.head h i)
   put_like text (under held column) h = λ i. held_put (break_text (h.0 i)) held (below_like held.mark h i)
   put_like text (compact mark column w) h = λ i. compact_put (break_text (h.0 i)) w (at_like mark [] h i)
   put_like text (block held indent) h = λ i. block_scalar_put text (break_text (h.0 i)) held indent (at_like held.mark [] h i) (scalar_in v)
   put_like text (root column w) h = λ i. lines_replaced w (value_like false v l k column h i)
-  put_like text (no_rows w) h = λ i. piece_replaced w (lines_put_behind (is_closed_text w.before) (break_text (h.0 i)) (value_like false v l k 0 h i))
+  put_like text (no_rows w) h = λ i. piece_replaced w (closed_lines_put (is_closed_text w.before) (break_text (h.0 i)) (value_like false v l k 0 h i))
 
 -- a value put where something is, by a look that is like the document's, and by a text that is asked where it is a matter of that
-pub placed_there : (n : ℕ) (steps : List Step) (v : Node) (c : Cut) (l : Layout) (b keyed : Bool) (t : Standing) (ss : List Segment) → Some t ≡ standing_at n steps c → keyed ≡ is_under_key t →
+pub placed_there : (n : ℕ) (steps : List Step) (v : Node) (c : Cut) (l : Layout) (b keyed : Bool) (t : Placement) (ss : List Segment) → Some t ≡ placement_at n steps c → keyed ≡ is_under_key t →
     LooksLike keyed v l (layout_of n c) → ((k : Layout) → value_put b k v t ≡ value_put (has_text (node_in n steps c)) k v t) → ss ≡ value_put b l v t →
-    option_map (value_put (has_text (node_in n steps c)) (layout_of n c) v) (standing_at n steps c) ≡ Some ss
+    option_map (value_put (has_text (node_in n steps c)) (layout_of n c) v) (placement_at n steps c) ≡ Some ss
 placed_there n steps v c l b keyed t ss found told like asked is =
     let same = put_like v l (layout_of n c) b t (subst (λ (x : Bool). LooksLike x v l (layout_of n c)) told like) in
     ap (option_map (value_put (has_text (node_in n steps c)) (layout_of n c) v)) (sym found) ∙ ap Some (sym (asked (layout_of n c)) ∙ (sym same ∙ sym is))

@@ -9,11 +9,11 @@ use Rattle.yq_row_table.{specs.Grammar.IsContent, specs.Rows.{Content, Nothing, 
 use Rattle.yq_row_table.{specs.Seams.is_block, specs.View.content_cut}
 use Rattle.yq_documents.{specs.Reading.{content_is_fit, cut_of, read_at}, specs.RowReading.{read_head, is_block_head, is_short_plain}}
 use Rattle.yq_documents.{proofs.HeadLaws.{fitting, head_is, head_text}, proofs.ReadLaws.exact_reading}
-use Rattle.yq_places.{specs.NodesAt.{node_in, scalar_in}, specs.StandingViews.IsHeldRow, specs.Standings.{RowsOfEntry, behind_entry}}
+use Rattle.yq_places.{specs.NodesAt.{node_in, scalar_in}, specs.PlacementViews.IsHeldRow, specs.Placements.{RowsOfEntry, after_entry}}
 use Rattle.yq_places.{specs.declared.places.held_row.HeldRow.HeldRow, proofs.HeadEnds.node_begins}
 use Rattle.yq_places.proofs.HeldRowLaws.{no_root_rows, not_so}
-use Rattle.yq_edit_rules.{specs.StandingLaws.StandsThere, proofs.RowStayLaws.rows_stay_there, proofs.StandingMarks.row_there}
-use Rattle.yq_edit_rules.{proofs.StandingRows.rows_stand, specs.Replacing.{are_same, keeps_scalar, may_spell}}
+use Rattle.yq_edit_rules.{specs.PlacementLaws.HasItsRows, proofs.RowStayLaws.rows_stay_there, proofs.PlacementMarks.row_there}
+use Rattle.yq_edit_rules.{proofs.PlacementRows.rows_located, specs.Replacing.{are_same, keeps_scalar, may_spell}}
 use Rattle.yq_edit_rules.specs.Style.{is_same, table_row}
 use Rattle.yq_core.specs.declared.kind.Kind.TheVariants as kinds
 
@@ -86,9 +86,9 @@ kept_in_row t n [] v x read is inline short = absurd (no_root_rows n (cut_of t) 
 kept_in_row t n (s ∷ ss) v x read is inline short =
     let c : Cut = cut_of t in
     let e : RowsOfEntry = is.entry in
-    let stands : StandsThere n s ss c e = rows_stand n s ss c e (read_again t read) is.found in
-    let content : IsContent (parent_indent e.row) e.row.content (rows_text e.under (behind_entry e)) = (row_there n s ss c e stands).content in
+    let is_located : HasItsRows n s ss c e = rows_located n s ss c e (read_again t read) is.found in
+    let content : IsContent (parent_indent e.row) e.row.content (rows_text e.under (after_entry e)) = (row_there n s ss c e is_located).content in
     let head : head_of e.row.content ≡ Some (scalar_node (plain_of (content_cut e.row.content).3)) =
-    plain_there (parent_indent e.row) e.row.content (rows_text e.under (behind_entry e)) content (is.inline inline).0 (is.inline inline).1 (ap is_short_plain (sym is.head) ∙ short) in
-    let node : node_in n (s ∷ ss) c ≡ Some (anchored (content_anchor e.row.content) (scalar_node (plain_of (content_cut e.row.content).3))) = rows_stay_there.nodes n s ss c e _ stands is.last head in
+    plain_there (parent_indent e.row) e.row.content (rows_text e.under (after_entry e)) content (is.inline inline).0 (is.inline inline).1 (ap is_short_plain (sym is.head) ∙ short) in
+    let node : node_in n (s ∷ ss) c ≡ Some (anchored (content_anchor e.row.content) (scalar_node (plain_of (content_cut e.row.content).3))) = rows_stay_there.nodes n s ss c e _ is_located is.last head in
     ap (λ (l : List ℕ). are_same (Some (plain_of l)) (scalar_in v)) is.head ∙ sym (ap (λ (o : Option Node). are_same (o >>= scalar_in) (scalar_in v)) node)

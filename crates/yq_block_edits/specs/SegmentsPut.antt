@@ -5,7 +5,7 @@ use Rattle.yq_core.{specs.BlockWritten.break_text, specs.Scalar.ScalarText, spec
 use Rattle.yq_core.specs.declared.value.Value.{Value}
 use Rattle.yq_documents.{specs.Located.steps_of, specs.Reading.cut_of, specs.declared.path.Path.Path}
 use Rattle.yq_outline.specs.Bodies.{borrowed}
-use Rattle.yq_places.{specs.NodesAt.scalar_in, specs.StandingViews.{held_mark_view, held_view, lines_view, piece_view, standing_view}}
+use Rattle.yq_places.{specs.NodesAt.scalar_in, specs.PlacementViews.{held_mark_view, held_view, lines_view, piece_view, placement_view}}
 use Rattle.yq_text.specs.Script.{Segment}
 use Rattle.yq_edit_rules.{specs.declared.layout.Layout.Layout, specs.ValuesWritten.lines_at_mark}
 use Rattle.yq_edit_rules.specs.WrittenValues.{collection_by, inline, lines, written_at, written_under}
@@ -15,7 +15,7 @@ use Rattle.yq_places.specs.declared.places.held.Held as held
 use Rattle.yq_places.specs.declared.places.held.EntryMark as mark
 use Rattle.yq_places.specs.declared.places.lines_cut.LinesIn as declared_lines
 use Rattle.yq_places.specs.declared.places.piece.TextPiece as piece
-use Rattle.yq_places.specs.declared.places.standing.Standing as standing
+use Rattle.yq_places.specs.declared.places.placement.Placement as placement
 
 -- the answer is these segments, unless memory ran out
 abbrev pub IsExchange : {E : Type 0} → Result (List Segment) E → List Segment → Type 0
@@ -71,12 +71,12 @@ abbrev pub value_no_rows : Layout → Value → piece.TextPiece → List Segment
 value_no_rows l v p = no_rows_put l (value_node v) (piece_view p)
 
 -- a value in the place of what is there
-abbrev pub value_there : Bool → Layout → Value → standing.Standing → List Segment
-value_there has_text l v s = value_put has_text l (value_node v) (standing_view s)
+abbrev pub value_there : Bool → Layout → Value → placement.Placement → List Segment
+value_there has_text l v s = value_put has_text l (value_node v) (placement_view s)
 
 -- the same is put there, whether a block scalar there has a text line or whether another one has
-abbrev pub ArePutAlike : Bool → Bool → standing.Standing → Type 0
-ArePutAlike one other s = (l : Layout) (v : Node) → value_put one l v (standing_view s) ≡ value_put other l v (standing_view s)
+abbrev pub ArePutAlike : Bool → Bool → placement.Placement → Type 0
+ArePutAlike one other s = (l : Layout) (v : Node) → value_put one l v (placement_view s) ≡ value_put other l v (placement_view s)
 
 -- a value in the place of what is at a path of a text
 abbrev pub value_at_path : Path → Value → List ℕ → Option (List Segment)

@@ -9,7 +9,7 @@ use Rattle.yq_row_table.specs.Rows.{Cut, cut_text}
 use Rattle.yq_semantics.specs.Meaning.{head_comment_lines}
 use Rattle.yq_text.{specs.Halves.whole, specs.declared.halves.Halves.Halves}
 use Rattle.yq_edit_rules.{specs.declared.entry.Child.Child, specs.declared.layout.Layout.Layout, specs.BlockText.block_value}
-use Rattle.yq_edit_rules.{specs.CommentEdits.head_lines, specs.ClosedTexts.{is_closed_text, lines_put_behind}}
+use Rattle.yq_edit_rules.{specs.CommentEdits.head_lines, specs.ClosedTexts.{is_closed_text, closed_lines_put}}
 use Rattle.yq_edit_rules.{specs.EntryEdits.{entry_lines, more_lines}, specs.Layouts.layout_of, specs.ReplaceEdits.has_text}
 use Rattle.yq_edit_rules.specs.Replacing.{are_same, keeps_scalar}
 
@@ -39,7 +39,7 @@ head_comment_written column t text = head_lines column (break_text (first_break 
 
 -- a value on lines of its own after a text
 abbrev pub lines_put_after : Halves → Layout → Value → List ℕ
-lines_put_after before l v = lines_put_behind (is_closed_text (whole before)) (break_text l.br) (block_value l 0 (value_node v))
+lines_put_after before l v = closed_lines_put (is_closed_text (whole before)) (break_text l.br) (block_value l 0 (value_node v))
 
 -- whether the node at a path of a text is a scalar that holds more than line breaks
 abbrev pub has_text_at : Path → List ℕ → Bool

@@ -1,7 +1,7 @@
 //! Append: one more item or entry at the end of a block collection.
 ghost use Rattle.std.specs.Prelude.{◌≡◌, IfOk, Some, string_bytes};
 ghost use Rattle.yq_core.{specs.Values.value_node, specs.Strings.{AddsText, GivesText}};
-ghost use Rattle.yq_places.specs.StandingViews.{held_view, lines_view};
+ghost use Rattle.yq_places.specs.PlacementViews.{held_view, lines_view};
 ghost use Rattle.yq_edit_rules.specs.Answers.{GivesSegments};
 ghost use Rattle.yq_block_edits.specs.SegmentsPut.{IsExchange, more_at_path};
 ghost use Rattle.yq_block_edits.specs.TextsPut.{layout_in, child_lines, more_text, text_after_line};
@@ -14,7 +14,7 @@ use yq_core::Value;
 use yq_documents::Path;
 use yq_edit_rules::{Child, Layout, push_entry};
 use yq_lookup::CutText;
-use yq_places::{Held, LinesIn, Standing};
+use yq_places::{Held, LinesIn, Placement};
 use yq_scalar::block_written::break_text;
 use yq_scalar_reader::push_spaces;
 use yq_text::{Halves, Segment, Segments};
@@ -84,8 +84,8 @@ pub fn more_written(
 }
 
 /// Lines put after those under a key or dash.
-fn behind_held<'t>(alloc: Global, held: &Held<'t>, new: String) -> Result<Segments<'t>, AllocError>
-    ensures { IfOk result (λ ss. ss ≡ spec.behind_held (held_view held.now) (string_bytes new)) }
+fn after_held<'t>(alloc: Global, held: &Held<'t>, new: String) -> Result<Segments<'t>, AllocError>
+    ensures { IfOk result (λ ss. ss ≡ spec.after_held (held_view held.now) (string_bytes new)) }
 {
     let segments = vec![in alloc;
         Segment::Keep(held.before),
@@ -97,25 +97,25 @@ fn behind_held<'t>(alloc: Global, held: &Held<'t>, new: String) -> Result<Segmen
         Segment::Keep(held.lines),
         Segment::Keep(Halves::of(held.last)),
         Segment::Put(Halves::of(""), new),
-        Segment::Keep(held.behind),
+        Segment::Keep(held.after),
     ]?;
     Ok(Segments::new(segments))
 }
 
 /// Lines put after others and their last break.
-fn behind_lines<'t>(
+fn after_lines<'t>(
     alloc: Global,
     lines: &LinesIn<'t>,
     new: String,
 ) -> Result<Segments<'t>, AllocError>
-    ensures { IsExchange result (pieces.behind_lines (lines_view lines.now) (string_bytes new)) }
+    ensures { IsExchange result (pieces.after_lines (lines_view lines.now) (string_bytes new)) }
 {
     let segments = vec![in alloc;
         Segment::Keep(lines.before),
         Segment::Keep(lines.lines),
         Segment::Keep(Halves::of(lines.last)),
         Segment::Put(Halves::of(""), new),
-        Segment::Keep(lines.behind),
+        Segment::Keep(lines.after),
     ]?;
     Ok(Segments::new(segments))
 }
@@ -136,18 +136,18 @@ pub fn more_at<'t>(
 {
     let doc = path.doc;
     let child = Child { key, value };
-    match cut.standing(path) {
-        Some(Standing::Under(held, column)) => {
+    match cut.placement(path) {
+        Some(Placement::Under(held, column)) => {
             let new = more_lines(alloc, cut, doc, child, column, held.last)?;
-            behind_held(alloc, &held, new).map(Some)
+            after_held(alloc, &held, new).map(Some)
         }
-        Some(Standing::Compact(_, column, lines)) => {
+        Some(Placement::Compact(_, column, lines)) => {
             let new = more_lines(alloc, cut, doc, child, column, lines.last)?;
-            behind_lines(alloc, &lines, new).map(Some)
+            after_lines(alloc, &lines, new).map(Some)
         }
-        Some(Standing::Root(column, lines)) => {
+        Some(Placement::Root(column, lines)) => {
             let new = more_lines(alloc, cut, doc, child, column, lines.last)?;
-            behind_lines(alloc, &lines, new).map(Some)
+            after_lines(alloc, &lines, new).map(Some)
         }
         _ => Ok(None),
     }

@@ -1,7 +1,7 @@
 //! Whether a value is the scalar that is at a path: such a Replace leaves the bytes alone.
 ghost use Rattle.std.specs.Prelude.{◌≡◌, IfOk, is_some, true};
 ghost use Rattle.yq_core.specs.Scalar.{plain_of};
-ghost use Rattle.yq_places.{specs.NodesAt.scalar_in, specs.StandingViews.IsHeldRow};
+ghost use Rattle.yq_places.{specs.NodesAt.scalar_in, specs.PlacementViews.IsHeldRow};
 ghost use Rattle.yq_documents.{specs.Located.steps_of, specs.Reading.cut_of};
 ghost use Rattle.yq_block_edits.specs.TextsPut.{is_same_value, keeps_value};
 ghost use Rattle.yq_core.specs.Values as values;

@@ -1,7 +1,7 @@
 //! LineComment: a comment at the end of the line of a key or dash.
 ghost use Rattle.std.specs.Prelude.{◌≡◌, IfOk, string_bytes};
 ghost use Rattle.yq_text.specs.Segments.{segment_of};
-ghost use Rattle.yq_places.specs.StandingViews.{held_view};
+ghost use Rattle.yq_places.specs.PlacementViews.{held_view};
 ghost use Rattle.yq_edit_rules.specs.Answers.{GivesSegments};
 ghost use Rattle.yq_block_edits.specs.TextsPut.{at_path};
 ghost use Rattle.yq_edit_rules.specs.CommentEdits as spec;
@@ -56,7 +56,7 @@ fn comment_put<'t>(alloc: Global, text: &str, held: &Held<'t>) -> Result<Segment
         Segment::Keep(Halves::of(held.line_break)),
         Segment::Keep(held.lines),
         Segment::Keep(Halves::of(held.last)),
-        Segment::Keep(held.behind),
+        Segment::Keep(held.after),
     ]?;
     Ok(Segments::new(segments))
 }

@@ -2,7 +2,7 @@
 ghost use Rattle.std.specs.Prelude.{◌≡◌};
 ghost use Rattle.yq_text.specs.Halves.{whole};
 ghost use Rattle.yq_core.{specs.Values.value_node, specs.Strings.GivesText};
-ghost use Rattle.yq_places.specs.StandingViews.{piece_view};
+ghost use Rattle.yq_places.specs.PlacementViews.{piece_view};
 ghost use Rattle.yq_block_edits.{specs.SegmentsPut.{IsExchange, value_root, value_no_rows}, specs.TextsPut.lines_put_after};
 ghost use Rattle.yq_edit_rules.specs.ClosedTexts as closed;
 ghost use Rattle.yq_edit_rules.specs.ReplaceEdits as spec;
@@ -74,7 +74,7 @@ fn is_closed(text: Halves<'_>) -> bool
 
 /// A value on lines of its own after a text: with a break after it, or in front of it, where that
 /// text ends in none.
-fn lines_behind(
+fn following_lines(
     alloc: Global,
     layout: &Layout,
     before: Halves<'_>,
@@ -105,6 +105,6 @@ pub fn no_rows_put<'t>(
 ) -> Result<Segments<'t>, AllocError>
     ensures { IsExchange result (value_no_rows layout.now value.now place.now) }
 {
-    let lines = lines_behind(alloc, layout, place.before, value)?;
+    let lines = following_lines(alloc, layout, place.before, value)?;
     replace_piece(alloc, place, lines)
 }

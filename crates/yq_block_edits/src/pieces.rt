@@ -1,6 +1,6 @@
 //! A text in the place of another one, between what is before and after that.
 ghost use Rattle.std.specs.Prelude.{string_bytes};
-ghost use Rattle.yq_places.specs.StandingViews.{lines_view, piece_view};
+ghost use Rattle.yq_places.specs.PlacementViews.{lines_view, piece_view};
 ghost use Rattle.yq_block_edits.specs.SegmentsPut.{IsExchange};
 ghost use Rattle.yq_edit_rules.specs.PiecePuts as spec;
 
@@ -19,7 +19,7 @@ pub(crate) fn replace_piece<'t>(
     let segments = vec![in alloc;
         Segment::Keep(piece.before),
         Segment::Put(Halves::of(piece.text), new),
-        Segment::Keep(piece.behind),
+        Segment::Keep(piece.after),
     ]?;
     Ok(Segments::new(segments))
 }
@@ -36,7 +36,7 @@ pub(crate) fn replace_lines<'t>(
         Segment::Keep(lines.before),
         Segment::Put(lines.lines, new),
         Segment::Keep(Halves::of(lines.last)),
-        Segment::Keep(lines.behind),
+        Segment::Keep(lines.after),
     ]?;
     Ok(Segments::new(segments))
 }

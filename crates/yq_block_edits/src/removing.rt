@@ -1,7 +1,7 @@
 //! Remove: one of several items or entries of a block collection.
 ghost use Rattle.std.specs.Prelude.{◌≡◌, ◌++◌, IfOk, OnOk, option_map, replicate, string_bytes};
 ghost use Rattle.yq_core.specs.Text.{text_lines};
-ghost use Rattle.yq_places.{specs.RemovalReading.{removal_view, seam_view}, specs.StandingViews.pieces_view};
+ghost use Rattle.yq_places.{specs.RemovalReading.{removal_view, seam_view}, specs.PlacementViews.pieces_view};
 ghost use Rattle.yq_edit_rules.{specs.Answers.GivesSegments, specs.Removing.first_removed};
 ghost use Rattle.yq_block_edits.{specs.SegmentsPut.IsExchange, specs.TextsPut.at_path};
 ghost use Rattle.yq_edit_rules.specs.EntryEdits as entries;
@@ -124,7 +124,7 @@ fn take_out<'d>(alloc: Global, removal: &Removal<'d>) -> Result<Segments<'d>, Al
     segments.push(Segment::Keep(removal.before))?;
     segments.push(Segment::Put(removal.gone, String::new(alloc)))?;
     push_gap(alloc, &mut segments, removal.seam, removal.gap)?;
-    segments.push(Segment::Keep(removal.behind))?;
+    segments.push(Segment::Keep(removal.after))?;
     Ok(segments)
 }
 
@@ -133,15 +133,15 @@ fn take_first<'d>(
     alloc: Global,
     before: Halves<'d>,
     gone: Halves<'d>,
-    behind: Halves<'d>,
+    after: Halves<'d>,
 ) -> Result<Segments<'d>, AllocError>
     ensures { IsExchange result (first_removed
-        (pieces_view before.entry gone.entry behind.entry)) }
+        (pieces_view before.entry gone.entry after.entry)) }
 {
     let segments = vec![in alloc;
         Segment::Keep(before),
         Segment::Put(gone, String::new(alloc)),
-        Segment::Keep(behind),
+        Segment::Keep(after),
     ]?;
     Ok(Segments::new(segments))
 }
@@ -161,8 +161,8 @@ pub fn one_removed<'d>(
     if let Some(removal) = cut.removal(path) {
         return take_out(alloc, &removal).map(Some);
     }
-    let Some((before, gone, behind)) = cut.first_removal(path) else {
+    let Some((before, gone, after)) = cut.first_removal(path) else {
         return Ok(None);
     };
-    take_first(alloc, before, gone, behind).map(Some)
+    take_first(alloc, before, gone, after).map(Some)
 }

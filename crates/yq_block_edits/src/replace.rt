@@ -1,7 +1,7 @@
 //! Replace, outside flow collections: a value in the place of what is there.
 ghost use Rattle.std.{specs.List.list_any, specs.Prelude.{◌≡◌, IfOk, not}};
 ghost use Rattle.yq_core.specs.Text.{is_feed};
-ghost use Rattle.yq_places.specs.StandingViews.{standing_view};
+ghost use Rattle.yq_places.specs.PlacementViews.{placement_view};
 ghost use Rattle.yq_edit_rules.specs.Answers.{GivesSegments};
 ghost use Rattle.yq_block_edits.{specs.SegmentsPut.{IsExchange, value_there, ArePutAlike, value_at_path}, specs.TextsPut.has_text_at};
 ghost use Rattle.yq_edit_rules.specs.Layouts as layouts;
@@ -18,7 +18,7 @@ use yq_core::Value;
 use yq_documents::Path;
 use yq_edit_rules::{Layout, is_filled};
 use yq_lookup::CutText;
-use yq_places::Standing;
+use yq_places::Placement;
 use yq_text::Segments;
 
 /// A value in the place of what is there; `has_text` tells of a block scalar whether it has a
@@ -28,20 +28,20 @@ fn value_put<'t>(
     has_text: bool,
     layout: &Layout,
     value: &Value,
-    standing: &Standing<'t>,
+    placement: &Placement<'t>,
 ) -> Result<Segments<'t>, AllocError>
-    ensures { IsExchange result (value_there has_text layout.now value.now standing.now) }
+    ensures { IsExchange result (value_there has_text layout.now value.now placement.now) }
 {
-    match standing {
-        Standing::Alone(lone) => lone_put(alloc, lone, value),
-        Standing::Beside(held) => beside_put(alloc, layout, held, value),
-        Standing::Under(held, _) => under_put(alloc, layout, held, value),
-        Standing::Compact(mark, _, lines) => compact_put(alloc, layout, *mark, lines, value),
-        Standing::Block(held, indent) => {
+    match placement {
+        Placement::Alone(lone) => lone_put(alloc, lone, value),
+        Placement::Beside(held) => beside_put(alloc, layout, held, value),
+        Placement::Under(held, _) => under_put(alloc, layout, held, value),
+        Placement::Compact(mark, _, lines) => compact_put(alloc, layout, *mark, lines, value),
+        Placement::Block(held, indent) => {
             block_scalar_put(alloc, has_text, layout, held, *indent, value)
         }
-        Standing::Root(column, lines) => root_put(alloc, layout, *column, lines, value),
-        Standing::NoRows(place) => no_rows_put(alloc, layout, place, value),
+        Placement::Root(column, lines) => root_put(alloc, layout, *column, lines, value),
+        Placement::NoRows(place) => no_rows_put(alloc, layout, place, value),
     }
 }
 
@@ -69,31 +69,31 @@ fn text_there(
     alloc: Global,
     cut: &CutText<'_, '_>,
     path: &Path,
-    standing: &Standing<'_>,
+    placement: &Placement<'_>,
 ) -> Result<bool, AllocError>
-    ensures { IfOk result (λ b. ArePutAlike b (has_text_at path.now cut.now) standing.now) }
+    ensures { IfOk result (λ b. ArePutAlike b (has_text_at path.now cut.now) placement.now) }
 {
-    match standing {
-        Standing::Block(_, _) => has_text(alloc, cut, path),
-        Standing::Alone(_) => Ok(false),
-        Standing::Beside(_) => Ok(false),
-        Standing::Under(_, _) => Ok(false),
-        Standing::Compact(_, _, _) => Ok(false),
-        Standing::Root(_, _) => Ok(false),
-        Standing::NoRows(_) => Ok(false),
+    match placement {
+        Placement::Block(_, _) => has_text(alloc, cut, path),
+        Placement::Alone(_) => Ok(false),
+        Placement::Beside(_) => Ok(false),
+        Placement::Under(_, _) => Ok(false),
+        Placement::Compact(_, _, _) => Ok(false),
+        Placement::Root(_, _) => Ok(false),
+        Placement::NoRows(_) => Ok(false),
     }
 }
 
 /// Whether a key holds what is there.
-fn is_keyed(standing: &Standing<'_>) -> bool
-    ensures { result ≡ layouts.is_under_key (standing_view standing.now) }
+fn is_keyed(placement: &Placement<'_>) -> bool
+    ensures { result ≡ layouts.is_under_key (placement_view placement.now) }
 {
-    match standing {
-        Standing::Beside(held) => held.mark.keyed,
-        Standing::Under(held, _) => held.mark.keyed,
-        Standing::Block(held, _) => held.mark.keyed,
-        Standing::Compact(mark, _, _) => mark.keyed,
-        Standing::Alone(_) | Standing::Root(_, _) | Standing::NoRows(_) => false,
+    match placement {
+        Placement::Beside(held) => held.mark.keyed,
+        Placement::Under(held, _) => held.mark.keyed,
+        Placement::Block(held, _) => held.mark.keyed,
+        Placement::Compact(mark, _, _) => mark.keyed,
+        Placement::Alone(_) | Placement::Root(_, _) | Placement::NoRows(_) => false,
     }
 }
 
@@ -110,18 +110,18 @@ pub fn value_put_at<'t>(
 ) -> Result<Option<Segments<'t>>, AllocError>
     ensures { GivesSegments result (value_at_path path.now value.now cut.now) }
 {
-    let Some(standing) = cut.standing(path) else {
+    let Some(placement) = cut.placement(path) else {
         return Ok(None);
     };
-    if let Standing::Beside(held) = &standing
+    if let Placement::Beside(held) = &placement
         && !is_filled(value)
     {
         return Ok(Some(text_put(alloc, held, value)?));
     }
-    if let Standing::Alone(lone) = &standing {
+    if let Placement::Alone(lone) = &placement {
         return Ok(Some(lone_put(alloc, lone, value)?));
     }
-    let layout = layout_for(cut, path.doc, is_keyed(&standing), value);
-    let text = text_there(alloc, cut, path, &standing)?;
-    Ok(Some(value_put(alloc, text, &layout, value, &standing)?))
+    let layout = layout_for(cut, path.doc, is_keyed(&placement), value);
+    let text = text_there(alloc, cut, path, &placement)?;
+    Ok(Some(value_put(alloc, text, &layout, value, &placement)?))
 }

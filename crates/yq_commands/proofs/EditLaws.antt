@@ -6,7 +6,7 @@ use Rattle.yq_text.specs.Splice.{Splice, all_done}
 use Rattle.yq_journal.{specs.declared.moves.Move.TheVariants.Edit, specs.Good.after_move, specs.History.{History, text_at, after_edit}}
 use Rattle.yq_journal.{specs.Record.{Record, done}, specs.Refusals.{no_way, most_records}, specs.State.State}
 use Rattle.yq_journal.specs.declared.fault.JournalFault.TheVariants.{JournalFull}
-use Rattle.yq_history.{specs.Causes.{IsFor, named}, specs.Pair.{Arrives, PairAtRest, PairStands}}
+use Rattle.yq_history.{specs.Causes.{IsFor, named}, specs.Pair.{Arrives, PairAtRest, PairIsThere}}
 use Rattle.yq_history.proofs.MoveLaws.{IsMove, bytes_differ, is_refused, ends, same_content, fault_outside}
 use Rattle.yq_fault.specs.declared.fault.Fault.{Fault}
 use Rattle.yq_store.specs.FileMap.{FileMap}
@@ -51,7 +51,7 @@ module _ (c : FileMap) (f j : List ℕ) (h : History) (expr : List ℕ) (p : Pro
         let no : no_way s.records s.at (Edit edit) ≡ Some journal.JournalFull = ap (λ b. if b then Some journal.JournalFull else None) is in
         is_refused d f j (update_cause (Ok p) (Some h)) (Some h) (update_next expr (Ok p) (Some h)) r (fault.Journal JournalFull) (m.refused journal.JournalFull no) refl
         (subst (λ o. IsFor o (fault.Journal JournalFull)) (sym (room true is)) refl)
-        (same_content c d f j h (m.barred (λ none. none-some journal.JournalFull (sym none ∙ no))) k.stands)
+        (same_content c d f j h (m.barred (λ none. none-some journal.JournalFull (sym none ∙ no))) k.is_located)
 
     -- the edit was carried out, or cut short
     pub edit_ends : {T : Type 0} (r : Result T Fault) → IsMove c d f j s t u (Edit edit) r → Updated d r
@@ -59,7 +59,7 @@ module _ (c : FileMap) (f j : List ℕ) (h : History) (expr : List ℕ) (p : Pro
       | true ↦ λ is. full r is m
       | false ↦ λ is. subst (λ x. Arrives d f j (update_cause (Ok p) (Some h)) (Some h) x r) (sym (after false is))
           (ends d f j (update_cause (Ok p) (Some h)) (Some h) (Some (after_edit h expr u)) r (room false is)
-          (subst (λ x. OnOk r (PairStands d f j x)) moved_on (m.ok h k))
-          (subst (λ x. OnErr r (PairStands d f j h ⊎ PairStands d f j x)) moved_on (m.err h k))
+          (subst (λ x. OnOk r (PairIsThere d f j x)) moved_on (m.ok h k))
+          (subst (λ x. OnErr r (PairIsThere d f j h ⊎ PairIsThere d f j x)) moved_on (m.err h k))
           (fault_outside r (no_way s.records s.at (Edit edit)) (ap (λ b. if b then Some journal.JournalFull else None) is) m.fault))
     ] refl

@@ -17,13 +17,13 @@ abbrev pub with_match : List ℕ → Bool → Option ℕ → ℕ → Value → L
 with_match printed no_doc last doc value = (printed ++ separator_before no_doc last doc) ++ print_text (value_node value)
 
 -- matches, each with its document's number, as they are printed after a match of such a document, or first of all
-abbrev pub matches_behind : Bool → Option ℕ → List (ℕ × Node) → List ℕ
-matches_behind no_doc last [] = []
-matches_behind no_doc last (m ∷ ms) = separator_before no_doc last m.0 ++ (print_text m.1 ++ matches_behind no_doc (Some m.0) ms)
+abbrev pub matches_after : Bool → Option ℕ → List (ℕ × Node) → List ℕ
+matches_after no_doc last [] = []
+matches_after no_doc last (m ∷ ms) = separator_before no_doc last m.0 ++ (print_text m.1 ++ matches_after no_doc (Some m.0) ms)
 
 -- matches as they are printed
 abbrev pub printed_matches : Bool → List (ℕ × Node) → List ℕ
-printed_matches no_doc ms = matches_behind no_doc None ms
+printed_matches no_doc ms = matches_after no_doc None ms
 
 -- whether a scalar is null, or false in one of its words (YAML 1.2.2, section 10.3.2)
 abbrev pub is_null_or_false : Kind → List ℕ → Bool

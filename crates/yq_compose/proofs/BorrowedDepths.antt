@@ -1,8 +1,7 @@
 -- How deep collections are nested in a node that the text lends.
 use Rattle.std.proofs.Common.{◌≡◌, ℕ, zero, suc, ◌≤◌, Bool, true, false, cond, eqb, leb, List, Option, Some, None, refl, sym, ap, ◌∙◌}
 use Rattle.std.{proofs.Common.arith, proofs.lemmas.Bool.{and_from, le-leb}, proofs.lemmas.Option.same_Some}
-use Rattle.yq_core.specs.Answers.{◌>>=◌, ReadFails, ReadError}
-use Rattle.yq_core.specs.Borrowed.{IsBorrowed, is_borrowed, located_or_nothing, node_in_front}
+use Rattle.yq_core.{specs.Answers.{◌>>=◌, ReadFails, ReadError}, specs.Borrowed.{IsBorrowed, is_borrowed, located_or_nothing, leading_node}}
 use Rattle.yq_core.{specs.Keys.{deepest, depth, has_unique_keys}, specs.Places.{Placed, locate}, specs.PlacedReading.placed_node}
 use Rattle.yq_core.specs.Nodes.{FlowNode, empty, alias, scalar, coll, anchored, Items, none, item, IsFlowNode, AreFlowItems, sep_text}
 use Rattle.yq_core.{specs.Nodes.flow_items_text, specs.Reading.all_node}
@@ -40,27 +39,27 @@ mutual
   items_depth none k d rest h = omega arith
   items_depth (item key node s is) k d rest h = omega (arith, node_depth node true (Some 0) d (sep_text s (flow_items_text k is rest)) h.2, items_depth is k d rest h.4)
 
-tree_in_front : (total d : ℕ) (t : List ℕ) (x : FlowNode × List ℕ) → all_node true (Some 0) d t ≡ Some x → placed_tree (node_in_front total d t) ≡ tree_of x.0
-unfolding node_in_front
-tree_in_front total d t x read = ap (λ o. placed_tree (located_or_nothing total o)) read ∙ node_tree total x.0 x.1
+leading_tree : (total d : ℕ) (t : List ℕ) (x : FlowNode × List ℕ) → all_node true (Some 0) d t ≡ Some x → placed_tree (leading_node total d t) ≡ tree_of x.0
+unfolding leading_node
+leading_tree total d t x read = ap (λ o. placed_tree (located_or_nothing total o)) read ∙ node_tree total x.0 x.1
 
 -- no more are nested than it says
-pub depth_kept : (total d k : ℕ) (t : List ℕ) → is_borrowed d t ≡ true → d ≤ k → head_is_sound k (Some (placed_tree (node_in_front total d t))) ≡ true
+pub depth_kept : (total d k : ℕ) (t : List ℕ) → is_borrowed d t ≡ true → d ≤ k → head_is_sound k (Some (placed_tree (leading_node total d t))) ≡ true
 depth_kept total d k t h le =
     let is = borrowed_node d t h in
-    let tree : placed_tree (node_in_front total d t) ≡ tree_of is.node = ap placed_tree (front_located total d t is.node is.rest is.stands is.valid) ∙ node_tree total is.node is.rest in
+    let tree : placed_tree (leading_node total d t) ≡ tree_of is.node = ap placed_tree (front_located total d t is.node is.rest is.is_located is.valid) ∙ node_tree total is.node is.rest in
     let low : depth (tree_of is.node) ≤ k = omega (arith, le, node_depth is.node true (Some 0) d is.rest is.valid) in
     ap (λ n. head_is_sound k (Some n)) tree ∙ and_from (leb (depth (tree_of is.node)) k) (has_unique_keys (tree_of is.node)) (le-leb (depth (tree_of is.node)) k low) is.unique
 
 -- it is read again
-pub read_in_front : (total other d k : ℕ) (t r : List ℕ) (p : Placed) → placed_node true (Some 0) other d t ≡ Some (p, r) → head_is_sound k (Some (placed_tree p)) ≡ head_is_sound k (Some (placed_tree (node_in_front total d t)))
-read_in_front total other d k t r p read =
+pub read_leading : (total other d k : ℕ) (t r : List ℕ) (p : Placed) → placed_node true (Some 0) other d t ≡ Some (p, r) → head_is_sound k (Some (placed_tree p)) ≡ head_is_sound k (Some (placed_tree (leading_node total d t)))
+read_leading total other d k t r p read =
     let x = bind_some (all_node true (Some 0) d t) read in
     let own : locate other x.0.0 x.0.1 ≡ p = ap (λ (y : Placed × List ℕ). y.0) (same_Some _ _ x.2) in
-    ap (λ n. head_is_sound k (Some n)) (ap placed_tree (sym own) ∙ (node_tree other x.0.0 x.0.1 ∙ sym (tree_in_front total d t x.0 x.1)))
+    ap (λ n. head_is_sound k (Some n)) (ap placed_tree (sym own) ∙ (node_tree other x.0.0 x.0.1 ∙ sym (leading_tree total d t x.0 x.1)))
 
 read_there : (other d : ℕ) (t : List ℕ) (is : IsBorrowed d t) → placed_node true (Some 0) other d t ≡ Some (locate other is.node is.rest, is.rest)
-read_there other d t is = ap (placed_node true (Some 0) other d) is.stands ∙ ap (λ o. o >>= λ x. Some (locate other x.0 x.1, x.1)) (all_again true (Some 0) d is.node is.rest is.valid)
+read_there other d t is = ap (placed_node true (Some 0) other d) is.is_located ∙ ap (λ o. o >>= λ x. Some (locate other x.0 x.1, x.1)) (all_again true (Some 0) d is.node is.rest is.valid)
 
 pub never_unread : (e : ReadError) (other d : ℕ) (t : List ℕ) (b : Bool) → is_borrowed d t ≡ true → ReadFails e (placed_node true (Some 0) other d t) → Denies e b
 never_unread errors.Memory other d t b h f = tt

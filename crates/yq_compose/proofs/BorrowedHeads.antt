@@ -1,7 +1,7 @@
 -- A head that the text lends is what is read of it.
 use Rattle.std.proofs.Common.{rules, ◌≡◌, ℕ, ℤ, ◌-◌, ◌≤◌, true, false, cond, eqb, List, ◌∷◌, length, Some, None, refl, sym, ap, ◌∙◌, subst}
 use Rattle.std.{proofs.Common.{arith, length-append, ⊎_elim}, proofs.lemmas.Bool.{false≢true, or_cases}}
-use Rattle.yq_core.{specs.Borrowed.{is_borrowed, node_in_front}, specs.Inline.depth_limit, specs.Piece.deeper}
+use Rattle.yq_core.{specs.Borrowed.{is_borrowed, leading_node}, specs.Inline.depth_limit, specs.Piece.deeper}
 use Rattle.yq_core.specs.Nodes.{FlowNode, coll, Items, node_text, IsFlowNode, is_empty_node, opening_bracket}
 use Rattle.yq_core.{specs.Places.{holder, locate, locate_items, mapping, Parts, sequence, placed}, specs.Scalars.is_quoted}
 use Rattle.yq_core.{specs.Text.is_empty, specs.Trees.{node_head, placed_tree, tree_of}, proofs.BorrowedLaws.{front_located, node_borrowed}}
@@ -41,8 +41,8 @@ module _ (whole t rest : List ℕ) (d : ℕ) (ends : EndsIn whole t) (le : d ≤
   abbrev node : FlowNode
   node = c.node
 
-  stands : t ≡ node_text node rest
-  stands = p.stands ∙ c.stands
+  is_located : t ≡ node_text node rest
+  is_located = p.is_located ∙ c.is_located
 
   valid : (n : ℤ) → IsFlowNode false (Some (deeper n)) depth_limit node rest
   valid n =
@@ -50,31 +50,31 @@ module _ (whole t rest : List ℕ) (d : ℕ) (ends : EndsIn whole t) (le : d ≤
       subst (λ (x : FlowNode). IsFlowNode false (Some (deeper n)) depth_limit x rest) (sym is)
       (in_block p.close p.collection.gap p.collection.items n depth_limit rest (subst (λ (x : FlowNode). IsFlowNode true (Some 0) depth_limit x rest) is (deeper_node node true (Some 0) d depth_limit rest le c.valid)))
 
-  located : node_in_front (length whole) d t ≡ locate (length whole) node rest
-  located = front_located (length whole) d t node rest stands c.valid
+  located : leading_node (length whole) d t ≡ locate (length whole) node rest
+  located = front_located (length whole) d t node rest is_located c.valid
 
   pub head_lent : is_borrowed d t ≡ true
-  head_lent = node_borrowed d t (record { node = node; rest = rest; stands = stands; valid = c.valid; borrowed = c.borrowed; unique = c.unique })
+  head_lent = node_borrowed d t (record { node = node; rest = rest; is_located = is_located; valid = c.valid; borrowed = c.borrowed; unique = c.unique })
 
   pub head_within : length t ≤ length whole
   head_within = omega (arith, ap length ends.1, length-append ends.0 t)
 
-  head_node : node_head node ≡ Some (placed_tree (node_in_front (length whole) d t))
+  head_node : node_head node ≡ Some (placed_tree (leading_node (length whole) d t))
   head_node = ap node_head p.collection.is ∙ (ap (λ (x : FlowNode). Some (tree_of x)) (sym p.collection.is) ∙ ap Some (sym (ap placed_tree located ∙ node_tree (length whole) node rest)))
 
-  pub head_view_is : (h : List ℕ) (n : ℤ) → opens_collection h ≡ true → read_head whole n h t ≡ Some (Some (placed_tree (node_in_front (length whole) d t)))
+  pub head_view_is : (h : List ℕ) (n : ℤ) → opens_collection h ≡ true → read_head whole n h t ≡ Some (Some (placed_tree (leading_node (length whole) d t)))
   head_view_is h n opens =
       let o = opened h opens in
       heads.by_node whole n h t o.0 o.1 o.2 o.3
-      ∙ (ap (node_head_at whole n) stands
-      ∙ (heads.node_again whole n node rest (ap is_anchored p.collection.is) (ap is_empty_node p.collection.is) (subst (EndsIn whole) stands ends) (valid n)
+      ∙ (ap (node_head_at whole n) is_located
+      ∙ (heads.node_again whole n node rest (ap is_anchored p.collection.is) (ap is_empty_node p.collection.is) (subst (EndsIn whole) is_located ends) (valid n)
       ∙ (λ i. fitting (c.fit i) (head_node i))))
 
-  pub head_flow_is : (h : List ℕ) (n : ℤ) → opens_collection h ≡ true → Some (node_in_front (length whole) d t) ≡ head_flow_at whole n h t
+  pub head_flow_is : (h : List ℕ) (n : ℤ) → opens_collection h ≡ true → Some (leading_node (length whole) d t) ≡ head_flow_at whole n h t
   head_flow_is h n opens =
       let o = opened h opens in
       let kept : alias_or_collection (locate (length whole) node rest) ≡ Some (locate (length whole) node rest) =
       subst (λ (x : FlowNode). alias_or_collection (locate (length whole) x rest) ≡ Some (locate (length whole) x rest)) (sym p.collection.is) (collection_kept (length whole) p.close p.collection.gap p.collection.items rest) in
       sym (flows.by_node whole n h t o.0 o.1 o.2 o.3
-      ∙ (ap (node_flow_at whole n) stands
-      ∙ (flows.node_again whole n node rest (ap is_empty_node p.collection.is) (subst (EndsIn whole) stands ends) (valid n) ∙ (kept ∙ ap Some (sym located)))))
+      ∙ (ap (node_flow_at whole n) is_located
+      ∙ (flows.node_again whole n node rest (ap is_empty_node p.collection.is) (subst (EndsIn whole) is_located ends) (valid n) ∙ (kept ∙ ap Some (sym located)))))

@@ -73,8 +73,8 @@ module _ (t : List ℕ) (i : ℕ) (ms : List Decoded) (k : DecodedUpto t i ms) w
       where
         go : (j < i) ⊎ (i ≤ j) → IsDecoded (length t) (cut_of t) new j x
         go (inl before) = subst (λ (o : Option Decoded). IsDecodedBy (length t) (cut_of t) o j x) (sym (same j before)) (k.agrees j before x at)
-        go (inr behind) =
-            let last : i ≡ j = omega (arith, behind, less) in
+        go (inr after) =
+            let last : i ≡ j = omega (arith, after, less) in
             let own : r ≡ x = same_Some _ _ (sym is ∙ (ap (slice_get (rows_of (cut_of t))) last ∙ at)) in
             subst (λ (y : ℕ × Row). IsDecoded (length t) (cut_of t) new y.0 y.1) (λ l. (last l, own l)) here
 

@@ -12,7 +12,7 @@ use Rattle.yq_documents.{proofs.ReadLaws.cut_is, specs.Documents.{begins_bare, d
 use Rattle.yq_documents.specs.Holding.{Holds, IsLocated}
 use Rattle.yq_documents.{specs.Reading.{all_documents, cut_of, has_short_root, have_fit_keys, is_document}, specs.RowReading.row_fits}
 use Rattle.yq_documents.{specs.Stretches.{document_lines, part_rows}, specs.declared.decoded.Decoded.Decoded}
-use Rattle.yq_documents.{specs.declared.documents.DocumentRows.DocumentRows, proofs.PartRows.{has_part, rows_stand}}
+use Rattle.yq_documents.{specs.declared.documents.DocumentRows.DocumentRows, proofs.PartRows.{has_part, rows_located}}
 use Rattle.yq_compose.{specs.Checking.{IsCheckable, some_refer}, specs.Decoding.{AreDecoded, IsCutInto}}
 use Rattle.yq_compose.{specs.Places.{AreLocated, all_sound, part_is_sound}, proofs.DecodedRows.each_fits}
 use Rattle.yq_compose.proofs.NoReferenceLaws.{ready_refers_not}
@@ -77,8 +77,8 @@ module _ (t : List ℕ) (s : RowsView) (ms : List Decoded) (ds : List DocumentRo
     placed : IsLocated t n p d
     placed = a.each n d p there at
 
-    pub stand : (h : HasRows s x) × ((h.rows ≡ p.rows) × (h.rows ≡ take (x.end - x.first) (drop x.first (rows_of (cut_of t)))))
-    stand = rows_stand t s (cut_of t) n p x k.cut k.rows at (first ∙ placed.first) (end ∙ (placed.end ∙ ap (λ j. j + length p.rows) placed.first))
+    pub are_there : (h : HasRows s x) × ((h.rows ≡ p.rows) × (h.rows ≡ take (x.end - x.first) (drop x.first (rows_of (cut_of t)))))
+    are_there = rows_located t s (cut_of t) n p x k.cut k.rows at (first ∙ placed.first) (end ∙ (placed.end ∙ ap (λ j. j + length p.rows) placed.first))
 
     abbrev pub ready : IsCheckable t s ms x
     ready = record {
@@ -86,17 +86,17 @@ module _ (t : List ℕ) (s : RowsView) (ms : List Decoded) (ds : List DocumentRo
       is_cut = k.cut;
       rows = k.rows;
       rows_view = record { cut = cut_of t; is = k.rows; size = subst (λ (y : List ℕ). length y ≤ text_limit) k.cut.text k.cut.size };
-      document = stand.0;
-      there = stand.1.1;
+      document = are_there.0;
+      there = are_there.1.1;
       rise = m.rise;
       agrees = m.agrees;
     }
 
     pub ready_sound : (has_short_root ready.document.rows && lines_are_sound (lines_of_rows ready.document.rows)) ≡ part_is_sound p
-    ready_sound = ap (λ (rs : List Row). has_short_root rs && lines_are_sound (lines_of_rows rs)) stand.1.0
+    ready_sound = ap (λ (rs : List Row). has_short_root rs && lines_are_sound (lines_of_rows rs)) are_there.1.0
 
     part_refers_not : some_refer ms ≡ false → list_any is_reference (line_names (lines_of_rows p.rows)) ≡ false
-    part_refers_not none = ap (λ (rs : List Row). list_any is_reference (line_names (lines_of_rows rs))) (sym stand.1.0) ∙ ready_refers_not t s ms x ready none
+    part_refers_not none = ap (λ (rs : List Row). list_any is_reference (line_names (lines_of_rows rs))) (sym are_there.1.0) ∙ ready_refers_not t s ms x ready none
 
   -- the document at an index
   module _ (n : ℕ) (less : n < length ds) (e : DocumentRows) where

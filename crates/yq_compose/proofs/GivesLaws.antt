@@ -29,8 +29,8 @@ gives_bare s d q e floor at to next some deep none = record {
 }
 
 -- where the lines end that are under a line
-end_behind : (s : RowsView) (d : Stretch) (q e f : Position) (floor : ℕ) → IsLine s d q → OfLines s d (λ ls n. n e ≡ n q + 1) → OfLine s d q (λ l. floor ≡ level l) → GivesStop s d e floor f → OfLines s d (λ ls n. IsEndOf ls (n q) (n f))
-end_behind s d q e f floor at next lev g h =
+following_end : (s : RowsView) (d : Stretch) (q e f : Position) (floor : ℕ) → IsLine s d q → OfLines s d (λ ls n. n e ≡ n q + 1) → OfLine s d q (λ l. floor ≡ level l) → GivesStop s d e floor f → OfLines s d (λ ls n. IsEndOf ls (n q) (n f))
+following_end s d q e f floor at next lev g h =
     let k = located s d h q at in
     let ls = lines_of_rows h.rows in
     let a : ℕ = line_number d h.rows q in
@@ -46,7 +46,7 @@ pub gives_end : (s : RowsView) (d : Stretch) (q e f : Position) (floor : ℕ) �
     OfLines s d (λ ls n. has_no_lines (part ls (n e) floor) ≡ false) → GivesStop s d e floor f → GivesEnd s d q f
 gives_end s d q e f floor rows at to next lev deep g = record {
   position = g.position;
-  end = end_behind s d q e f floor at next lev g;
+  end = following_end s d q e f floor at next lev g;
   later = omega (arith, row_order s d rows q e at to (omega (arith, next rows)), g.later rows (deep rows));
 }
 
@@ -54,7 +54,7 @@ gives_end s d q e f floor rows at to next lev deep g = record {
 pub gives_alone : (s : RowsView) (d : Stretch) (q e : Position) (floor : ℕ) → HasRows s d → IsLine s d q → IsPosition s d e → OfLines s d (λ ls n. n e ≡ n q + 1) → OfLine s d q (λ l. floor ≡ level l) →
     OfLines s d (λ ls n. has_no_lines (part ls (n e) floor) ≡ true) → GivesEnd s d q e
 gives_alone s d q e floor rows at to next lev none =
-    let ends = end_behind s d q e e floor at next lev (gives_none s d e floor to none) in
+    let ends = following_end s d q e e floor at next lev (gives_none s d e floor to none) in
     record {
       position = to;
       end = ends;

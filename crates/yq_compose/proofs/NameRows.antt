@@ -19,13 +19,13 @@ names_step : (all before middle after : List Name) (rs : List Row) (i : ℕ) (r 
     middle ≡ before ++ anchor_names (content_anchor r.content) [] → after ≡ middle ++ head_names (head_of r.content) → after ++ line_names (lines_of_rows (drop (i + 1) rs)) ≡ all
 names_step all before middle after rs i r is so_far anchor head =
     let rest : List Line = lines_of_rows (drop (i + 1) rs) in
-    let behind : List Name = line_names rest in
+    let following : List Name = line_names rest in
     let hn : List Name = head_names (head_of r.content) in
     let a : Option (List ℕ) = content_anchor r.content in
-    ap (λ (x : List Name). x ++ behind) (head ∙ ap (λ (x : List Name). x ++ hn) anchor)
-    ∙ (append_assoc (before ++ anchor_names a []) hn behind
-    ∙ (append_assoc before (anchor_names a []) (hn ++ behind)
-    ∙ (ap (λ (x : List Name). before ++ x) (sym (with-append a [] (hn ++ behind)))
+    ap (λ (x : List Name). x ++ following) (head ∙ ap (λ (x : List Name). x ++ hn) anchor)
+    ∙ (append_assoc (before ++ anchor_names a []) hn following
+    ∙ (append_assoc before (anchor_names a []) (hn ++ following)
+    ∙ (ap (λ (x : List Name). before ++ x) (sym (with-append a [] (hn ++ following)))
     ∙ (ap (λ (x : List Name). before ++ x) (sym (ap line_names (lines_at rs i r is) ∙ names_row r rest)) ∙ so_far))))
 
 -- the same, by what the code adds

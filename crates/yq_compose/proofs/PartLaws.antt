@@ -21,11 +21,11 @@ gap_there : (all xs rs more : List Row) (end marker : List ℕ) → all ≡ xs +
 gap_there all xs rs more end marker is = search (rules, cond-false, le-ltb, cond-true, lt-ltb, slice_get-map, get_seam)
 
 -- where a document is, and the gap that its lead ends
-abbrev StandAt : ℕ → Bool → ℕ → Cut → Part → ℕ × ℕ × List ℕ
-StandAt k is n c p = (k + rows_to (number_from is n c) c, k + rows_to (number_from is n c) c + length p.rows, gap_of p.rows p.end)
+abbrev RowsAt : ℕ → Bool → ℕ → Cut → Part → ℕ × ℕ × List ℕ
+RowsAt k is n c p = (k + rows_to (number_from is n c) c, k + rows_to (number_from is n c) c + length p.rows, gap_of p.rows p.end)
 
-abbrev HasStand : List Row → ℕ → Bool → ℕ → Cut → Part → Type 0
-HasStand all k is n c p = slice_get (all_document_rows (map slices all) is k (bounds_from k c)) n ≡ Some (StandAt k is n c p)
+abbrev HasRowsIn : List Row → ℕ → Bool → ℕ → Cut → Part → Type 0
+HasRowsIn all k is n c p = slice_get (all_document_rows (map slices all) is k (bounds_from k c)) n ≡ Some (RowsAt k is n c p)
 
 agrees_here : (all xs : List Row) (q p : Part) (k : ℕ) (more : List Row) (marker : List ℕ) → q ≡ p → k ≡ length xs → all ≡ xs ++ (q.rows ++ more) →
     ◌≡◌ {A = ℕ × ℕ × List ℕ} (k, k + length q.rows, gap_before_row (map slices all) k (record { rows = k + length q.rows; end = q.end; marker = marker })) (k + 0, k + 0 + length p.rows, gap_of p.rows p.end)
@@ -36,7 +36,7 @@ agrees_sum k m n p =
     let sum : k + m + n ≡ k + (m + n) = omega arith in
     λ i. Some (sum i, sum i + length p.rows, gap_of p.rows p.end)
 
-agrees_at : (all xs : List Row) (k : ℕ) (is : Bool) (n : ℕ) (c : Cut) (p : Part) → k ≡ length xs → all ≡ xs ++ rows_of c → slice_get (parts_from is c) n ≡ Some p → HasStand all k is n c p
+agrees_at : (all xs : List Row) (k : ℕ) (is : Bool) (n : ℕ) (c : Cut) (p : Part) → k ≡ length xs → all ≡ xs ++ rows_of c → slice_get (parts_from is c) n ≡ Some p → HasRowsIn all k is n c p
 agrees_at all xs k true zero (last q) p at is e = ap (λ x. Some x) (agrees_here all xs q p k [] [] (same_Some _ _ e) at (is ∙ ap (λ (l : List Row). xs ++ l) (sym (append-nil q.rows))))
 agrees_at all xs k true (suc n) (last q) p at is e = absurd (cc)
 agrees_at all xs k false n (last q) p at is e = absurd (cc)
@@ -64,7 +64,7 @@ are_placed t s ds k e =
     record {
       count = sym (length-map ds document_view) ∙ (ap length agrees ∙ agrees_count (map slices (rows_of c)) is 0 c);
       each = λ n d p there at.
-          let own : document_view d ≡ StandAt 0 is n c p =
+          let own : document_view d ≡ RowsAt 0 is n c p =
           same_Some _ _ (sym (slice_get-map document_view ds n ∙ ap (option_map document_view) there) ∙ (ap (λ l. slice_get l n) agrees ∙ agrees_at (rows_of c) [] 0 is n c p refl refl at)) in
           record {
             lead = ap (λ (x : ℕ × ℕ × List ℕ). head_comment x.2) own;

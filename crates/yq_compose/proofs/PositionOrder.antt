@@ -5,7 +5,7 @@ use Rattle.std.{specs.List.slice_get, specs.Prelude.is_some}
 use Rattle.yq_outline.{specs.Ends.IsEndOf, specs.Outline.Line, proofs.LineEnds.end_agrees, specs.Lines.lines_of_rows}
 use Rattle.yq_outline.{specs.Extents.lines_before_mark, specs.RowWalk.{HasRows, IsLine, IsPosition, deeper_rows, line_level, line_number}}
 use Rattle.yq_outline.{specs.declared.line_position.Position.Position, specs.declared.line_position.Stretch.Stretch}
-use Rattle.yq_outline.{proofs.WalkEnds.lines_upto, proofs.WalkPositions.{behind_agrees, located, position_line}}
+use Rattle.yq_outline.{proofs.WalkEnds.lines_upto, proofs.WalkPositions.{after_agrees, located, position_line}}
 use Rattle.yq_row_table.specs.View.{slices, RowsView}
 
 -- a later line is of no earlier row
@@ -49,7 +49,7 @@ last_alone s d h q e at next ends =
     let n : ℕ = line_level q.line (slices k.row) in
     let m : ℕ = deeper_rows n (take (d.end - (q.row + 1)) (drop (q.row + 1) s.rows)) in
     let b : ℕ = line_number d h.rows (record { row = (q.row + 1) + m; line = 0 }) in
-    let agrees : IsEndOf ls a b = behind_agrees s d h q (record { row = (q.row + 1) + m; line = 0 }) n at (λ x there. ap (line_level q.line) (same_Some _ _ (sym k.pieces ∙ there))) refl refl in
+    let agrees : IsEndOf ls a b = after_agrees s d h q (record { row = (q.row + 1) + m; line = 0 }) n at (λ x there. ap (line_level q.line) (same_Some _ _ (sym k.pieces ∙ there))) refl refl in
     let within : a < length ls = slice_get_within ls a k.line k.is in
     let same : b ≡ line_number d h.rows e = end_agrees ls a b within agrees ∙ sym (end_agrees ls a (line_number d h.rows e) within ends) in
     let upto : ((q.row + 1) + m) - d.first ≡ suc (q.row - d.first) + m = omega (arith, at.from) in

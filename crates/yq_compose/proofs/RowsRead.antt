@@ -8,7 +8,7 @@ use Rattle.yq_core.{specs.Answers.{ReadFails, ReadError}, specs.Quoted.IsQuotedT
 use Rattle.yq_core.{specs.Scalars.{scalar_content, is_quoted}, specs.Borrowed.{borrows_text, borrowed_text}, proofs.OneLine.kept}
 use Rattle.yq_core.{specs.FitKeys.key_fits, proofs.BorrowedTexts.borrows_key}
 use Rattle.yq_outline.{specs.Lines.head_of, proofs.RowLaws.{colon_some, mark_quoted}}
-use Rattle.yq_row_table.{specs.Exchange.{before_content, behind_row, rows_behind}, specs.Grammar.IsMark}
+use Rattle.yq_row_table.{specs.Exchange.{before_content, after_row, following_rows}, specs.Grammar.IsMark}
 use Rattle.yq_row_table.{specs.Rows.{Row, Cut, parent_indent}, specs.View.{Slices, colon_of, key_of_mark, slices, rows_of, RowsView}}
 use Rattle.yq_row_table.{proofs.PlaceLaws.{RowIn, place, row_in}, proofs.SliceLaws.content_slices, specs.WordRows.KnowsHead}
 use Rattle.yq_documents.{specs.FlowReading.{head_flow_at, row_flow}, specs.KeyReading.EndsIn}
@@ -81,23 +81,23 @@ module _ (t : List ℕ) (s : RowsView) (k : IsCutInto t s) (i : ℕ) (r : Row) (
   abbrev before : List ℕ
   before = before_content i c ++ ((slices r).space ++ ((slices r).anchor ++ (slices r).apart))
 
-  abbrev behind : List ℕ
-  behind = head_text r.content (behind_row i c)
+  abbrev after : List ℕ
+  after = head_text r.content (after_row i c)
 
   pub pieces_there : slice_get s.rows i ≡ Some (slices r)
   pieces_there = ap (λ (y : RowsView). slice_get y.rows i) k.rows ∙ (slice_get-map slices (rows_of c) i ∙ ap (option_map slices) is)
 
-  row_here : RowIn r (behind_row i c) (rows_behind i c)
+  row_here : RowIn r (after_row i c) (following_rows i c)
   row_here = row_in c i true r k.cut.parts is
 
   pub head_quoted : (h : List ℕ) → h ≡ (slices r).head → is_quoted h ≡ true → IsQuotedText h
-  head_quoted h e = subst (λ (x : List ℕ). is_quoted x ≡ true → IsQuotedText x) (sym e) (content_quoted (parent_indent r) r.content (behind_row i c) row_here.row.content)
+  head_quoted h e = subst (λ (x : List ℕ). is_quoted x ≡ true → IsQuotedText x) (sym e) (content_quoted (parent_indent r) r.content (after_row i c) row_here.row.content)
 
   pub key_quoted : (h : List ℕ) → h ≡ (slices r).key → is_quoted h ≡ true → IsQuotedText h
-  key_quoted h e = subst (λ (x : List ℕ). is_quoted x ≡ true → IsQuotedText x) (sym e) (mark_quoted r.mark r.content (behind_row i c) row_here.row.mark)
+  key_quoted h e = subst (λ (x : List ℕ). is_quoted x ≡ true → IsQuotedText x) (sym e) (mark_quoted r.mark r.content (after_row i c) row_here.row.mark)
 
   pub keyless : is_empty (slices r).colon ≡ true → (mark_is_fit r.mark ≡ true) × IsKeyDecoded None r
-  keyless = no_key r.mark r.content (behind_row i c) row_here.row.mark
+  keyless = no_key r.mark r.content (after_row i c) row_here.row.mark
 
   -- the key is written
   module _ (key : List ℕ) (is_key : key ≡ (slices r).key) where
@@ -107,29 +107,29 @@ module _ (t : List ℕ) (s : RowsView) (k : IsCutInto t s) (i : ℕ) (r : Row) (
     pub key_unquoted : is_quoted key ≡ false → IsKeyDecoded None r
     key_unquoted plain =
         let own = ap is_quoted (sym is_key) ∙ plain in
-        cond-false (is_quoted (slices r).key) _ (slices r).key own ∙ mark_plain r.mark r.content (behind_row i c) row_here.row.mark own
+        cond-false (is_quoted (slices r).key) _ (slices r).key own ∙ mark_plain r.mark r.content (after_row i c) row_here.row.mark own
 
     pub key_borrowed : borrows_text key ≡ true → IsKeyDecoded None r
     key_borrowed borrows = borrows_key (slices r).key (key_quoted (slices r).key refl) (ap borrows_text (sym is_key) ∙ borrows)
 
-  pub text_there : t ≡ before ++ behind
+  pub text_there : t ≡ before ++ after
   text_there =
       let x : Slices = slices r in
       k.cut.text
       ∙ (place c i r is
-      ∙ (ap (λ (y : List ℕ). before_content i c ++ y) (sym (content_slices r.content (behind_row i c))) ∙ regroup (before_content i c) x.space x.anchor x.apart behind))
+      ∙ (ap (λ (y : List ℕ). before_content i c ++ y) (sym (content_slices r.content (after_row i c))) ∙ regroup (before_content i c) x.space x.anchor x.apart after))
 
-  read_again : read_head t (parent_indent r) (slices r).head behind ≡ fitting (content_is_fit r.content) (head_of r.content)
-  read_again = head_is t (parent_indent r) r.content (behind_row i c) (before, text_there) row_here.row.content
+  read_again : read_head t (parent_indent r) (slices r).head after ≡ fitting (content_is_fit r.content) (head_of r.content)
+  read_again = head_is t (parent_indent r) r.content (after_row i c) (before, text_there) row_here.row.content
 
-  flow_again : head_flow_at t (parent_indent r) (slices r).head behind ≡ row_flow (length t) r (behind_row i c)
-  flow_again = flow_is t (parent_indent r) r.content (behind_row i c) (before, text_there) row_here.row.content
+  flow_again : head_flow_at t (parent_indent r) (slices r).head after ≡ row_flow (length t) r (after_row i c)
+  flow_again = flow_is t (parent_indent r) r.content (after_row i c) (before, text_there) row_here.row.content
 
   -- the head is borrowed
   module _ (h : List ℕ) (head : h ≡ (slices r).head) (borrows : borrows_head h ≡ true) where
-    borrowed_so : (fitting (content_is_fit r.content) (head_of r.content) ≡ Some (borrowed_head (slices r).head)) × (None ≡ row_flow (length t) r (behind_row i c))
+    borrowed_so : (fitting (content_is_fit r.content) (head_of r.content) ≡ Some (borrowed_head (slices r).head)) × (None ≡ row_flow (length t) r (after_row i c))
     borrowed_so =
-        let l = borrowed_read t (parent_indent r) (slices r).head behind (head_quoted (slices r).head refl) (ap borrows_head (sym head) ∙ borrows) in
+        let l = borrowed_read t (parent_indent r) (slices r).head after (head_quoted (slices r).head refl) (ap borrows_head (sym head) ∙ borrows) in
         (sym read_again ∙ l.0, sym l.1 ∙ flow_again)
 
     pub borrowed_fit : content_is_fit r.content ≡ true
@@ -140,8 +140,8 @@ module _ (t : List ℕ) (s : RowsView) (k : IsCutInto t s) (i : ℕ) (r : Row) (
 
   -- the head is an alias
   module _ (h m : List ℕ) (head : h ≡ (slices r).head) (star : begins_with 42 h ≡ true) (rest : m ≡ drop 1 h) where
-    means : MeansAlias (behind_row i c) r.content
-    means = means_alias (parent_indent r) r.content (behind_row i c) row_here.row.content (ap (begins_with 42) (sym head) ∙ star)
+    means : MeansAlias (after_row i c) r.content
+    means = means_alias (parent_indent r) r.content (after_row i c) row_here.row.content (ap (begins_with 42) (sym head) ∙ star)
 
     name_is : m ≡ drop 1 (slices r).head
     name_is = rest ∙ ap (drop 1) head
@@ -152,19 +152,19 @@ module _ (t : List ℕ) (s : RowsView) (k : IsCutInto t s) (i : ℕ) (r : Row) (
     pub alias_view : Some (trees.alias m) ≡ head_of r.content
     alias_view = ap (λ x. Some (trees.alias x)) name_is ∙ means.head
 
-    pub alias_flow : (at : ℕ) → at ≡ length before → Some (alias_from m at) ≡ row_flow (length t) r (behind_row i c)
-    alias_flow at place_is = ap (λ x. Some (alias_from x at)) name_is ∙ means.flow (length t) at (omega (arith, place_is, ap length text_there, length-append before behind))
+    pub alias_flow : (at : ℕ) → at ≡ length before → Some (alias_from m at) ≡ row_flow (length t) r (after_row i c)
+    alias_flow at place_is = ap (λ x. Some (alias_from x at)) name_is ∙ means.flow (length t) at (omega (arith, place_is, ap length text_there, length-append before after))
 
   pub place_whole : (h : List ℕ) (n : ℕ) → h ≡ (slices r).head → borrows_head h ≡ false → IsUtf8 h → n ≡ length before → IsCharBoundary t n
   place_whole h n e unlent u at =
       let x : Slices = slices r in
-      let rest : List ℕ = x.tail ++ (x.raw ++ behind_row i c) in
+      let rest : List ℕ = x.tail ++ (x.raw ++ after_row i c) in
       whole_there t before h rest n (text_there ∙ ap (λ (y : List ℕ). before ++ (y ++ rest)) (sym e)) at (unlent_some h unlent) u
 
   -- the head is read
   module _ (text : List ℕ) (start : ℕ) (from : text ≡ drop start t) (place_is : start ≡ length before) where
-    from_there : text ≡ behind
-    from_there = from ∙ ((λ j. drop (place_is j) (text_there j)) ∙ drop-append_seam before behind)
+    from_there : text ≡ after
+    from_there = from ∙ ((λ j. drop (place_is j) (text_there j)) ∙ drop-append_seam before after)
 
     pub text_ends : EndsIn t text
     text_ends = (before, text_there ∙ ap (λ (x : List ℕ). before ++ x) (sym from_there))
@@ -174,14 +174,14 @@ module _ (t : List ℕ) (s : RowsView) (k : IsCutInto t s) (i : ℕ) (r : Row) (
     passed_there d knows more =
         let k = knows more in
         let x : Slices = slices r in
-        let rest : List ℕ = x.tail ++ (x.raw ++ behind_row i c) in
+        let rest : List ℕ = x.tail ++ (x.raw ++ after_row i c) in
         (k.0, (rest, whole_passed d x.head rest text k.1 from_there))
 
     module _ (p : ℤ) (h : List ℕ) (parent : p ≡ parent_indent r) (head : h ≡ (slices r).head) where
       pub head_read : read_head t p h text ≡ fitting (content_is_fit r.content) (head_of r.content)
       head_read = (λ j. read_head t (parent j) (head j) (from_there j)) ∙ read_again
 
-      flow_read : head_flow_at t p h text ≡ row_flow (length t) r (behind_row i c)
+      flow_read : head_flow_at t p h text ≡ row_flow (length t) r (after_row i c)
       flow_read = (λ j. head_flow_at t (parent j) (head j) (from_there j)) ∙ flow_again
 
       pub read_decoded : (x : DecodedHead) → read_head t p h text ≡ Some (decoded_view x) → decoded_head_flow x ≡ head_flow_at t p h text → IsHeadDecoded t i (Some x) r

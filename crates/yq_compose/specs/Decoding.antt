@@ -3,7 +3,7 @@ use Rattle.std.specs.Prelude.{◌≡◌, ℕ, List, [], ◌∷◌, length, slice
 use Rattle.std.{specs.Prelude.string_bytes, specs.declared.alloc.Global.Global}
 use Rattle.yq_core.{specs.Scalars.scalar_content, specs.Borrowed.borrowed_text}
 use Rattle.yq_outline.specs.Lines.{head_of}
-use Rattle.yq_row_table.{specs.Exchange.behind_row, specs.Grammar.IsCut, specs.Rows.Row, specs.View.{rows_of, slices, RowsView, rows_view}}
+use Rattle.yq_row_table.{specs.Exchange.after_row, specs.Grammar.IsCut, specs.Rows.Row, specs.View.{rows_of, slices, RowsView, rows_view}}
 use Rattle.yq_documents.specs.FlowReading.{row_flow}
 use Rattle.yq_documents.{specs.Decoded.{IsDecoded, Rise, borrowed_head, decoded_or, decoded_view, decoded_head_flow}, specs.Reading.cut_of}
 use Rattle.yq_documents.{specs.declared.decoded.Decoded.Decoded, specs.declared.decoded.DecodedHead.DecodedHead}
@@ -24,7 +24,7 @@ IsKeyDecoded k r = decoded_or (option_map string_bytes k) (borrowed_text (slices
 -- What a row's head spells is given by the head that is made of it, if one is (own).
 pub record IsHeadDecoded (t : List ℕ) (i : ℕ) (h : Option DecodedHead) (r : Row) : Type 0 where
   pub head : decoded_or (option_map decoded_view h) (borrowed_head (slices r).head) ≡ head_of r.content
-  pub flow : option_and_then decoded_head_flow h ≡ row_flow (length t) r (behind_row i (cut_of t))
+  pub flow : option_and_then decoded_head_flow h ≡ row_flow (length t) r (after_row i (cut_of t))
 
 -- What the rows of a text spell is given by what is made of them, which is in their order (own).
 pub record AreDecoded (t : List ℕ) (ms : List Decoded) : Type 0 where

@@ -114,12 +114,12 @@ fn decode_head<'t>(
     if let Some(name) = strip(b'*', head) {
         return Ok(Some(DecodedHead::Alias(name, start)));
     }
-    let behind = text.split_at(start).1;
-    if let Some(node) = borrow_head(keys, other.depth, text, head, behind) {
+    let after = text.split_at(start).1;
+    if let Some(node) = borrow_head(keys, other.depth, text, head, after) {
         return Ok(Some(DecodedHead::Borrowed(node)));
     }
     let parent = rows.parent_indent(i);
-    match read_head(alloc, text, parent, head, behind) {
+    match read_head(alloc, text, parent, head, after) {
         Ok(head) => Ok(Some(DecodedHead::Owned(head))),
         Err(e) => Err(e),
     }

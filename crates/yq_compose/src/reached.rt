@@ -49,7 +49,7 @@ pub(crate) fn with_level<'a, 't>(
 
 /// The line after a line.
 #[inline(always)]
-pub(crate) fn line_behind<'a, 't>(x: Checked<'a, 't>, at: Reached<'a, 't>) -> Reached<'a, 't>
+pub(crate) fn line_after<'a, 't>(x: Checked<'a, 't>, at: Reached<'a, 't>) -> Reached<'a, 't>
     requires ready { IsChecked x }
     requires at { IsReached x.decoded.now x.rows.now x.document at }
     requires line { IsLine x.rows.now x.document at.position }

@@ -45,13 +45,13 @@ fn decode_others<'t>(
     let mut decoded = Vec::with_capacity(alloc, others.len())?;
     let mut keys = Keys::new(alloc);
     let mut left = others;
-    'rows: while let [other, behind @ ..] = left {
+    'rows: while let [other, after @ ..] = left {
         let found = match decoded_of(alloc, &mut keys, text, rows, *other) {
             Ok(found) => found,
             Err(e) => return Err(e),
         };
         push_decoded(&mut decoded, found)?;
-        left = behind;
+        left = after;
     }
     decoded.shrink_to_fit();
     Ok(decoded)

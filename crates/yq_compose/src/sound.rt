@@ -9,13 +9,13 @@ ghost use Rattle.yq_outline.specs.Sound as spec;
 
 use crate::checked::{Checked, line_key, row_fault};
 use crate::nested::head_fault;
-use crate::reached::{Reached, is_bare, is_deeper, key_at, line_behind};
+use crate::reached::{Reached, is_bare, is_deeper, key_at, line_after};
 use std::alloc::{AllocError, Global};
 use std::collections::BTreeMap;
 use yq_core::{FaultKind, ReadError};
 use yq_inline::{Keys, take_distinct};
 use yq_outline::Position;
-use yq_row_walk::{behind, has_head, is_deeper as is_line_deeper};
+use yq_row_walk::{has_head, is_deeper as is_line_deeper, position_after};
 
 /// Why a line can't be where others of a collection at a level do: after neither key nor dash in the
 /// column of the keys, where its key is missing, or in another column or collection.
@@ -48,14 +48,14 @@ fn check_bare<'a, 't>(
         has_no_lines (part ls (n at.entry.position + 1) floor)) &&
         spec.head_is_sound depth l.head)) }
     ensures reached { IfOk result (IsReached x.entry.decoded.now x.entry.rows.now x.entry.document) }
-    ensures behind { IfOk result (λ r. GivesStop x.entry.rows.now x.entry.document at.entry.position
+    ensures following { IfOk result (λ r. GivesStop x.entry.rows.now x.entry.document at.entry.position
         floor r.position) }
     ensures fault { IfErr result IsOfText }
 {
     if !has_head(x.rows, x.document, at.position) {
         return Err(ReadError::Fault(row_fault(x, at.position, FaultKind::BadIndent)));
     }
-    let after = line_behind(x, at);
+    let after = line_after(x, at);
     if is_deeper(x, after, floor) {
         return Err(ReadError::Fault(row_fault(x, after.position, FaultKind::BadIndent)));
     }
@@ -109,7 +109,7 @@ fn repeated_line(
                 Err(e) => return Err(e.into()),
             }
         }
-        at = behind(x.rows, x.document, at);
+        at = position_after(x.rows, x.document, at);
     }
     Ok(start)
 }
@@ -130,7 +130,7 @@ fn check_line<'a, 't>(
     ensures sound { OfCheckedLine x.entry at.entry.position (λ ls num l. Decides result
         (spec.are_sound_under depth n l (part ls (num at.entry.position + 1) (outline.level l)))) }
     ensures reached { IfOk result (IsReached x.entry.decoded.now x.entry.rows.now x.entry.document) }
-    ensures behind { IfOk result (λ r.
+    ensures following { IfOk result (λ r.
         GivesEnd x.entry.rows.now x.entry.document at.entry.position r.position) }
     ensures kept { OnOk result (key_texts keys.new.items ≡ key_texts keys.old.items) }
     ensures fault { IfErr result IsOfText }
@@ -139,7 +139,7 @@ fn check_line<'a, 't>(
     if level != n {
         return Err(ReadError::Fault(row_fault(x, at.position, misplaced(level, n))));
     }
-    let after = line_behind(x, at);
+    let after = line_after(x, at);
     if !is_deeper(x, after, n) {
         return match head_fault(*keys.allocator(), x, at, depth) {
             Ok(()) => Ok(after),
@@ -167,7 +167,7 @@ pub(crate) fn check_lines<'a, 't>(
     ensures sound { OfChecked x.entry (λ ls n. Decides result
         (spec.is_sound_outline depth (part ls (n start.entry.position) floor))) }
     ensures reached { IfOk result (IsReached x.entry.decoded.now x.entry.rows.now x.entry.document) }
-    ensures behind { IfOk result (λ r.
+    ensures following { IfOk result (λ r.
         GivesStop x.entry.rows.now x.entry.document start.entry.position floor r.position) }
     ensures kept { OnOk result (key_texts keys.new.items ≡ key_texts keys.old.items) }
     ensures fault { IfErr result IsOfText }

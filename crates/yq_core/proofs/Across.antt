@@ -105,12 +105,12 @@ unfolding across
 across_here flow spaces deep b bs h = search (rules, false_from_ne_true, false≢true)
 
 -- whether text after a gap may be on its line; deep tells it of the line on which the gap begins
-abbrev stands : Bool → Option ℕ → Option (List ℕ) → List ℕ → Bool
-stands deep spaces None text = deep
-stands deep spaces (Some indentation) text = begins_deep spaces (indentation ++ text)
+abbrev is_located : Bool → Option ℕ → Option (List ℕ) → List ℕ → Bool
+is_located deep spaces None text = deep
+is_located deep spaces (Some indentation) text = begins_deep spaces (indentation ++ text)
 
 abbrev goes : Bool → Option ℕ → Bool → List ℕ → List ℕ → Bool
-goes flow spaces deep gap text = not (is_empty text) && not (front (λ b. eqb b 35) text) && not (ends_text flow text) && stands deep spaces (last_line gap) text
+goes flow spaces deep gap text = not (is_empty text) && not (front (λ b. eqb b 35) text) && not (ends_text flow text) && is_located deep spaces (last_line gap) text
 
 abbrev gap_of : List ℕ → List ℕ
 gap_of t = (cut no_gap t).0
@@ -120,7 +120,7 @@ past_gap t = (cut no_gap t).1
 
 over : (flow : Bool) (spaces : Option ℕ) (deep next : Bool) (b : ℕ) (bs : List ℕ) → is_space (b ∷ bs) ≡ true → across flow spaces deep (b ∷ bs) ≡ more 1 (across flow spaces next bs) →
     across flow spaces next bs ≡ cond (goes flow spaces next (gap_of bs) (past_gap bs)) (Some (upto no_gap bs)) None →
-    stands deep spaces (last_line (b ∷ gap_of bs)) (past_gap bs) ≡ stands next spaces (last_line (gap_of bs)) (past_gap bs) →
+    is_located deep spaces (last_line (b ∷ gap_of bs)) (past_gap bs) ≡ is_located next spaces (last_line (gap_of bs)) (past_gap bs) →
     across flow spaces deep (b ∷ bs) ≡ cond (goes flow spaces deep (gap_of (b ∷ bs)) (past_gap (b ∷ bs))) (Some (upto no_gap (b ∷ bs))) None
 unfolding upto
 over flow spaces deep next b bs s e again same = search rules
@@ -128,10 +128,10 @@ over flow spaces deep next b bs s e again same = search rules
 or_none : (o : Option (List ℕ)) → option_or o None ≡ o
 or_none o = search rules
 
-same_line : (deep : Bool) (spaces : Option ℕ) (b : ℕ) (gap text : List ℕ) → is_feed b ≡ false → stands deep spaces (last_line (b ∷ gap)) text ≡ stands deep spaces (last_line gap) text
-same_line deep spaces b gap text n = rw n (ap (λ o. stands deep spaces o text) (or_none (last_line gap)))
+same_line : (deep : Bool) (spaces : Option ℕ) (b : ℕ) (gap text : List ℕ) → is_feed b ≡ false → is_located deep spaces (last_line (b ∷ gap)) text ≡ is_located deep spaces (last_line gap) text
+same_line deep spaces b gap text n = rw n (ap (λ o. is_located deep spaces o text) (or_none (last_line gap)))
 
-next_line : (deep : Bool) (spaces : Option ℕ) (o : Option (List ℕ)) (gap text bs : List ℕ) → gap ++ text ≡ bs → stands deep spaces (option_or o (Some gap)) text ≡ stands (begins_deep spaces bs) spaces o text
+next_line : (deep : Bool) (spaces : Option ℕ) (o : Option (List ℕ)) (gap text bs : List ℕ) → gap ++ text ≡ bs → is_located deep spaces (option_or o (Some gap)) text ≡ is_located (begins_deep spaces bs) spaces o text
 next_line deep spaces o gap text bs e = search rules
 
 -- what across tells: whether text after the gap follows, and how long the gap is
@@ -151,15 +151,15 @@ across_goes flow spaces deep (b ∷ bs) =
       | inr s ↦ across_here flow spaces deep b bs s ∙ rw s refl
     ]
 
-may_stand : (spaces : Option ℕ) (o : Option (List ℕ)) (text : List ℕ) → plain_may_follow spaces o text ≡ stands true spaces o text
-may_stand spaces o text = search rules
+may_be_here : (spaces : Option ℕ) (o : Option (List ℕ)) (text : List ℕ) → plain_may_follow spaces o text ≡ is_located true spaces o text
+may_be_here spaces o text = search rules
 
 not_some : (x : Bool) (k : ℕ) → not x ≡ is_none (cond x (Some k) None)
 not_some x k = search rules
 
 -- at white space or a break
 pub ends_space : (flow : Bool) (spaces : Option ℕ) (t : List ℕ) → is_space t ≡ true → ends_plain flow spaces t ≡ is_none (across flow spaces true t)
-ends_space flow spaces t s = search (rules, may_stand, not_some, across_goes)
+ends_space flow spaces t s = search (rules, may_be_here, not_some, across_goes)
 
 deeper : (flow : Bool) (spaces : Option ℕ) (t : List ℕ) (k : ℕ) → across flow spaces false t ≡ Some k → across flow spaces true t ≡ Some k
 unfolding across

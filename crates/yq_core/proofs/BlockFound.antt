@@ -4,7 +4,7 @@ use Rattle.std.{proofs.Common.{Result, Ok, Err, IfOk, ℤ, rules}, proofs.lemmas
 use Rattle.yq_core.{proofs.BlockLaws.{block_takes, block_again}, proofs.Bools.bind_some, proofs.HeaderLaws.head_length}
 use Rattle.yq_core.{proofs.LineLaws.{joined_lines, joined-append}, proofs.RawLaws.raw_split, specs.Answers.ReadsAs}
 use Rattle.yq_core.specs.Block.{as_style, is_block_fault, keeps, IsBlockPiece}
-use Rattle.yq_core.specs.BlockReading.{raw_at, len_at, indent_at, read_style, indicators_at, values, read_header_tail, block_behind}
+use Rattle.yq_core.specs.BlockReading.{raw_at, len_at, indent_at, read_style, indicators_at, values, read_header_tail, block_after}
 use Rattle.yq_core.{specs.BlockReading.{block_at, read_block_piece, block_from}, specs.Piece.deeper, specs.Text.{text_lines, joined}}
 use Rattle.yq_core.{specs.declared.block_header.BlockStyle.BlockStyle, specs.declared.block_header.Chomping.Chomping}
 use Rattle.yq_core.{specs.declared.block_lines.TextIndent.TextIndent, specs.declared.fault.FaultKind.FaultKind}
@@ -29,7 +29,7 @@ pub piece_is : (start least : ℕ) (t u r tail raw : List ℕ) (s : BlockStyle) 
       indent = f.columns;
       keep = k;
     })
-unfolding block_at block_behind
+unfolding block_at block_after
 piece_is start least t u r tail raw s d c f k n z h m g e q l y =
     let head = head_length t u r s d c h m in
     search (rules, bind_some, same_Some)
@@ -39,7 +39,7 @@ unfolding block_from
 from_takes n at text p h =
     let x = bind_some (block_at (deeper n) (drop at text)) h in
     let laws = block_takes (deeper n) (drop at text) x.0 x.1 in
-    record { block = x.0.0; rest = x.0.1; stands = laws.0; scalar = laws.1; piece = sym (same_Some _ _ x.2) }
+    record { block = x.0.0; rest = x.0.1; is_located = laws.0; scalar = laws.1; piece = sym (same_Some _ _ x.2) }
 
 pub from_again : (n : ℤ) (at : ℕ) (text : List ℕ) (p : Piece) → IsBlockPiece n at text p → block_from n at text ≡ Some p
 unfolding block_from

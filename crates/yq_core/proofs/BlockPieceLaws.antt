@@ -53,12 +53,12 @@ indicators_back least b rest h =
 -- the raw lines, cut out
 pub raw_back : (b : BlockText) (rest : List ℕ) → take (length (joined b.raw)) (drop (1 + length b.indicators + length b.tail) (block_text b rest)) ≡ joined b.raw
 raw_back b rest =
-    let behind = joined b.raw ++ rest in
-    let cut : drop (suc (length (b.indicators ++ b.tail))) (block_text b rest) ≡ behind = ap (drop (length (b.indicators ++ b.tail))) (sym (append_assoc b.indicators b.tail behind)) ∙ drop-append_seam (b.indicators ++ b.tail) behind in
+    let after = joined b.raw ++ rest in
+    let cut : drop (suc (length (b.indicators ++ b.tail))) (block_text b rest) ≡ after = ap (drop (length (b.indicators ++ b.tail))) (sym (append_assoc b.indicators b.tail after)) ∙ drop-append_seam (b.indicators ++ b.tail) after in
     search (rules, length-append, take-append_seam, cut)
 
 -- where the pieces of a block scalar at an offset are
-pub record Stands (text : List ℕ) (p : Piece) : Type 0 where
+pub record IsLocatedAt (text : List ℕ) (p : Piece) : Type 0 where
   pub header : p.start < length text
   pub order : p.raw_start ≤ p.end
   pub begins : IsCharBoundary text p.raw_start
@@ -67,15 +67,15 @@ pub record Stands (text : List ℕ) (p : Piece) : Type 0 where
 head_lf : (b : BlockText) → is_tail b.tail ≡ true → IsLf ((style_indicator b.style ∷ b.indicators) ++ b.tail)
 head_lf b h = append_lf (style_indicator b.style ∷ b.indicators) b.tail (line_lf b.tail (and_parts (is_line b.tail) _ h).0)
 
-pub stands : (n : ℤ) (text : List ℕ) (p : Piece) → IsUtf8 text → IsBlockPiece n p.start text p → Stands text p
-stands n text p u h =
+pub is_located : (n : ℤ) (text : List ℕ) (p : Piece) → IsUtf8 text → IsBlockPiece n p.start text p → IsLocatedAt text p
+is_located n text p u h =
     let b = h.block in
     let before = take p.start text in
     let head : List ℕ = (style_indicator b.style ∷ b.indicators) ++ b.tail in
     let raw = joined b.raw in
     let raw_is : p.raw_start ≡ p.start + 1 + length b.indicators + length b.tail = ap (λ (q : Piece). q.raw_start) h.piece in
     let end_is : p.end ≡ p.start + 1 + length b.indicators + length b.tail + length raw = ap (λ (q : Piece). q.end) h.piece in
-    let behind : length text - p.start ≡ suc (length (b.indicators ++ (b.tail ++ (raw ++ h.rest)))) = sym (length-drop p.start text) ∙ ap length h.stands in
+    let after : length text - p.start ≡ suc (length (b.indicators ++ (b.tail ++ (raw ++ h.rest)))) = sym (length-drop p.start text) ∙ ap length h.is_located in
     let start_len : length before ≡ min p.start (length text) = length-take p.start text in
     let head_len : length head ≡ suc (length b.indicators) + length b.tail = length-append (style_indicator b.style ∷ b.indicators) b.tail in
     let to_raw : text ≡ (before ++ head) ++ (raw ++ h.rest) = search (rules, take-append-drop, append_assoc, before) in
@@ -89,6 +89,6 @@ content_is n text p h =
     let b = h.block in
     let least = deeper n in
     let raw_len_ : p.end - p.raw_start ≡ length (joined b.raw) = (let e = ap (λ (q : Piece). q.end) h.piece in let s = ap (λ (q : Piece). q.raw_start) h.piece in omega (arith, e, s)) in
-    let header : drop (p.start + 1) text ≡ drop 1 (block_text b h.rest) = sym (drop-drop 1 p.start text) ∙ ap (drop 1) h.stands in
-    let behind : drop p.raw_start text ≡ drop (1 + length b.indicators + length b.tail) (block_text b h.rest) = search (rules, drop-drop, b) in
-    search (rules, indicators_back, raw_back, raw_lines, detect_back, raw_len_, header, least, b, behind)
+    let header : drop (p.start + 1) text ≡ drop 1 (block_text b h.rest) = sym (drop-drop 1 p.start text) ∙ ap (drop 1) h.is_located in
+    let after : drop p.raw_start text ≡ drop (1 + length b.indicators + length b.tail) (block_text b h.rest) = search (rules, drop-drop, b) in
+    search (rules, indicators_back, raw_back, raw_lines, detect_back, raw_len_, header, least, b, after)

@@ -7,11 +7,11 @@ use Rattle.yq_core.proofs.RawLaws.{next_not_empty, ends_blank}
 use Rattle.yq_core.proofs.SpaceLaws.{white_drop, spaces_blank, prefix_none, spaces_front, drop_front}
 use Rattle.yq_core.specs.Block.{RawLines, is_empty_line, is_less_indented, ends_block}
 use Rattle.yq_core.specs.BlockRepair.{AreGap, is_short, is_outdented_comment, repaired_blank, repaired_comment, repair, comment_lines}
-use Rattle.yq_core.{specs.BlockRepair.is_behind, specs.Lines.{spaces, behind_spaces, is_hash, is_blank}}
+use Rattle.yq_core.{specs.BlockRepair.comes_later, specs.Lines.{spaces, without_spaces, is_hash, is_blank}}
 use Rattle.yq_core.{specs.Text.{ends_line, past_white, upto}, specs.declared.block_lines.TextIndent.TextIndent}
 
 -- what begins with no space
-no_spaces : (b : ℕ) (t : List ℕ) → eqb b 32 ≡ false → (spaces (b ∷ t) ≡ 0) × (behind_spaces (b ∷ t) ≡ b ∷ t)
+no_spaces : (b : ℕ) (t : List ℕ) → eqb b 32 ≡ false → (spaces (b ∷ t) ≡ 0) × (without_spaces (b ∷ t) ≡ b ∷ t)
 no_spaces b t h = let n = prefix_none (λ x. eqb x 32) b t h in (n, ap (λ k. drop k (b ∷ t)) n)
 
 pub blank_empty : (f : TextIndent) (l : List ℕ) → is_blank l ≡ true → is_empty_line f (repaired_blank f.columns l) ≡ true
@@ -25,9 +25,9 @@ pub ends_less : (keep : Bool) (f : TextIndent) (l : List ℕ) (ls : RawLines) �
 unfolding ends_block
 ends_less keep f l ls h = rw (next_not_empty f l h) h
 
-pub ends_behind : (keep : Bool) (f : TextIndent) (rest : RawLines) → is_behind f rest ≡ true → ends_block keep f rest ≡ true
+pub following_ends : (keep : Bool) (f : TextIndent) (rest : RawLines) → comes_later f rest ≡ true → ends_block keep f rest ≡ true
 unfolding ends_block
-ends_behind keep f rest h = search rules
+following_ends keep f rest h = search rules
 
 pub comment_less : (f : TextIndent) (column : ℕ) (l : List ℕ) → is_blank l ≡ false → (is_blank l || is_hash (past_white l)) ≡ true → column < f.columns → is_less_indented f (repaired_comment f.columns column l) ≡ true
 comment_less f column l n h lt = search (rules, and_parts, false_from_ne_true, false≢true, spaces_blank, and_from, ⊎_elim, or_cases, cond_both, moved)
@@ -37,9 +37,9 @@ first_comment : (keep : Bool) (f : TextIndent) (column : ℕ) (l : List ℕ) (ls
 first_comment keep f column l ls n h lt = ends_less keep f _ ls (comment_less f column l n h lt)
 
 -- the repaired gap before what follows it
-pub repair_ends : (keep : Bool) (f : TextIndent) (column : ℕ) (gap rest : RawLines) → AreGap gap → is_behind f rest ≡ true → column < f.columns → ends_block keep f (repair keep f.columns column gap ++ rest) ≡ true
+pub repair_ends : (keep : Bool) (f : TextIndent) (column : ℕ) (gap rest : RawLines) → AreGap gap → comes_later f rest ≡ true → column < f.columns → ends_block keep f (repair keep f.columns column gap ++ rest) ≡ true
 unfolding repair
-repair_ends keep f column [] rest h e lt = ends_behind keep f rest e
+repair_ends keep f column [] rest h e lt = following_ends keep f rest e
 repair_ends true f column (l ∷ ls) rest h e lt = search (rules, ⊎_elim, first_comment, cases_Bool, repair_ends true f column ls rest h.1 e lt)
 repair_ends false f column (l ∷ ls) rest h e lt =
     search (rules, ends_blank, blank_empty, first_comment, cases_Bool, repair_ends false f column ls rest h.1 e lt)

@@ -17,7 +17,7 @@ blank_step keep m column t l a out mid all b e is blank on so_far = search (rule
 pub comment_step : (keep : Bool) (m column : ℕ) (t l a out mid end all : List ℕ) (b : Bool) → text_lines t ≡ l ∷ text_lines a → b ≡ is_blank l → b ≡ false →
     mid ≡ out ++ repaired_comment m column l → end ≡ mid ++ a → out ++ joined (repair keep m column (text_lines t)) ≡ all → end ≡ all
 unfolding repair
-comment_step keep m column t l a out mid end all b e is blank on behind so_far = search (rules, joined_lines, append_assoc)
+comment_step keep m column t l a out mid end all b e is blank on after so_far = search (rules, joined_lines, append_assoc)
 
 pub repair_end : (keep : Bool) (m column : ℕ) (t out all : List ℕ) → t ≡ [] → out ++ joined (repair keep m column (text_lines t)) ≡ all → out ≡ all
 unfolding repair text_lines

@@ -1,10 +1,10 @@
 -- A repaired gap in front of a text.
 use Rattle.std.proofs.Common.{◌≡◌, ℕ, zero, suc, ◌<◌, Bool, true, false, ◌||◌, eqb, List, [], ◌∷◌, ◌++◌, replicate, ◌⊎◌, inl, inr, refl}
 use Rattle.std.{proofs.Common.{sym, ap, ◌∙◌, ⊎_elim, append_assoc, append-nil, rules}, proofs.lemmas.Bool.{cond_both, cases_Bool}}
-use Rattle.yq_core.{proofs.BlockRepairLaws.{comment_less, blank_empty, ends_less, ends_behind}, proofs.Bools.at_byte}
+use Rattle.yq_core.{proofs.BlockRepairLaws.{comment_less, blank_empty, ends_less, following_ends}, proofs.Bools.at_byte}
 use Rattle.yq_core.{proofs.LineLaws.{lines_again, joined_lines}, proofs.SpaceLaws.white_drop}
 use Rattle.yq_core.specs.Block.{RawLines, keeps, ends_block, BlockText, IsBlock}
-use Rattle.yq_core.specs.BlockRepair.{AreGap, is_short, is_outdented_comment, repaired_blank, repaired_comment, repair, is_behind}
+use Rattle.yq_core.specs.BlockRepair.{AreGap, is_short, is_outdented_comment, repaired_blank, repaired_comment, repair, comes_later}
 use Rattle.yq_core.{specs.BlockWritten.ends_with_break, specs.Lines.{is_blank, is_hash}}
 use Rattle.yq_core.specs.Text.{is_white, past_white, upto, text_lines, put_byte, joined, is_line}
 use Rattle.yq_core.{specs.declared.block_lines.TextIndent.TextIndent, proofs.RawLaws.ends_blank}
@@ -120,17 +120,17 @@ ends_comment keep f column l ls rest cut n h lt =
     cut_front keep f x ls (joined ls) rest (comment_cut f.columns column l ls rest cut) (no_joined ls) (ends_less keep f x (text_lines (joined ls ++ rest)) less) (ends_less keep f x [] less)
 
 -- the lines of a repaired gap
-gap_ends : (keep : Bool) (f : TextIndent) (column : ℕ) (gap : RawLines) (rest : List ℕ) → AreCut gap rest → AreGap gap → is_behind f (text_lines rest) ≡ true → column < f.columns →
+gap_ends : (keep : Bool) (f : TextIndent) (column : ℕ) (gap : RawLines) (rest : List ℕ) → AreCut gap rest → AreGap gap → comes_later f (text_lines rest) ≡ true → column < f.columns →
     Ends keep f (joined (repair keep f.columns column gap) ++ rest)
 unfolding repair ends_block
-gap_ends keep f column [] rest cut are behind lt = ends_behind keep f (text_lines rest) behind
-gap_ends true f column (l ∷ ls) rest cut are behind lt = search (rules, ends_comment, cases_Bool, gap_ends true f column ls rest cut.1 are.1 behind lt)
-gap_ends false f column (l ∷ ls) rest cut are behind lt = ⊎_elim {0, 0, 0}
+gap_ends keep f column [] rest cut are after lt = following_ends keep f (text_lines rest) after
+gap_ends true f column (l ∷ ls) rest cut are after lt = search (rules, ends_comment, cases_Bool, gap_ends true f column ls rest cut.1 are.1 after lt)
+gap_ends false f column (l ∷ ls) rest cut are after lt = ⊎_elim {0, 0, 0}
     (λ b.
     let x = repaired_blank f.columns l in
     let gone = joined (repair false f.columns column ls) in
     let empty = blank_empty f l b in
-    let again : Ends false f (gone ++ rest) = gap_ends false f column ls rest cut.1 are.1 behind lt in
+    let again : Ends false f (gone ++ rest) = gap_ends false f column ls rest cut.1 are.1 after lt in
     let whole : Ends false f ((x ++ gone) ++ rest) =
     cut_front false f x ls gone rest (blank_cut f.columns l ls rest cut.0) (no_repair f.columns column ls)
     (ends_blank f x (text_lines (gone ++ rest)) empty again) (ends_blank f x [] empty refl) in
@@ -139,6 +139,6 @@ gap_ends false f column (l ∷ ls) rest cut are behind lt = ⊎_elim {0, 0, 0}
     (cases_Bool (is_blank l))
 
 -- the block scalar in front of it
-pub repair_stands : (least column : ℕ) (b : BlockText) (old gap rest : List ℕ) → IsBlock least b old → AreGap (text_lines gap) → Closed (text_lines gap) rest → is_behind b.indent (text_lines rest) ≡ true → column < b.indent.columns →
+pub repair_is_there : (least column : ℕ) (b : BlockText) (old gap rest : List ℕ) → IsBlock least b old → AreGap (text_lines gap) → Closed (text_lines gap) rest → comes_later b.indent (text_lines rest) ≡ true → column < b.indent.columns →
     IsBlock least b (joined (repair (keeps b.chomping) b.indent.columns column (text_lines gap)) ++ rest)
-repair_stands least column b old gap rest is are shut behind lt = search (rules, gap_ends, lines_cut)
+repair_is_there least column b old gap rest is are shut after lt = search (rules, gap_ends, lines_cut)

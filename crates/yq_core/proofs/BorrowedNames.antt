@@ -3,7 +3,7 @@ use Rattle.std.proofs.Common.{◌≡◌, ℕ, Bool, true, false, ◌&&◌, cond,
 use Rattle.std.proofs.lemmas.Bool.{false≢true, and_parts}
 use Rattle.yq_core.{specs.Anchors.{names_of, names_in}, specs.Tree.Children}
 use Rattle.yq_core.specs.Nodes.{FlowNode, empty, alias, scalar, coll, anchored, Items, none, item}
-use Rattle.yq_core.specs.Borrowed.{borrows_key, borrows_node, borrows_items, is_borrowed, node_in_front}
+use Rattle.yq_core.specs.Borrowed.{borrows_key, borrows_node, borrows_items, is_borrowed, leading_node}
 use Rattle.yq_core.{specs.Trees.{placed_tree, tree_of, items_tree, tree_collection}, proofs.BorrowedLaws.{borrowed_node, front_located}}
 use Rattle.yq_core.proofs.TreeLaws.{node_tree}
 use Rattle.yq_core.specs.Tree as tree
@@ -31,10 +31,10 @@ mutual
       let b = and_parts (borrows_node n) (borrows_items is) a.1 in
       (λ i. no_names n b.0 i ++ no_names_in is b.1 i)
 
-front_tree : (total d : ℕ) (t : List ℕ) (h : is_borrowed d t ≡ true) → placed_tree (node_in_front total d t) ≡ tree_of (borrowed_node d t h).node
-front_tree total d t h = let x = borrowed_node d t h in ap placed_tree (front_located total d t x.node x.rest x.stands x.valid) ∙ node_tree total x.node x.rest
+front_tree : (total d : ℕ) (t : List ℕ) (h : is_borrowed d t ≡ true) → placed_tree (leading_node total d t) ≡ tree_of (borrowed_node d t h).node
+front_tree total d t h = let x = borrowed_node d t h in ap placed_tree (front_located total d t x.node x.rest x.is_located x.valid) ∙ node_tree total x.node x.rest
 
-pub front_names : (total d : ℕ) (t : List ℕ) → is_borrowed d t ≡ true → names_of (placed_tree (node_in_front total d t)) ≡ []
+pub front_names : (total d : ℕ) (t : List ℕ) → is_borrowed d t ≡ true → names_of (placed_tree (leading_node total d t)) ≡ []
 front_names total d t h = ap names_of (front_tree total d t h) ∙ no_names (borrowed_node d t h).node (borrowed_node d t h).borrowed
 
 -- it is no alias, and has no anchor
@@ -58,5 +58,5 @@ node_unnamed (scalar p) h = refl
 node_unnamed (coll k g is) h = collection_unnamed k (items_tree is)
 node_unnamed (anchored a g n) h = absurd (false≢true h)
 
-pub front_unnamed : (total d : ℕ) (t : List ℕ) → is_borrowed d t ≡ true → IsUnnamed (placed_tree (node_in_front total d t))
+pub front_unnamed : (total d : ℕ) (t : List ℕ) → is_borrowed d t ≡ true → IsUnnamed (placed_tree (leading_node total d t))
 front_unnamed total d t h = subst IsUnnamed (sym (front_tree total d t h)) (node_unnamed (borrowed_node d t h).node (borrowed_node d t h).borrowed)

@@ -8,14 +8,14 @@ use Rattle.yq_core.specs.Text.{upto, at_feed, unless, is_white, is_break, is_spa
 use Rattle.yq_core.{proofs.Upto.{upto_le_length, upto_ends, upto_unless}, proofs.Breaks.line_len-feed}
 
 -- after bytes that are all ASCII
-pub boundary_behind : (t : List ℕ) (n : ℕ) → IsUtf8 t → n ≤ length t → ((k : ℕ) → k < n → get_or t k 0 < 128) → IsCharBoundary t n
-boundary_behind t zero u le ascii = IsCharBoundary-start t u
-boundary_behind t (suc m) u le ascii =
+pub boundary_after : (t : List ℕ) (n : ℕ) → IsUtf8 t → n ≤ length t → ((k : ℕ) → k < n → get_or t k 0 < 128) → IsCharBoundary t n
+boundary_after t zero u le ascii = IsCharBoundary-start t u
+boundary_after t (suc m) u le ascii =
     let same : m + 1 ≡ suc m = omega arith in
     subst (λ (i : ℕ). IsCharBoundary t i) same (IsCharBoundary-after_ascii t m u (omega arith) (ascii m (omega arith)))
 
 pub boundary_unless : (p : ℕ → Bool) (t : List ℕ) → IsUtf8 t → ((b : ℕ) → p b ≡ true → b < 128) → IsCharBoundary t (upto (unless p) t)
-boundary_unless p t u ascii = boundary_behind t (upto (unless p) t) u (upto_le_length (unless p) t)
+boundary_unless p t u ascii = boundary_after t (upto (unless p) t) u (upto_le_length (unless p) t)
     (λ k below. ascii _ (prefix_len_passes p t k 0 (rw upto_unless at below)))
 
 -- before an ASCII byte
@@ -35,7 +35,7 @@ pub boundary_spaces : (t : List ℕ) (n : ℕ) → n ≡ prefix_len (λ b. eqb b
 boundary_spaces t n e u = rw e (rw (← upto_unless) (boundary_unless (λ b. eqb b 32) t u (λ b h. omega (arith, eqb-true b 32 h))))
 
 pub boundary_in_spaces : (t : List ℕ) (n : ℕ) → n ≤ prefix_len (λ b. eqb b 32) t → IsUtf8 t → IsCharBoundary t n
-boundary_in_spaces t n few u = search (rules, upto_unless, upto_le_length, boundary_behind, prefix_len_passes)
+boundary_in_spaces t n few u = search (rules, upto_unless, upto_le_length, boundary_after, prefix_len_passes)
 
 pub boundary_white : (t : List ℕ) (n : ℕ) → n ≡ prefix_len is_white t → IsUtf8 t → IsCharBoundary t n
 boundary_white t n e u = rw e (rw (← upto_unless) (boundary_unless is_white t u white_ascii))

@@ -13,7 +13,7 @@ use Rattle.yq_core.specs.Scalars.{is_quoted}
 data Ends (t : List ℕ) (n : ℕ) : Type 0 where
   at_start : n ≡ 0 → Ends t n
   at_end : n ≡ length t → Ends t n
-  behind_ascii : (k : ℕ) → n ≡ k + 1 → k < length t → get_or t k 0 < 128 → Ends t n
+  following_ascii : (k : ℕ) → n ≡ k + 1 → k < length t → get_or t k 0 < 128 → Ends t n
 
 goes_ascii : (s : GapPlace) (b : ℕ) (bs : List ℕ) → goes s b bs ≡ true → (in_comment s ≡ true) ⊎ (b < 128)
 goes_ascii s b bs h1 = search (rules, ⊎_elim, space_ascii, eqb-true, or_cases)
@@ -24,9 +24,9 @@ comment_end [] h = refl
 comment_end (b ∷ t) h = absurd (omega (arith, h))
 
 one_more : (b : ℕ) (bs : List ℕ) (n : ℕ) → (n ≡ 0 → (b < 128) ⊎ (bs ≡ [])) → Ends bs n → Ends (b ∷ bs) (suc n)
-one_more b bs n h (at_start e) = ⊎_elim {0, 0, 0} (λ low. behind_ascii 0 (omega (arith, e)) (omega arith) low) (λ none. at_end (rw none (ap suc e))) (h e)
+one_more b bs n h (at_start e) = ⊎_elim {0, 0, 0} (λ low. following_ascii 0 (omega (arith, e)) (omega arith) low) (λ none. at_end (rw none (ap suc e))) (h e)
 one_more b bs n h (at_end e) = at_end (ap suc e)
-one_more b bs n h (behind_ascii k e lt low) = behind_ascii (suc k) (omega arith) (omega arith) low
+one_more b bs n h (following_ascii k e lt low) = following_ascii (suc k) (omega arith) (omega arith) low
 
 gap_ends : (s : GapPlace) (t : List ℕ) → Ends t (flow_gap_len s t)
 unfolding flow_gap_len
@@ -41,7 +41,7 @@ gap_ends s (b ∷ bs) = let again = gap_ends (next_gap_place s b) bs in
 boundary_by : (t : List ℕ) (n : ℕ) → IsUtf8 t → Ends t n → IsCharBoundary t n
 boundary_by t n u (at_start e) = rw e (IsCharBoundary-start t u)
 boundary_by t n u (at_end e) = rw e (IsCharBoundary-end t)
-boundary_by t n u (behind_ascii k e lt low) = rw e (IsCharBoundary-after_ascii t k u lt low)
+boundary_by t n u (following_ascii k e lt low) = rw e (IsCharBoundary-after_ascii t k u lt low)
 
 pub boundary_gap : (t : List ℕ) (n : ℕ) → n ≡ flow_gap_len Token t → IsUtf8 t → IsCharBoundary t n
 boundary_gap t n e u = rw e (boundary_by t (flow_gap_len Token t) u (gap_ends Token t))

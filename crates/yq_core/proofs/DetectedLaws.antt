@@ -7,11 +7,11 @@ use Rattle.yq_core.{proofs.Bools.{chosen, bind_some}, proofs.LineLaws.AreLines, 
 use Rattle.yq_core.proofs.SpaceLaws.{spaces_blank, char_not_blank}
 use Rattle.yq_core.specs.Block.{RawLines, is_empty_line, is_less_indented, ends_block, AreRaw, IsDetected, IsTextIndent}
 use Rattle.yq_core.specs.BlockReading.{is_empty_at, is_text_at, raw_at, detected_at, indent_at}
-use Rattle.yq_core.{specs.Lines.{spaces, behind_spaces, is_blank}, specs.Text.{is_empty, ends_line, text_lines, joined, is_line}}
+use Rattle.yq_core.{specs.Lines.{spaces, without_spaces, is_blank}, specs.Text.{is_empty, ends_line, text_lines, joined, is_line}}
 use Rattle.yq_core.specs.declared.block_lines.TextIndent.{TextIndent}
 
 pub empty_blank : (f : TextIndent) (l : List ℕ) → is_empty_line f l ≡ true → is_blank l ≡ true
-empty_blank f l h = spaces_blank l (and_parts (ends_line (behind_spaces l)) (not f.known || leb (spaces l) f.columns) h).0
+empty_blank f l h = spaces_blank l (and_parts (ends_line (without_spaces l)) (not f.known || leb (spaces l) f.columns) h).0
 
 next_parts : (f : TextIndent) (l : List ℕ) → is_less_indented f l ≡ true → (is_blank l ≡ false) × (spaces l < f.columns)
 next_parts f l h = search (rules, and_parts, char_not_blank, not-true, ltb-true)

@@ -56,8 +56,8 @@ length_of_some None k h = absurd (let e = h in cc)
 length_of_some (Some e) k h = (e.0, let same : e.1 ≡ k = cc in ap (λ (x : ℕ). Some (e.0, x)) same)
 
 -- what belongs to a byte comes after it, unless the byte is a quote that closes
-pub behind_within : (q b k : ℕ) (bs : List ℕ) → closes q (b ∷ bs) ≡ false → escape_len q b bs ≡ Some k → k ≤ length bs
-behind_within q b k bs opened h = grind (arith, common_steps, chosen, same_Some, length_of_some, escape_within, rules)
+pub after_within : (q b k : ℕ) (bs : List ℕ) → closes q (b ∷ bs) ≡ false → escape_len q b bs ≡ Some k → k ≤ length bs
+after_within q b k bs opened h = grind (arith, common_steps, chosen, same_Some, length_of_some, escape_within, rules)
 
 -- how far it is after bytes that are passed over
 pub length_skip : (q k : ℕ) (t : List ℕ) → k ≤ length t → quoted_len q k t ≡ more k (quoted_len q 0 (drop k t))
@@ -68,11 +68,11 @@ length_skip q (suc k) (b ∷ bs) h = ap (more 1) (length_skip q k bs (omega arit
 
 pub length_item : (q b k : ℕ) (bs : List ℕ) → closes q (b ∷ bs) ≡ false → escape_len q b bs ≡ Some k → quoted_len q 0 (b ∷ bs) ≡ more (k + 1) (quoted_len q 0 (drop k bs))
 unfolding quoted_len
-length_item q b k bs opened h = rw (opened, h) (ap (more 1) (length_skip q k bs (behind_within q b k bs opened h)) ∙ (sym (more_more 1 k (quoted_len q 0 (drop k bs))) ∙ ap (λ n. more n (quoted_len q 0 (drop k bs))) (omega arith)))
+length_item q b k bs opened h = rw (opened, h) (ap (more 1) (length_skip q k bs (after_within q b k bs opened h)) ∙ (sym (more_more 1 k (quoted_len q 0 (drop k bs))) ∙ ap (λ n. more n (quoted_len q 0 (drop k bs))) (omega arith)))
 
 pub item_within : (q k : ℕ) (r : List ℕ) → 1 ≤ length r → closes q r ≡ false → escape_len q (get_or r 0 0) (rest_of r) ≡ Some k → k ≤ length (rest_of r)
 item_within q k [] le opened h = absurd (omega arith)
-item_within q k (b ∷ bs) le opened h = rw (rest_is) (behind_within q b k bs opened (ap (escape_len q b) (sym (rest_is b bs)) ∙ h))
+item_within q k (b ∷ bs) le opened h = rw (rest_is) (after_within q b k bs opened (ap (escape_len q b) (sym (rest_is b bs)) ∙ h))
 
 pub go_item : (q k n : ℕ) (r : List ℕ) (z : Option ℕ) → 1 ≤ length r → closes q r ≡ false → escape_len q (get_or r 0 0) (rest_of r) ≡ Some k →
     more n (quoted_len q 0 r) ≡ z → more (n + (k + 1)) (quoted_len q 0 (drop k (rest_of r))) ≡ z

@@ -53,19 +53,19 @@ ends_takes digits (b ∷ bs) some full empty h = elim (cases_Bool (eqb b 46)) [
   | inl e ↦
       let p = and_parts (some || front_digit bs) (is_exponent (past_digits 10 bs)) (rw e at h) in
       let x = exponent_takes (past_digits 10 bs) p.1 in
-      let behind : b ∷ bs ≡ 46 ∷ (digits_in 10 bs ++ spell_exponent x.0) = ap (λ a. a ∷ bs) (eqb-true b 46 e) ∙ ap (λ t. 46 ∷ t) (digits_cut 10 bs ∙ ap (λ t. digits_in 10 bs ++ t) x.1) in
+      let after : b ∷ bs ≡ 46 ∷ (digits_in 10 bs ++ spell_exponent x.0) = ap (λ a. a ∷ bs) (eqb-true b 46 e) ∙ ap (λ t. 46 ∷ t) (digits_cut 10 bs ∙ ap (λ t. digits_in 10 bs ++ t) x.1) in
       elim (cases_Bool some) [
         | inl has ↦ record {
           mantissa = pointed digits (digits_in 10 bs);
           exponent = x.0;
-          spelled = ap (λ t. digits ++ t) behind ∙ sym (append_assoc digits (46 ∷ digits_in 10 bs) (spell_exponent x.0));
+          spelled = ap (λ t. digits ++ t) after ∙ sym (append_assoc digits (46 ∷ digits_in 10 bs) (spell_exponent x.0));
           is_mantissa = (full has, digits_all 10 bs);
           is_exponent = x.2;
         }
         | inr none ↦ record {
           mantissa = fraction (digits_in 10 bs);
           exponent = x.0;
-          spelled = ap (λ d. d ++ (b ∷ bs)) (empty none) ∙ behind;
+          spelled = ap (λ d. d ++ (b ∷ bs)) (empty none) ∙ after;
           is_mantissa = front_numeral bs (rw none at p.0);
           is_exponent = x.2;
         }

@@ -58,13 +58,13 @@ first_again : (d : ℕ) (c : Chomping) (t : List ℕ) → 1 ≤ d → d ≤ 9 �
 unfolding indicators_at
 first_again d c t a b h = search (rules, digit_again)
 
-behind_again : (d : ℕ) (c : Chomping) (t : List ℕ) → 1 ≤ d → d ≤ 9 → NoIndicator t → indicators_at (sign_text c ++ ((48 + d) ∷ t)) ≡ (Some d, c, sign_text c ++ (48 + d) ∷ [], t)
+again_after : (d : ℕ) (c : Chomping) (t : List ℕ) → 1 ≤ d → d ≤ 9 → NoIndicator t → indicators_at (sign_text c ++ ((48 + d) ∷ t)) ≡ (Some d, c, sign_text c ++ (48 + d) ∷ [], t)
 unfolding indicators_at
-behind_again d c t h1 h2 h3 = search (rules, digit_again, first_again)
+again_after d c t h1 h2 h3 = search (rules, digit_again, first_again)
 
 pub indicators_again : (digit : Option ℕ) (c : Chomping) (p t : List ℕ) → IsIndicators digit c p → NoIndicator t → indicators_at (p ++ t) ≡ (digit, c, p, t)
 unfolding indicators_at
-indicators_again digit c p t h1 h2 = search (rules, ⊎_elim, append-nil, first_again, append_assoc, behind_again)
+indicators_again digit c p t h1 h2 = search (rules, ⊎_elim, append-nil, first_again, append_assoc, again_after)
 
 -- where its pieces are
 pub style_length : (t : List ℕ) (s : BlockStyle) (u : List ℕ) → read_style t ≡ Some (s, u) → length t ≡ suc (length u)

@@ -6,7 +6,7 @@ use Rattle.std.{proofs.Math.Utf8.encode, specs.Str.{IsUtf8, IsCharBoundary}}
 use Rattle.yq_core.{specs.Text.{is_break, is_space, front, upto, NoneIn}, specs.Quoted.joined, specs.QuotedReading.leading_escape}
 use Rattle.yq_core.specs.ContentReading.{BlankBefore, within, after, content_on, break_len, before_of, is_pair, is_slash, ends_run}
 use Rattle.yq_core.{specs.Plain.no_gap, proofs.Upto.{upto_le_length, none_in_cut}}
-use Rattle.yq_core.proofs.Boundaries.{boundary_ends, space_ascii, break_ascii, boundary_behind}
+use Rattle.yq_core.proofs.Boundaries.{boundary_ends, space_ascii, break_ascii, boundary_after}
 use Rattle.yq_core.proofs.EscapeLaws.{escape_ascii, escape_within}
 
 -- bytes that are all ASCII
@@ -22,7 +22,7 @@ space_low (b ∷ bs) k lt = elim (cases_Bool (is_space (b ∷ bs))) [
 ]
 
 pub boundary_space : (t : List ℕ) (n : ℕ) → n ≡ upto no_gap t → IsUtf8 t → IsCharBoundary t n
-boundary_space t n e u = rw e (boundary_behind t (upto no_gap t) u (upto_le_length no_gap t) (space_low t))
+boundary_space t n e u = rw e (boundary_after t (upto no_gap t) u (upto_le_length no_gap t) (space_low t))
 
 run_ascii : (q b : ℕ) (bs : List ℕ) → ends_run q (b ∷ bs) ≡ true → b < 128
 run_ascii q b bs h = search (rules, or_cases, space_ascii, eqb-true, and_parts)
@@ -57,7 +57,7 @@ escape_some t c k h e n = search (rules, false≢true, encode, content_skip)
 
 -- where it may be cut
 pub boundary_slash : (t : List ℕ) → front (λ b. eqb b 92) t ≡ true → IsUtf8 t → IsCharBoundary t 1
-boundary_slash t h u = search (rules, false≢true, boundary_behind)
+boundary_slash t h u = search (rules, false≢true, boundary_after)
 
 break_within : (t : List ℕ) → is_break t ≡ true → break_len t ≤ length t
 break_within t h1 = search (rules, false≢true, cases_Bool, and_parts)
@@ -66,10 +66,10 @@ break_low : (t : List ℕ) → is_break t ≡ true → (k : ℕ) → k < break_l
 break_low t h1 k h2 = search (rules, false≢true, break_ascii, break_within, cases_Bool, eqb-true, and_parts)
 
 pub boundary_break : (t : List ℕ) → is_break t ≡ true → IsUtf8 t → IsCharBoundary t (break_len t)
-boundary_break t h u = boundary_behind t (break_len t) u (break_within t h) (break_low t h)
+boundary_break t h u = boundary_after t (break_len t) u (break_within t h) (break_low t h)
 
 pub boundary_escape : (t : List ℕ) (c k : ℕ) → leading_escape t ≡ Some (c, k) → IsUtf8 t → IsCharBoundary t k
-boundary_escape t c k h u = boundary_behind t k u (escape_within t c k h) (escape_ascii t c k h)
+boundary_escape t c k h u = boundary_after t k u (escape_within t c k h) (escape_ascii t c k h)
 
 -- bytes that mean themselves
 pub content_itself : (q : ℕ) (p rest : List ℕ) → NoneIn (ends_run q) p rest → content_on q 0 within [] (p ++ rest) ≡ p ++ content_on q 0 within [] rest
@@ -85,7 +85,7 @@ pair_low : (q : ℕ) (t : List ℕ) → is_pair q t ≡ true → (k : ℕ) → k
 pair_low q t h1 k h2 = search (rules, false≢true, and_parts, eqb-true)
 
 pub boundary_pair : (q : ℕ) (t : List ℕ) → is_pair q t ≡ true → IsUtf8 t → IsCharBoundary t 2
-boundary_pair q t h u = boundary_behind t 2 u (search (rules, false≢true, and_parts)) (pair_low q t h)
+boundary_pair q t h u = boundary_after t 2 u (search (rules, false≢true, and_parts)) (pair_low q t h)
 
 pub content_run : (q : ℕ) (t : List ℕ) → content_on q 0 within [] t ≡ take (upto (ends_run q) t) t ++ content_on q 0 within [] (drop (upto (ends_run q) t) t)
 content_run q t = ap (content_on q 0 within []) (sym (take-append-drop (upto (ends_run q) t) t)) ∙ content_itself q (take (upto (ends_run q) t) t) (drop (upto (ends_run q) t) t) (none_in_cut (ends_run q) t)

@@ -20,9 +20,9 @@ keeps_alike g f (b ∷ p) t u h =
     let whole : Alike g (b ∷ (p ++ t)) (b ∷ (p ++ u)) = after (alike_append g p t u h) in
     (λ e. sym (alike_space g (b ∷ (p ++ t)) (b ∷ (p ++ u)) whole) ∙ e, λ _ e. sym (alike_marker g (b ∷ (p ++ t)) (b ∷ (p ++ u)) whole) ∙ e, keeps_alike g (is_feed b) p t u h)
 
-pub behind_fresh : (s : GapPlace) (g : List ℕ) → at_break (gap_place_after s g) ≡ fresh (at_break s) g
-behind_fresh s [] = refl
-behind_fresh s (b ∷ g) = search (rules, behind_fresh (next_gap_place s b) g)
+pub after_fresh : (s : GapPlace) (g : List ℕ) → at_break (gap_place_after s g) ≡ fresh (at_break s) g
+after_fresh s [] = refl
+after_fresh s (b ∷ g) = search (rules, after_fresh (next_gap_place s b) g)
 
 front_append : (g x y : List ℕ) → front is_feed x ≡ front is_feed y → front is_feed (g ++ x) ≡ front is_feed (g ++ y)
 front_append [] x y h = h
@@ -40,7 +40,7 @@ gap_keeps g b p t u keeps h = record {
   inside = go_front Token g (b ∷ (p ++ t)) (b ∷ (p ++ u)) refl h.inside;
   ends = search (rules, not-true, or_parts, false≢true);
   unmarked = elim (cases_Bool (at_break (gap_place_after Token g))) [
-    | inl e ↦ (let m : is_marker (b ∷ (p ++ t)) ≡ false = rw e at h.unmarked in rw (keeps.1 (sym (behind_fresh Token g) ∙ e) m) (and-false (at_break (gap_place_after Token g))))
+    | inl e ↦ (let m : is_marker (b ∷ (p ++ t)) ≡ false = rw e at h.unmarked in rw (keeps.1 (sym (after_fresh Token g) ∙ e) m) (and-false (at_break (gap_place_after Token g))))
     | inr e ↦ rw e refl
   ];
 }

@@ -25,8 +25,8 @@ none_kept _ _ (colon {t = t} {u = u} x y) (b ∷ g) r e a none_here = absurd (bl
 none_kept _ _ (byte {b = c} {t = t} {u = u} v w x y) (b ∷ g) r e a none_here = absurd (black b c (cc) (or_parts (is_white c) (is_break (c ∷ t)) v).0 a.0.0)
 none_kept _ _ (after {b = c} {t = t} {u = u} h) (b ∷ g) r e a none_here =
     let is : b ≡ c = cc in
-    let behind : t ≡ g ++ r = cc in
-    let again = none_kept t u h g r behind (a.0.1, a.1) none_here in
+    let following : t ≡ g ++ r = cc in
+    let again = none_kept t u h g r following (a.0.1, a.1) none_here in
     record { gap = b ∷ again.gap; rest = again.rest; text = rw (← is) (ap (λ l. b ∷ l) again.text); apart = ((a.0.0, again.apart.0), again.apart.1); none = again.none }
 
 lead_alike : (p t u : List ℕ) → Alike (Some false) t u → IsLead false (begins_content false) p t → IsLead false (begins_content false) p u

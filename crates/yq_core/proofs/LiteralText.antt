@@ -31,8 +31,8 @@ feeds_next : (b c : ℕ) (t : List ℕ) → ends_with nat_eq (b ∷ c ∷ t) fee
 feeds_next b c [] h = search (rules, ⊎_elim, cases_Bool)
 feeds_next b c (x ∷ t) h = sym (ends_next b (c ∷ x ∷ t) feeds (omega arith)) ∙ h
 
-feed_behind : (b c : ℕ) (t : List ℕ) → eqb b 10 ≡ true → ends_with nat_eq (b ∷ c ∷ t) feeds ≡ false → (eqb c 10 ≡ false) ⊎ (is_empty t ≡ false)
-feed_behind b c t h1 h2 = search (rules, false_from_ne_true, eqb-true, false≢true)
+feed_after : (b c : ℕ) (t : List ℕ) → eqb b 10 ≡ true → ends_with nat_eq (b ∷ c ∷ t) feeds ≡ false → (eqb c 10 ≡ false) ⊎ (is_empty t ≡ false)
+feed_after b c t h1 h2 = search (rules, false_from_ne_true, eqb-true, false≢true)
 
 ends_is : (b : ℕ) (s : List ℕ) → NoCr (b ∷ s) → ends_with nat_eq (b ∷ s) feeds ≡ false → (eqb b 10 ≡ false) ⊎ (is_empty s ≡ false) → ends_some (text_lines (b ∷ s)) ≡ true
 unfolding text_lines ends_some
@@ -41,7 +41,7 @@ ends_is b (c ∷ t) n h f =
     let next = feeds_next b c t h in
     let x = some_lines (c ∷ t) (omega arith) in
     ⊎_elim {0, 0, 0}
-    (λ e. rw e (ap (λ ls. ends_some ((b ∷ []) ∷ ls)) x.2 ∙ (ap ends_some (sym x.2) ∙ ends_is c t n.1 next (feed_behind b c t e h))))
+    (λ e. rw e (ap (λ ls. ends_some ((b ∷ []) ∷ ls)) x.2 ∙ (ap ends_some (sym x.2) ∙ ends_is c t n.1 next (feed_after b c t e h))))
     (λ e. rw e (ap (λ ls. ends_some (put_byte b ls)) x.2 ∙ put_some b x.0 x.1 e n.0 (λ k. ap ends_some (sym x.2) ∙ ends_is c t n.1 next (inr (more_lines c t x.0 x.1 x.2 k)))))
     (cases_Bool (eqb b 10))
 
@@ -68,7 +68,7 @@ can_text s h = (and_parts (is_string s.kind && true) (is_literal_text s.text) h)
 pub literal_block : (least m : ℕ) (b : Break) (s : ScalarText) (tail rest : List ℕ) → IsUtf8 s.text →
     can_write s styles.Literal places.Block ≡ true → least ≤ m → is_tail tail ≡ true →
     ends_block false (record { columns = m; known = true }) (text_lines rest) ≡ true → IsBlock least (written_block s.text m (break_text b) tail) rest
-literal_block least m b s tail rest u can le line behind = written_is least m b s.text tail rest (literal_can s.text u (can_text s can)) le line behind
+literal_block least m b s tail rest u can le line after = written_is least m b s.text tail rest (literal_can s.text u (can_text s can)) le line after
 
 pub literal_content : (m : ℕ) (b : Break) (s : ScalarText) (tail : List ℕ) → IsUtf8 s.text → can_write s styles.Literal places.Block ≡ true → block_content (written_block s.text m (break_text b) tail) ≡ s.text
 literal_content m b s tail u can = written_content m b s.text tail (literal_can s.text u (can_text s can))

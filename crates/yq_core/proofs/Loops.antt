@@ -4,7 +4,7 @@ use Rattle.std.{proofs.Common.rules, proofs.lemmas.Option.same_Some, specs.decla
 use Rattle.yq_core.{specs.declared.piece.Piece.Piece, specs.Answers.◌>>=◌, proofs.Bools.bind_some, specs.declared.inline.Inline.Inline}
 use Rattle.yq_core.{specs.Nodes.{begins_with, bare, is_empty_node, node_text}, specs.Places.{Placed, Parts, part, bare_placed}}
 use Rattle.yq_core.{specs.PlacedReading.{placed_node, placed_items, placed_item, placed_entry}, specs.Reading.all_node}
-use Rattle.yq_core.{specs.View.{inline_view, items_view, entries_view, behind_items, behind_entries}, proofs.NodeLaws.all_takes}
+use Rattle.yq_core.{specs.View.{inline_view, items_view, entries_view, after_items, after_entries}, proofs.NodeLaws.all_takes}
 use Rattle.yq_core.{proofs.NodeAgain.item_longer, proofs.Steps.{bare_locate, items_more, entries_more, then_entry}}
 
 -- a node that is something is longer than nothing
@@ -20,14 +20,14 @@ items_push : (is : List Inline) (x : Inline) (rest : Parts) → items_view (is +
 items_push [] x rest = refl
 items_push (y ∷ is) x rest = ap (part None (inline_view y)) (items_push is x rest)
 
-behind_push : (is : List Inline) (x : Inline) (o : Option (Parts × List ℕ)) → behind_items (is ++ x ∷ []) o ≡ behind_items is (o >>= λ y. Some (part None (inline_view x) y.0, y.1))
-behind_push is x (Some y) = ap (λ s. Some (s, y.1)) (items_push is x y.0)
-behind_push is x None = refl
+after_push : (is : List Inline) (x : Inline) (o : Option (Parts × List ℕ)) → after_items (is ++ x ∷ []) o ≡ after_items is (o >>= λ y. Some (part None (inline_view x) y.0, y.1))
+after_push is x (Some y) = ap (λ s. Some (s, y.1)) (items_push is x y.0)
+after_push is x None = refl
 
 -- one item more
 pub items_on : (total d : ℕ) (is items : List Inline) (x : Inline) (t s : List ℕ) (all : Option (Parts × List ℕ)) → begins_with 93 t ≡ false → placed_item total d t ≡ Some (inline_view x, s) →
-    items ≡ is ++ x ∷ [] → behind_items is (placed_items total d 93 t) ≡ all → behind_items items (placed_items total d 93 s) ≡ all
-items_on total d is items x t s all opens item pushed so_far = search (rules, then_entry, items_more, behind_push)
+    items ≡ is ++ x ∷ [] → after_items is (placed_items total d 93 t) ≡ all → after_items items (placed_items total d 93 s) ≡ all
+items_on total d is items x t s all opens item pushed so_far = search (rules, then_entry, items_more, after_push)
 
 abbrev Entry : Type 0
 Entry = String Global × Piece × Inline
@@ -36,10 +36,10 @@ entries_push : (es : List Entry) (e : Entry) (rest : Parts) → entries_view (es
 entries_push [] e rest = refl
 entries_push (y ∷ es) e rest = ap (part (Some (string_bytes y.0, y.1)) (inline_view y.2)) (entries_push es e rest)
 
-behind_entry : (es : List Entry) (e : Entry) (o : Option (Parts × List ℕ)) → behind_entries (es ++ e ∷ []) o ≡ behind_entries es (o >>= λ y. Some (part (Some (string_bytes e.0, e.1)) (inline_view e.2) y.0, y.1))
-behind_entry es e o = search (rules, entries_push)
+after_entry : (es : List Entry) (e : Entry) (o : Option (Parts × List ℕ)) → after_entries (es ++ e ∷ []) o ≡ after_entries es (o >>= λ y. Some (part (Some (string_bytes e.0, e.1)) (inline_view e.2) y.0, y.1))
+after_entry es e o = search (rules, entries_push)
 
 -- one entry more
 pub entries_on : (total d : ℕ) (es entries : List Entry) (e : Entry) (t s : List ℕ) (all : Option (Parts × List ℕ)) → begins_with 125 t ≡ false → placed_entry total d t ≡ Some (((string_bytes e.0, e.1), inline_view e.2), s) →
-    entries ≡ es ++ e ∷ [] → behind_entries es (placed_items total d 125 t) ≡ all → behind_entries entries (placed_items total d 125 s) ≡ all
-entries_on total d es entries e t s all opens entry pushed so_far = search (rules, then_entry, string_bytes, entries_more, behind_entry)
+    entries ≡ es ++ e ∷ [] → after_entries es (placed_items total d 125 t) ≡ all → after_entries entries (placed_items total d 125 s) ≡ all
+entries_on total d es entries e t s all opens entry pushed so_far = search (rules, then_entry, string_bytes, entries_more, after_entry)

@@ -35,20 +35,20 @@ mutual
   items_inside total k none rest from h f = omega (arith, h, f)
   items_inside total k (item key n s is) rest from h f =
       let tail : List ℕ = flow_items_text k is rest in
-      let behind : List ℕ = sep_text s tail in
-      let keyed_ = key_longer key (node_text n behind) in
-      let noded = node_longer n behind in
+      let after : List ℕ = sep_text s tail in
+      let keyed_ = key_longer key (node_text n after) in
+      let noded = node_longer n after in
       let sepped = sep_longer s tail in
-      let z : EntryPieces = record { key = key; node = n; rest = behind } in (
+      let z : EntryPieces = record { key = key; node = n; rest = after } in (
         subst (λ at. from ≤ at) (sym (entry_placed total z)) f,
-        key_before total key n behind h,
-        node_nested total n behind (omega (arith, h, keyed_)),
-        items_inside total k is rest (end_of (locate total n behind)) (omega (arith, h, keyed_, noded, sepped)) (subst (λ at. at ≤ total - length tail) (sym (end_placed total n behind)) (omega (arith, h, keyed_, noded, sepped))),
+        key_before total key n after h,
+        node_nested total n after (omega (arith, h, keyed_)),
+        items_inside total k is rest (end_of (locate total n after)) (omega (arith, h, keyed_, noded, sepped)) (subst (λ at. at ≤ total - length tail) (sym (end_placed total n after)) (omega (arith, h, keyed_, noded, sepped))),
       )
 
 -- the node at an offset of a text
 inline_nested : (place : Place) (n : ℤ) (depth at : ℕ) (t : List ℕ) (p : Placed) → IsInlineAt place n depth at t p → IsNested p
-inline_nested place n depth at t p h = subst IsNested (sym h.places) (node_nested (length t) h.node h.rest (omega (arith, ap length h.stands, length-drop at t)))
+inline_nested place n depth at t p h = subst IsNested (sym h.places) (node_nested (length t) h.node h.rest (omega (arith, ap length h.is_located, length-drop at t)))
 
 pub nested_by : {X : Type 0} (v : X → Placed) (place : Place) (n : ℤ) (depth at : ℕ) (t : List ℕ) (r : Result X ReadError) → Gives v r (inline_at place n depth at t) → IfOk r (λ x. IsNested (v x))
 nested_by v place n depth at t (Ok x) h = inline_nested place n depth at t (v x) (inline_takes place n depth at t (v x) h)

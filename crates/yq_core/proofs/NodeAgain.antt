@@ -143,13 +143,13 @@ mutual
   items_again none (suc n) d k rest c h short = rw (eq-eqb k k refl) refl
   items_again (item key node s is) (suc n) d k rest c h short =
       let tail : List ℕ = flow_items_text k is rest in
-      let behind : List ℕ = sep_text s tail in
-      let inner : List ℕ = node_text node behind in
-      let longer = item_longer true (Some 0) d key node behind h.1 h.2 in
+      let after : List ℕ = sep_text s tail in
+      let inner : List ℕ = node_text node after in
+      let longer = item_longer true (Some 0) d key node after h.1 h.2 in
       let tail_short = sep_longer s tail in
       let inner_short = key_longer key inner in
-      rw (item_front true (Some 0) d k key node behind c h.1 h.0 h.2)
+      rw (item_front true (Some 0) d k key node after c h.1 h.0 h.2)
       (ap (λ o. o >>= λ key. read_node true (Some 0) (kids_by n d) key.1 >>= λ node. cond (is_keyed key.0 || not (is_empty_node node.0))
       (sep_at k node.1) None >>= λ sep. items_at n d k sep.1 >>= λ rest. Some (item key.0 node.0 sep.0 rest.0, rest.1))
       (key_in_again k key inner h.0)
-      ∙ rw (node_again true (Some 0) node n d behind h.2 (omega arith)) (rw h.1 (rw (sep_again k s tail (close_letter k c).1 h.3) (rw (items_again is n d k rest c h.4 (omega arith)) refl))))
+      ∙ rw (node_again true (Some 0) node n d after h.2 (omega arith)) (rw h.1 (rw (sep_again k s tail (close_letter k c).1 h.3) (rw (items_again is n d k rest c h.4 (omega arith)) refl))))

@@ -44,15 +44,15 @@ name_fresh : (f : Bool) (n r : List ℕ) → NoneIn (unless in_name) n r → f �
 name_fresh f [] r h e = e
 name_fresh f (b ∷ n) r h e = name_fresh (is_feed b) n r h.1 (at_byte in_name b 10 (not-false (in_name b) h.0) refl)
 
-name_behind : (k : ℕ) (n g : List ℕ) (node : FlowNode) (t u : List ℕ) → is_close k ≡ true → EndsItem k u → (is_empty_node node || not (is_empty g)) ≡ true → IsName n (g ++ node_text node t) → IsName n (g ++ node_text node u)
-name_behind k n [] node t u c d a h = name_by n (node_text node t) (node_text node u) (subst (λ (l : List ℕ). unless in_name l ≡ true) (sym (bare_text node u (or_left_true (is_empty_node node) false refl a))) (ends_name k u c d)) h
-name_behind k n (b ∷ g) node t u c d a h = name_by n (b ∷ (g ++ node_text node t)) (b ∷ (g ++ node_text node u)) h.ends h
+name_after : (k : ℕ) (n g : List ℕ) (node : FlowNode) (t u : List ℕ) → is_close k ≡ true → EndsItem k u → (is_empty_node node || not (is_empty g)) ≡ true → IsName n (g ++ node_text node t) → IsName n (g ++ node_text node u)
+name_after k n [] node t u c d a h = name_by n (node_text node t) (node_text node u) (subst (λ (l : List ℕ). unless in_name l ≡ true) (sym (bare_text node u (or_left_true (is_empty_node node) false refl a))) (ends_name k u c d)) h
+name_after k n (b ∷ g) node t u c d a h = name_by n (b ∷ (g ++ node_text node t)) (b ∷ (g ++ node_text node u)) h.ends h
 
-lead_behind : (k d : ℕ) (g : List ℕ) (node : FlowNode) (t u : List ℕ) → is_close k ≡ true → EndsItem k t → EndsItem k u →
+lead_after : (k d : ℕ) (g : List ℕ) (node : FlowNode) (t u : List ℕ) → is_close k ≡ true → EndsItem k t → EndsItem k u →
     KeepsApart (fresh false g) (node_text node []) t u → takes_anchor node ≡ true → IsFlowNode true (Some 0) d node t →
     IsFlowNode true (Some 0) d node u →
     IsLead true (begins_content true) g (node_text node t) → IsLead true (begins_content true) g (node_text node u)
-lead_behind k d g node t u c e h keeps a x y lead = elim (cases_Bool (is_empty_node node)) [
+lead_after k d g node t u c e h keeps a x y lead = elim (cases_Bool (is_empty_node node)) [
   | inl z ↦ (let no : begins_content true t ≡ false = (or_parts (begins_with 38 t) (begins_content true t) (ends_node k t c e)).1 in
       let none_ : g ≡ [] = lead_none (begins_content true) g t no (subst (λ (l : List ℕ). IsLead true (begins_content true) g l) (bare_text node t z) lead) in
       subst (λ (l : List ℕ). IsLead true (begins_content true) l (node_text node u)) (sym none_)
@@ -76,7 +76,7 @@ mutual
       (subst (λ (l : Bool). KeepsApart l (g ++ node_text node []) t u) (name_fresh false n (g ++ node_text node t) x.0.inside refl)
       (keeps_append n false (g ++ node_text node []) t u keeps.2)) in
       let new = node_keeps k node d (fresh false g) t u c e h inner x.4 in
-      (name_behind k n g node t u c h x.2 x.0, lead_behind k d g node t u c e h inner x.3 x.4 new x.1, x.2, x.3, new)
+      (name_after k n g node t u c h x.2 x.0, lead_after k d g node t u c e h inner x.3 x.4 new x.1, x.2, x.3, new)
 
   -- nothing is asked of what comes after the closing bracket
   pub items_any : (is : Items) (d k : ℕ) (t u : List ℕ) → is_close k ≡ true → AreFlowItems d k is t → AreFlowItems d k is u

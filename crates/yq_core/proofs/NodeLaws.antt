@@ -10,8 +10,8 @@ use Rattle.yq_core.proofs.NodesPieceLaws.{name_takes, lead_takes, sep_takes}
 use Rattle.yq_core.proofs.NodeTakes.{node_takes, items_takes, kids_take, key_in, key_in_takes}
 use Rattle.yq_core.proofs.NodeAgain.{sep_longer, key_longer, item_longer, kids_by, node_again}
 
-pub behind : (t a b : List ℕ) → t ≡ a ++ b → length b ≤ length t
-behind t a b h = rw h (omega (arith, length-append a b))
+pub after : (t a b : List ℕ) → t ≡ a ++ b → length b ≤ length t
+after t a b h = rw h (omega (arith, length-append a b))
 
 abbrev pub Same : Kids → Kids → ℕ → Type 0
 Same kids others n = (k : ℕ) (r : List ℕ) → length r < n → kids k r ≡ others k r
@@ -20,7 +20,7 @@ coll_same : (kids others : Kids) (k n : ℕ) (t : List ℕ) → length t < n →
 unfolding read_collection
 coll_same kids others k n t short h =
     bind_same (λ gap. kids k gap.1 >>= λ items. Some (coll k gap.0 items.0, items.1)) (λ gap. others k gap.1 >>= λ items. Some (coll k gap.0 items.0, items.1)) (read_gap t)
-    (λ gap e. ap (λ o. o >>= λ items. Some (coll k gap.0 items.0, items.1)) (h k gap.1 (omega (arith, behind t gap.0 gap.1 (gap_takes t gap e).0))))
+    (λ gap e. ap (λ o. o >>= λ items. Some (coll k gap.0 items.0, items.1)) (h k gap.1 (omega (arith, after t gap.0 gap.1 (gap_takes t gap e).0))))
 
 content_same : (flow : Bool) (spaces : Option ℕ) (kids others : Kids) (t : List ℕ) → Same kids others (length t) → read_core flow spaces kids t ≡ read_core flow spaces others t
 unfolding read_core
@@ -37,8 +37,8 @@ node_same flow spaces kids others (b ∷ t) h =
     let one = bind_same (λ name. lead_at flow (begins_content flow) name.1 >>= after_gap flow spaces kids name.0) (λ name. lead_at flow (begins_content flow) name.1 >>= after_gap flow spaces others name.0) (name_at t)
     (λ name e. bind_same (after_gap flow spaces kids name.0) (after_gap flow spaces others name.0) (lead_at flow (begins_content flow) name.1)
     (λ gap f.
-    let a = behind t name.0 name.1 (name_takes t name e).0 in
-    let c = behind name.1 gap.0 gap.1 (lead_takes flow (begins_content flow) name.1 gap f).0 in
+    let a = after t name.0 name.1 (name_takes t name e).0 in
+    let c = after name.1 gap.0 gap.1 (lead_takes flow (begins_content flow) name.1 gap f).0 in
     ap (λ o. o >>= λ node. cond ((is_empty_node node.0 || not (is_empty gap.0)) && takes_anchor node.0) (Some (anchored name.0 gap.0 node.0, node.1)) None)
     (content_same flow spaces kids others gap.1 (λ k r short. h k r (omega arith))))) in
     ap (λ o. cond (eqb b 38) o (read_core flow spaces kids s)) one
@@ -46,14 +46,14 @@ node_same flow spaces kids others (b ∷ t) h =
     (content_same flow spaces kids others s h)
 
 -- one item and those after it
-abbrev pub behind_sep : ℕ → ℕ → ℕ → Key → FlowNode → Sep × List ℕ → Option (Items × List ℕ)
-behind_sep n d k key node sep = items_at n d k sep.1 >>= λ rest. Some (item key node sep.0 rest.0, rest.1)
+abbrev pub after_sep : ℕ → ℕ → ℕ → Key → FlowNode → Sep × List ℕ → Option (Items × List ℕ)
+after_sep n d k key node sep = items_at n d k sep.1 >>= λ rest. Some (item key node sep.0 rest.0, rest.1)
 
-abbrev pub behind_node : ℕ → ℕ → ℕ → Key → FlowNode × List ℕ → Option (Items × List ℕ)
-behind_node n d k key node = cond (is_keyed key || not (is_empty_node node.0)) (sep_at k node.1) None >>= behind_sep n d k key node.0
+abbrev pub text_after_node : ℕ → ℕ → ℕ → Key → FlowNode × List ℕ → Option (Items × List ℕ)
+text_after_node n d k key node = cond (is_keyed key || not (is_empty_node node.0)) (sep_at k node.1) None >>= after_sep n d k key node.0
 
-abbrev pub behind_key : ℕ → ℕ → ℕ → Key × List ℕ → Option (Items × List ℕ)
-behind_key n d k key = read_node true (Some 0) (kids_by n d) key.1 >>= behind_node n d k key.0
+abbrev pub after_key : ℕ → ℕ → ℕ → Key × List ℕ → Option (Items × List ℕ)
+after_key n d k key = read_node true (Some 0) (kids_by n d) key.1 >>= text_after_node n d k key.0
 
 -- what is left after an item is shorter
 pub left : (n d k : ℕ) (t : List ℕ) (key : Key × List ℕ) (node : FlowNode × List ℕ) (sep : Sep × List ℕ) →
@@ -73,12 +73,12 @@ pub items_fuel : (n m d k : ℕ) (t : List ℕ) → length t < n → length t < 
 unfolding items_at
 items_fuel (suc n) (suc m) d k t a b =
     ap (λ o. cond (begins_with k t) (Some (none, drop 1 t)) o)
-    (bind_same (behind_key n d k) (behind_key m d k) (key_in k t) (λ key e.
-    let short = behind t [] key.1 in
+    (bind_same (after_key n d k) (after_key m d k) (key_in k t) (λ key e.
+    let short = after t [] key.1 in
     let shorter : length key.1 ≤ length t = rw (key_in_takes k t key e).0 (key_longer key.0 key.1) in
-    ap (λ o. o >>= behind_node n d k key.0) (node_same true (Some 0) (kids_by n d) (kids_by m d) key.1 (λ j r less. deeper_same d _ _ (λ e. items_fuel n m e j r (omega arith) (omega arith))))
-    ∙ bind_same (behind_node n d k key.0) (behind_node m d k key.0) (read_node true (Some 0) (kids_by m d) key.1) (λ node f.
-    bind_same (behind_sep n d k key.0 node.0) (behind_sep m d k key.0 node.0) (cond (is_keyed key.0 || not (is_empty_node node.0)) (sep_at k node.1) None) (λ sep g.
+    ap (λ o. o >>= text_after_node n d k key.0) (node_same true (Some 0) (kids_by n d) (kids_by m d) key.1 (λ j r less. deeper_same d _ _ (λ e. items_fuel n m e j r (omega arith) (omega arith))))
+    ∙ bind_same (text_after_node n d k key.0) (text_after_node m d k key.0) (read_node true (Some 0) (kids_by m d) key.1) (λ node f.
+    bind_same (after_sep n d k key.0 node.0) (after_sep m d k key.0 node.0) (cond (is_keyed key.0 || not (is_empty_node node.0)) (sep_at k node.1) None) (λ sep g.
     let less = left m d k t key node sep e f g in
     ap (λ o. o >>= λ rest. Some (item key.0 node.0 sep.0 rest.0, rest.1)) (items_fuel n m d k sep.1 (omega arith) (omega arith))))))
 items_fuel _ _ d k t a b = absurd (omega arith)
@@ -100,12 +100,12 @@ then_node d k key = all_node true (Some 0) d key.1 >>= then_sep d k key.0
 pub items_step : (d k : ℕ) (t : List ℕ) → begins_with k t ≡ false → all_items d k t ≡ (key_in k t >>= then_node d k)
 unfolding items_at
 items_step d k t h = rw h
-    (bind_same (behind_key (length t) d k) (then_node d k) (key_in k t) (λ key e.
+    (bind_same (after_key (length t) d k) (then_node d k) (key_in k t) (λ key e.
     let shorter : length key.1 ≤ length t = rw (key_in_takes k t key e).0 (key_longer key.0 key.1) in
     let n : ℕ = length t in
     let same : read_node true (Some 0) (kids_by n d) key.1 ≡ all_node true (Some 0) d key.1 = kids_enough true (Some 0) n d key.1 shorter in
-    bind_same (behind_node n d k key.0) (then_sep d k key.0) (read_node true (Some 0) (kids_by n d) key.1) (λ node f.
-    bind_same (behind_sep n d k key.0 node.0) (then_items d k key.0 node.0) (cond (is_keyed key.0 || not (is_empty_node node.0)) (sep_at k node.1) None) (λ sep g.
+    bind_same (text_after_node n d k key.0) (then_sep d k key.0) (read_node true (Some 0) (kids_by n d) key.1) (λ node f.
+    bind_same (after_sep n d k key.0 node.0) (then_items d k key.0 node.0) (cond (is_keyed key.0 || not (is_empty_node node.0)) (sep_at k node.1) None) (λ sep g.
     let less = left n d k t key node sep e f g in
     ap (λ o. o >>= λ rest. Some (item key.0 node.0 sep.0 rest.0, rest.1)) (items_fuel n (suc (length sep.1)) d k sep.1 less (omega arith))))
     ∙ ap (λ o. o >>= then_sep d k key.0) same))

@@ -62,10 +62,10 @@ node_takes flow spaces kids d t x take_kids h = ⊎_elim {0, 0, 0}
     let a = name_takes (drop 1 t) name.0 name.1 in
     let b = lead_takes flow (begins_content flow) name.0.1 gap.0 gap.1 in
     let c = content_takes flow spaces kids d gap.0.1 node.0 take_kids (lead_amp flow name.0.1 gap.0.0 gap.0.1 a.1.ends b.0 b.1) node.1 in
-    let behind : name.0.1 ≡ gap.0.0 ++ node_text node.0.0 node.0.1 = b.0 ∙ ap (λ l. gap.0.0 ++ l) c.0 in
+    let after : name.0.1 ≡ gap.0.0 ++ node_text node.0.0 node.0.1 = b.0 ∙ ap (λ l. gap.0.0 ++ l) c.0 in
     subst (Nodal flow spaces d t) tests.1 (
-      front_is 38 t e.0 ∙ ap (λ l. 38 ∷ l) (a.0 ∙ ap (λ l. name.0.0 ++ l) behind),
-      (subst (IsName name.0.0) behind a.1, subst (IsLead flow (begins_content flow) gap.0.0) c.0 b.1, both.0, both.1, c.1),
+      front_is 38 t e.0 ∙ ap (λ l. 38 ∷ l) (a.0 ∙ ap (λ l. name.0.0 ++ l) after),
+      (subst (IsName name.0.0) after a.1, subst (IsLead flow (begins_content flow) gap.0.0) c.0 b.1, both.0, both.1, c.1),
     ))
     (λ e. content_takes flow spaces kids d t x take_kids e.0 e.1)
     (chosen (begins_with 38 t) h)
@@ -100,10 +100,10 @@ items_takes (suc n) d k t x h = ⊎_elim {0, 0, 0}
     let b = node_takes true (Some 0) kids d key.0.1 node.0 (kids_take n d (items_takes n)) node.1 in
     let c = sep_takes k node.0.1 sep.0 some.1 in
     let r = items_takes n d k sep.0.1 rest.0 rest.1 in
-    let behind : node.0.1 ≡ sep_text sep.0.0 (flow_items_text k rest.0.0 rest.0.1) = c.0 ∙ ap (sep_text sep.0.0) r.0 in
-    let inner : key.0.1 ≡ node_text node.0.0 (sep_text sep.0.0 (flow_items_text k rest.0.0 rest.0.1)) = b.0 ∙ ap (node_text node.0.0) behind in
+    let after : node.0.1 ≡ sep_text sep.0.0 (flow_items_text k rest.0.0 rest.0.1) = c.0 ∙ ap (sep_text sep.0.0) r.0 in
+    let inner : key.0.1 ≡ node_text node.0.0 (sep_text sep.0.0 (flow_items_text k rest.0.0 rest.0.1)) = b.0 ∙ ap (node_text node.0.0) after in
     subst (Inside d k t) (same_Some _ _ rest.2) (
       a.0 ∙ ap (key_text key.0.0) inner,
-      (subst (IsInlineKey k key.0.0) inner a.1, some.0, subst (IsFlowNode true (Some 0) d node.0.0) behind b.1, subst (IsSep k sep.0.0) r.0 c.1, r.1),
+      (subst (IsInlineKey k key.0.0) inner a.1, some.0, subst (IsFlowNode true (Some 0) d node.0.0) after b.1, subst (IsSep k sep.0.0) r.0 c.1, r.1),
     ))
     (chosen (begins_with k t) h)

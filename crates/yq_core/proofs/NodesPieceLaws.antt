@@ -9,7 +9,7 @@ use Rattle.yq_core.{proofs.Upto.{upto_ends, none_in_cut, cut-append, cut_takes},
 use Rattle.yq_core.specs.Nodes.{Key, Sep, key_text, sep_text, begins_with, in_name, begins_node, IsApart, IsLead, IsName, ends_key}
 use Rattle.yq_core.specs.Nodes.{IsInlineKey, IsSep, is_keyed}
 use Rattle.yq_core.specs.Reading.{read_gap, read_scalar, with_its_lines, name_at, apart_at, lead_at, after_colon, read_flow_key, sep_at}
-use Rattle.yq_core.{specs.Reading.sep_behind, specs.Scalars.{is_quoted, has_its_lines, IsScalarAt, begins_scalar}, proofs.Binds.not_then}
+use Rattle.yq_core.{specs.Reading.sep_after, specs.Scalars.{is_quoted, has_its_lines, IsScalarAt, begins_scalar}, proofs.Binds.not_then}
 use Rattle.yq_core.proofs.GapLaws.{gap_takes, gap_again}
 
 -- a text that passes a test begins with no byte after which each text fails it
@@ -106,10 +106,10 @@ key_takes t x h =
     let b = gap_takes key.0.1 before.0 before.1 in
     let c = colon_takes key.0.0 before.0.1 rest.0 rest.1 in
     let d = lead_takes true (begins_node true) rest.0 gap.0 gap.1 in
-    let behind : before.0.1 ≡ 58 ∷ (gap.0.0 ++ gap.0.1) = c.0 ∙ ap (λ l. 58 ∷ l) d.0 in
-    let all : key.0.1 ≡ before.0.0 ++ (58 ∷ (gap.0.0 ++ gap.0.1)) = b.0 ∙ ap (λ l. before.0.0 ++ l) behind in
+    let after : before.0.1 ≡ 58 ∷ (gap.0.0 ++ gap.0.1) = c.0 ∙ ap (λ l. 58 ∷ l) d.0 in
+    let all : key.0.1 ≡ before.0.0 ++ (58 ∷ (gap.0.0 ++ gap.0.1)) = b.0 ∙ ap (λ l. before.0.0 ++ l) after in
     subst (λ (y : Key × List ℕ). (t ≡ key_text y.0 y.1) × IsInlineKey 125 y.0 y.1) (same_Some _ _ gap.2)
-    (a.0 ∙ ap (λ l. key.0.0 ++ l) all, (refl, subst (IsScalarAt true None key.0.0) all a.1, subst (IsInlineGap before.0.0) behind b.1, subst (λ (r : List ℕ). ends_key key.0.0 r ≡ true) d.0 c.1, d.1))
+    (a.0 ∙ ap (λ l. key.0.0 ++ l) all, (refl, subst (IsScalarAt true None key.0.0) all a.1, subst (IsInlineGap before.0.0) after b.1, subst (λ (r : List ℕ). ends_key key.0.0 r ≡ true) d.0 c.1, d.1))
 
 pub key_again : (key : Key) (rest : List ℕ) → is_keyed key ≡ true → IsInlineKey 125 key rest → read_flow_key (key_text key rest) ≡ Some (key, rest)
 unfolding read_flow_key after_colon
@@ -119,8 +119,8 @@ key_again key rest h1 h2 = search (rules, false≢true, scalar_again, gap_again,
 abbrev Sepd : ℕ → List ℕ → Sep × List ℕ → Type 0
 Sepd k t y = (t ≡ sep_text y.0 y.1) × IsSep k y.0 y.1
 
-sep_by : (k : ℕ) (t : List ℕ) (g : List ℕ × List ℕ) (x : Sep × List ℕ) → t ≡ g.0 ++ g.1 → IsInlineGap g.0 g.1 → sep_behind k g.0 g.1 ≡ Some x → Sepd k t x
-unfolding sep_behind
+sep_by : (k : ℕ) (t : List ℕ) (g : List ℕ × List ℕ) (x : Sep × List ℕ) → t ≡ g.0 ++ g.1 → IsInlineGap g.0 g.1 → sep_after k g.0 g.1 ≡ Some x → Sepd k t x
+unfolding sep_after
 sep_by k t g x is gap h = ⊎_elim {0, 0, 0}
     (λ e.
     let b = bind_some (read_gap (drop 1 g.1)) e.1 in
@@ -138,5 +138,5 @@ sep_takes k t x h =
     sep_by k t g.0 x gap.0 gap.1 g.2
 
 pub sep_again : (k : ℕ) (s : Sep) (rest : List ℕ) → eqb k 44 ≡ false → IsSep k s rest → sep_at k (sep_text s rest) ≡ Some (s, rest)
-unfolding sep_at sep_behind
+unfolding sep_at sep_after
 sep_again k s rest e h = search (rules, gap_again)

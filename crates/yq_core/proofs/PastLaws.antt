@@ -51,8 +51,8 @@ lead_past flow begins g r h u = search (rules, apart_past)
 pub key_past : (k : ℕ) (key : Key) (r : List ℕ) → IsInlineKey k key r → IsUtf8 (key_text key r) → IsUtf8 r
 key_past k bare r h u = u
 key_past k (keyed t b g) r h u =
-    let behind = scalar_past true None t (b ++ (58 ∷ (g ++ r))) h.1 u in
-    let colon = gap_past b (58 ∷ (g ++ r)) h.2 behind in
+    let after = scalar_past true None t (b ++ (58 ∷ (g ++ r))) h.1 u in
+    let colon = gap_past b (58 ∷ (g ++ r)) h.2 after in
     lead_past true (begins_node true) g r h.4 (byte_past 58 (g ++ r) (omega arith) colon)
 
 pub sep_past : (k : ℕ) (s : Sep) (r : List ℕ) → IsSep k s r → IsUtf8 (sep_text s r) → IsUtf8 r
@@ -76,12 +76,12 @@ mutual
   node_past flow spaces (coll k g is) (suc d) rest h u =
       items_past k is d rest h.0 h.2 (gap_past g (flow_items_text k is rest) h.1 (byte_past (opening_bracket k) (g ++ flow_items_text k is rest) (open_low k) u))
   node_past flow spaces (anchored n g node) d rest h u =
-      let behind = name_past n (g ++ node_text node rest) h.0 (byte_past 38 (n ++ (g ++ node_text node rest)) (omega arith) u) in
-      node_past flow spaces node d rest h.4 (lead_past flow (begins_content flow) g (node_text node rest) h.1 behind)
+      let after = name_past n (g ++ node_text node rest) h.0 (byte_past 38 (n ++ (g ++ node_text node rest)) (omega arith) u) in
+      node_past flow spaces node d rest h.4 (lead_past flow (begins_content flow) g (node_text node rest) h.1 after)
 
   pub items_past : (k : ℕ) (is : Items) (d : ℕ) (rest : List ℕ) → is_close k ≡ true → AreFlowItems d k is rest → IsUtf8 (flow_items_text k is rest) → IsUtf8 rest
   items_past k none d rest c h u = byte_past k rest (close_low k c) u
   items_past k (item key n s is) d rest c h u =
       let inner = key_past k key (node_text n (sep_text s (flow_items_text k is rest))) h.0 u in
-      let behind = node_past true (Some 0) n d (sep_text s (flow_items_text k is rest)) h.2 inner in
-      items_past k is d rest c h.4 (sep_past k s (flow_items_text k is rest) h.3 behind)
+      let after = node_past true (Some 0) n d (sep_text s (flow_items_text k is rest)) h.2 inner in
+      items_past k is d rest c h.4 (sep_past k s (flow_items_text k is rest) h.3 after)

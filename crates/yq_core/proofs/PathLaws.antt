@@ -4,7 +4,7 @@ use Rattle.std.{proofs.Common.{option_map, option_and_then, refl, sym, ap, ◌�
 use Rattle.yq_core.{specs.Paths.{Step, is_here, further, child_at, node_at}, specs.Tree.{children_of, key_label}}
 use Rattle.yq_core.specs.Nodes.{FlowNode, coll, anchored, Items, none, item, node_text, flow_items_text, opening_bracket, IsFlowNode}
 use Rattle.yq_core.specs.Nodes.{AreFlowItems}
-use Rattle.yq_core.specs.Entries.{PlacedEntry, EntryPieces, StandsIn, parts_in, parts_of, flow_part_at, placed_entry_at, pieces_text}
+use Rattle.yq_core.specs.Entries.{PlacedEntry, EntryPieces, IsEntryInText, parts_in, parts_of, flow_part_at, placed_entry_at, pieces_text}
 use Rattle.yq_core.specs.Entries.{locate_entry, item_at, path_inside, entry_pieces_at}
 use Rattle.yq_core.specs.Places.{Placed, placed, sequence, mapping, holder, anchored_node, Parts, end, part, locate, locate_items}
 use Rattle.yq_core.{specs.Trees.{with_anchor_name, unplaced_key, placed_tree, parts_tree}, proofs.TreeLaws.key_tree}
@@ -67,30 +67,30 @@ path_places total [] x = refl
 path_places total (s ∷ ss) x = search (rules, inside_place, then_places, path_places total ss)
 
 -- in the text
-behind : (t u p : List ℕ) (x : EntryPieces) → t ≡ p ++ u → StandsIn u x → StandsIn t x
-behind t u p x is h = record { before = p ++ h.before; text = is ∙ (ap (λ l. p ++ l) h.text ∙ sym (append_assoc p h.before (pieces_text x))) }
+after : (t u p : List ℕ) (x : EntryPieces) → t ≡ p ++ u → IsEntryInText u x → IsEntryInText t x
+after t u p x is h = record { before = p ++ h.before; text = is ∙ (ap (λ l. p ++ l) h.text ∙ sym (append_assoc p h.before (pieces_text x))) }
 
-items_stand : (k : ℕ) (s : Step) (is : Items) (rest : List ℕ) (x : EntryPieces) → item_at k s is rest ≡ Some x → StandsIn (flow_items_text k is rest) x
+items_are_there : (k : ℕ) (s : Step) (is : Items) (rest : List ℕ) (x : EntryPieces) → item_at k s is rest ≡ Some x → IsEntryInText (flow_items_text k is rest) x
 unfolding flow_items_text
-items_stand k s none rest x h = cc
-items_stand k s (item key n sep is) rest x h = search (rules, sep_append, node_append, key_append, same_Some, behind, items_stand k (further s) is rest x)
+items_are_there k s none rest x h = cc
+items_are_there k s (item key n sep is) rest x h = search (rules, sep_append, node_append, key_append, same_Some, after, items_are_there k (further s) is rest x)
 
-inside_stands : (s : Step) (node : FlowNode) (rest : List ℕ) (x : EntryPieces) → path_inside s node rest ≡ Some x → StandsIn (node_text node rest) x
+inside_is_there : (s : Step) (node : FlowNode) (rest : List ℕ) (x : EntryPieces) → path_inside s node rest ≡ Some x → IsEntryInText (node_text node rest) x
 unfolding node_text
-inside_stands s (coll k g is) rest x h = behind (opening_bracket k ∷ (g ++ flow_items_text k is rest)) (flow_items_text k is rest) (opening_bracket k ∷ g) x refl (items_stand k s is rest x h)
-inside_stands s (anchored n g node) rest x h =
-    behind (38 ∷ (n ++ (g ++ node_text node rest))) (node_text node rest) (38 ∷ (n ++ g)) x (ap (λ l. 38 ∷ l) (sym (append_assoc n g (node_text node rest)))) (inside_stands s node rest x h)
-inside_stands s _ rest x h = cc
+inside_is_there s (coll k g is) rest x h = after (opening_bracket k ∷ (g ++ flow_items_text k is rest)) (flow_items_text k is rest) (opening_bracket k ∷ g) x refl (items_are_there k s is rest x h)
+inside_is_there s (anchored n g node) rest x h =
+    after (38 ∷ (n ++ (g ++ node_text node rest))) (node_text node rest) (38 ∷ (n ++ g)) x (ap (λ l. 38 ∷ l) (sym (append_assoc n g (node_text node rest)))) (inside_is_there s node rest x h)
+inside_is_there s _ rest x h = cc
 
 pub then_some : {A B : Type 0} {f : A → Option B} {y : B} (o : Option A) → option_and_then f o ≡ Some y → (x : A) × (o ≡ Some x) × (f x ≡ Some y)
 then_some o h = search rules
 
-pub path_stands : (ss : List Step) (x y : EntryPieces) → entry_pieces_at ss x ≡ Some y → StandsIn (pieces_text x) y
-path_stands [] x y h = record { before = []; text = ap pieces_text (same_Some _ _ h) }
-path_stands (s ∷ ss) x y h =
+pub path_is_there : (ss : List Step) (x y : EntryPieces) → entry_pieces_at ss x ≡ Some y → IsEntryInText (pieces_text x) y
+path_is_there [] x y h = record { before = []; text = ap pieces_text (same_Some _ _ h) }
+path_is_there (s ∷ ss) x y h =
     let z = then_some (path_inside s x.node x.rest) h in
-    let first = inside_stands s x.node x.rest z.0 z.1 in
-    search (rules, behind, key_append, path_stands ss z.0 y z.2)
+    let first = inside_is_there s x.node x.rest z.0 z.1 in
+    search (rules, after, key_append, path_is_there ss z.0 y z.2)
 
 -- and is a node there
 pub items_hold : (d k : ℕ) (s : Step) (is : Items) (rest : List ℕ) (x : EntryPieces) → AreFlowItems d k is rest → item_at k s is rest ≡ Some x → IsFlowNode true (Some 0) d x.node x.rest

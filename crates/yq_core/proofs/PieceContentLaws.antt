@@ -16,7 +16,7 @@ use Rattle.yq_core.specs.declared.style.Style.TheVariants as styles
 pub record Scalar (text : List ℕ) (p : Piece) : Type 0 where
   pub scalar : List ℕ
   pub rest : List ℕ
-  pub stands : drop p.start text ≡ scalar ++ rest
+  pub is_located : drop p.start text ≡ scalar ++ rest
   pub size : p.end ≡ p.start + length scalar
   pub cut : IsUtf8 (scalar ++ rest) → IsCharBoundary (scalar ++ rest) (length scalar)
 
@@ -27,14 +27,14 @@ plain_scalar place n at text p h =
     let whole : Scalar text (inline_piece styles.Plain at (at + length h.scalar)) = record {
       scalar = h.scalar;
       rest = h.rest;
-      stands = h.stands;
+      is_located = h.is_located;
       size = refl;
       cut = λ _. boundary_plain flow spaces (h.scalar ++ h.rest) (length h.scalar) (sym (upto-append (ends_plain flow spaces) h.scalar h.rest h.plain.inside h.plain.ends));
     } in
     subst (λ (q : Piece). Scalar text q) (sym h.piece) whole
 
-behind_quote : (q : ℕ) (ls : QuotedLines) (piece rest : List ℕ) → IsQuoted q ls piece rest → IsUtf8 (piece ++ rest) → IsCharBoundary (piece ++ rest) (length piece)
-behind_quote q ls piece rest is u =
+after_quote : (q : ℕ) (ls : QuotedLines) (piece rest : List ℕ) → IsQuoted q ls piece rest → IsUtf8 (piece ++ rest) → IsCharBoundary (piece ++ rest) (length piece)
+after_quote q ls piece rest is u =
     let front = q ∷ spell_lines ls in
     let low : q < 128 = of_quotes (λ x. x < 128) q is.quotes (omega arith) (omega arith) in
     let size : length piece ≡ length front + 1 = ap length is.spelled ∙ length-append front (q ∷ []) in
@@ -43,7 +43,7 @@ behind_quote q ls piece rest is u =
     subst (λ (k : ℕ). IsCharBoundary (piece ++ rest) k) (sym size) (IsCharBoundary-after_ascii (piece ++ rest) (length front) u within (omega (arith, here, low)))
 
 quoted_scalar : (at : ℕ) (text : List ℕ) (p : Piece) → IsQuotedPiece at text p → Scalar text p
-quoted_scalar at text p h = search (rules, behind_quote)
+quoted_scalar at text p h = search (rules, after_quote)
 
 pub scalar_of : (text : List ℕ) (p : Piece) → IsInlineScalar text p → Scalar text p
 scalar_of text p h = elim h.piece [

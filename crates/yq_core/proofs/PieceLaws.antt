@@ -9,7 +9,7 @@ unfolding plain_from
 piece_takes place n at text p h =
     let b = bind_some (plain_at (in_flow place) (further_spaces place n) (drop at text)) h in
     let t = plain_takes (in_flow place) (further_spaces place n) (drop at text) b.0 b.1 in
-    record { scalar = b.0.0; rest = b.0.1; stands = t.0; plain = t.1; piece = sym (same_Some _ _ b.2) }
+    record { scalar = b.0.0; rest = b.0.1; is_located = t.0; plain = t.1; piece = sym (same_Some _ _ b.2) }
 
 pub piece_again : (place : Place) (n : ℤ) (at : ℕ) (text : List ℕ) (p : Piece) → IsPlainPiece place n at text p → plain_from place n at text ≡ Some p
 unfolding plain_from

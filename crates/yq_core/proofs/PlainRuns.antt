@@ -21,5 +21,5 @@ run_over flow spaces (b ∷ bs) = elim (cases_Bool (run_goes_on Plain b)) [
       subst (λ (n : ℕ). upto (ends_plain flow spaces) (b ∷ bs) ≡ n + upto (ends_plain flow spaces) (drop n (b ∷ bs))) same (omega arith)
 ]
 
-pub run_behind : (flow : Bool) (spaces : Option ℕ) (r s : List ℕ) (n k z : ℕ) → k ≡ prefix_len (run_goes_on Plain) r → s ≡ drop k r → n + upto (ends_plain flow spaces) r ≡ z → n + k + upto (ends_plain flow spaces) s ≡ z
-run_behind flow spaces r s n k z e back so_far = search (rules, run_over)
+pub run_after : (flow : Bool) (spaces : Option ℕ) (r s : List ℕ) (n k z : ℕ) → k ≡ prefix_len (run_goes_on Plain) r → s ≡ drop k r → n + upto (ends_plain flow spaces) r ≡ z → n + k + upto (ends_plain flow spaces) s ≡ z
+run_after flow spaces r s n k z e back so_far = search (rules, run_over)

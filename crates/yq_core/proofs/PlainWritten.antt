@@ -28,11 +28,11 @@ front_of flow b bs h = search (rules, and_parts, or_parts, not-true)
 pub no_control_space : (b : ℕ) (bs : List ℕ) → is_no_control b ≡ true → eqb b 32 ≡ false → is_space (b ∷ bs) ≡ false
 no_control_space b bs q n = let p = none_of (eqb b 9) (eqb b 10) (eqb b 13) q in rw (n, p.0, p.1, p.2) refl
 
-behind_colon : (flow : Bool) (bs rest : List ℕ) → Each is_no_control bs → no_rest (needs_quotes flow) bs ≡ true → (is_empty bs || front (λ c. eqb c 32) bs) ≡ false → is_safe flow (bs ++ rest) ≡ true
-behind_colon flow bs rest q h e = search rules
+following_colon : (flow : Bool) (bs rest : List ℕ) → Each is_no_control bs → no_rest (needs_quotes flow) bs ≡ true → (is_empty bs || front (λ c. eqb c 32) bs) ≡ false → is_safe flow (bs ++ rest) ≡ true
+following_colon flow bs rest q h e = search rules
 
 pub text_inside : (flow : Bool) (b : ℕ) (bs rest : List ℕ) → Each is_no_control (b ∷ bs) → no_rest (needs_quotes flow) (b ∷ bs) ≡ true → ends_text flow (b ∷ (bs ++ rest)) ≡ false
-text_inside flow b bs rest q h = search (rules, front_of, cases_Bool, behind_colon)
+text_inside flow b bs rest q h = search (rules, front_of, cases_Bool, following_colon)
 
 is_none_more : (o : Option ℕ) → is_none (more 1 o) ≡ is_none o
 is_none_more o = search rules
@@ -65,8 +65,8 @@ none_inside flow spaces (b ∷ bs) rest q h =
     ] in
     (here, none_inside flow spaces bs rest q.1 f.rest)
 
-behind_dash : (flow : Bool) (bs rest : List ℕ) → Each is_no_control bs → no_rest (needs_quotes flow) bs ≡ true → front (λ c. not (eqb c 32)) bs ≡ true → is_safe flow (bs ++ rest) ≡ true
-behind_dash flow bs rest q h e = search (rules, false≢true, no_control_space, front_of, not-true)
+after_dash : (flow : Bool) (bs rest : List ℕ) → Each is_no_control bs → no_rest (needs_quotes flow) bs ≡ true → front (λ c. not (eqb c 32)) bs ≡ true → is_safe flow (bs ++ rest) ≡ true
+after_dash flow bs rest q h e = search (rules, false≢true, no_control_space, front_of, not-true)
 
 pub plain_text_parts : (flow : Bool) (t : List ℕ) → is_plain_text flow t ≡ true → (list_all is_plain_char (chars t) ≡ true) × (begins_plainly t ≡ true) × (no_rest (needs_quotes flow) t ≡ true)
 plain_text_parts flow t h = search (rules, and_parts)
@@ -76,4 +76,4 @@ pub plain_written : (flow : Bool) (spaces : Option ℕ) (t rest : List ℕ) → 
 plain_written flow spaces t rest u h e =
     let p = plain_text_parts flow t h in
     let q = no_controls t u p.0 in
-    search (rules, false≢true, and_parts, no_control_space, not-true, ⊎_elim, behind_dash, front_of, eqb-true, or_cases, none_inside, q, p)
+    search (rules, false≢true, and_parts, no_control_space, not-true, ⊎_elim, after_dash, front_of, eqb-true, or_cases, none_inside, q, p)

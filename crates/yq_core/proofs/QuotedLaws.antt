@@ -28,13 +28,13 @@ char_again q (code letter digits) t h =
     subst (λ (x : ℕ). quoted_len x 0 (92 ∷ ((letter ∷ digits) ++ t)) ≡ more (length (92 ∷ letter ∷ digits)) (quoted_len x 0 t)) (sym h.0) (escape_again _ (letter ∷ digits) t (code_escape letter digits h.1 h.2 h.3))
 
 -- one more piece in front
-in_front : (q : ℕ) (p r t : List ℕ) → quoted_len q 0 (p ++ (r ++ t)) ≡ more (length p) (quoted_len q 0 (r ++ t)) →
+before_offset : (q : ℕ) (p r t : List ℕ) → quoted_len q 0 (p ++ (r ++ t)) ≡ more (length p) (quoted_len q 0 (r ++ t)) →
     quoted_len q 0 (r ++ t) ≡ more (length r) (quoted_len q 0 t) → quoted_len q 0 ((p ++ r) ++ t) ≡ more (length (p ++ r)) (quoted_len q 0 t)
-in_front q p r t first rest = search (rules, append_assoc, more_more, length-append)
+before_offset q p r t first rest = search (rules, append_assoc, more_more, length-append)
 
 pub chars_again : (q : ℕ) (cs : List Char) (t : List ℕ) → AreChars q cs t → quoted_len q 0 (spell_chars cs ++ t) ≡ more (length (spell_chars cs)) (quoted_len q 0 t)
 chars_again q [] t h = sym (more_none (quoted_len q 0 t))
-chars_again q (c ∷ cs) t h = in_front q (spell_char c) (spell_chars cs) t (char_again q c (spell_chars cs ++ t) h.0) (chars_again q cs t h.1)
+chars_again q (c ∷ cs) t h = before_offset q (spell_char c) (spell_chars cs) t (char_again q c (spell_chars cs ++ t) h.0) (chars_again q cs t h.1)
 
 -- the quotes are two bytes
 pub of_quotes : (P : ℕ → Type 0) (q : ℕ) → (q ≡ 34) ⊎ (q ≡ 39) → P 34 → P 39 → P q
@@ -57,7 +57,7 @@ slash_again b t = search rules
 pub lines_again : (q : ℕ) (ls : QuotedLines) (t : List ℕ) → (q ≡ 34) ⊎ (q ≡ 39) → AreLines q ls t → quoted_len q 0 (spell_lines ls ++ t) ≡ more (length (spell_lines ls)) (quoted_len q 0 t)
 lines_again q (last cs) t quotes h = chars_again q cs t h
 lines_again q (line cs escaped b ls) t quotes h =
-    search (rules, in_front, of_quotes, break_double, break_single, slash_again, append_assoc, chars_again, lines_again q ls t quotes h.3)
+    search (rules, before_offset, of_quotes, break_double, break_single, slash_again, append_assoc, chars_again, lines_again q ls t quotes h.3)
 
 pub closed_here : (q : ℕ) (rest : List ℕ) → (eqb q 39 && front (λ b. eqb b 39) rest) ≡ false → quoted_len q 0 (q ∷ rest) ≡ Some 0
 unfolding quoted_len

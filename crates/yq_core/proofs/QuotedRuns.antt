@@ -22,8 +22,8 @@ quoted_over q (b ∷ bs) = elim (cases_Bool (run_goes_on (Quoted q) b)) [
       subst (λ (k : ℕ). quoted_len q 0 (b ∷ bs) ≡ more k (quoted_len q 0 (drop k (b ∷ bs)))) none (sym (more_none _))
 ]
 
-pub quoted_behind : (q : ℕ) (r s : List ℕ) (n k : ℕ) {z : Option ℕ} → k ≡ prefix_len (run_goes_on (Quoted q)) r → s ≡ drop k r → more n (quoted_len q 0 r) ≡ z → more (n + k) (quoted_len q 0 s) ≡ z
-quoted_behind q r s n k e back so_far = search (rules, more_more, quoted_over)
+pub quoted_after : (q : ℕ) (r s : List ℕ) (n k : ℕ) {z : Option ℕ} → k ≡ prefix_len (run_goes_on (Quoted q)) r → s ≡ drop k r → more n (quoted_len q 0 r) ≡ z → more (n + k) (quoted_len q 0 s) ≡ z
+quoted_after q r s n k e back so_far = search (rules, more_more, quoted_over)
 
 -- where the scalar is closed after a run, where the text ends, and where an escape is none
 pub closed_here : (q n : ℕ) (t : List ℕ) {z : Option ℕ} → closes q t ≡ true → more n (quoted_len q 0 t) ≡ z → Some n ≡ z

@@ -30,7 +30,7 @@ raw_split keep f (l ∷ ls) x h = ⊎_elim {0, 0, 0}
 pub record IsRaw (keep : Bool) (f : TextIndent) (x : RawLines × RawLines) : Type 0 where
   pub lines : AreRaw f x.0
   pub ends : (keep ≡ true) ⊎ (ends_in_text f x.0 ≡ true)
-  pub behind : ends_block keep f x.1 ≡ true
+  pub after : ends_block keep f x.1 ≡ true
 
 some_nil : (l j : List ℕ) → 0 < length l → is_empty (l ++ j) ≡ false
 some_nil [] j some = absurd (omega arith)
@@ -73,7 +73,7 @@ takes_empty keep f l ls x y is line cut h e = search (rules, same_Some, and_part
 
 pub raw_takes : (keep : Bool) (f : TextIndent) (ls : RawLines) (x : RawLines × RawLines) → AreLines ls → raw_at keep f ls ≡ Some x → IsRaw keep f x
 unfolding raw_at ends_block
-raw_takes keep f [] x a h = subst (IsRaw keep f) (same_Some _ _ h) (record { lines = tt; ends = inr refl; behind = refl })
+raw_takes keep f [] x a h = subst (IsRaw keep f) (same_Some _ _ h) (record { lines = tt; ends = inr refl; after = refl })
 raw_takes keep f (l ∷ ls) x a h = ⊎_elim {0, 0, 0}
     (λ w. let y = bind_some (raw_at keep f ls) w.1 in takes_empty keep f l ls y.0 x w.0 a.0 (raw_split keep f ls y.0 y.1) (raw_takes keep f ls y.0 a.1 y.1) y.2)
     (λ w. ⊎_elim {0, 0, 0}
@@ -83,9 +83,9 @@ raw_takes keep f (l ∷ ls) x a h = ⊎_elim {0, 0, 0}
     subst (IsRaw keep f) (same_Some _ _ y.2) (record {
       lines = ((parts.1, inr parts.0), again.lines);
       ends = ⊎_elim {0, 0, 0} (λ k. inl k) (λ k. inr (ends_text f l y.0.0 parts.0 k)) again.ends;
-      behind = again.behind;
+      after = again.after;
     }))
-    (λ v. ⊎_elim {0, 0, 0} (λ u. subst (IsRaw keep f) (same_Some _ _ u.1) (record { lines = tt; ends = inr refl; behind = rw (next_not_empty f l u.0) u.0 })) (λ u. cc) (chosen (is_less_indented f l) v.1))
+    (λ v. ⊎_elim {0, 0, 0} (λ u. subst (IsRaw keep f) (same_Some _ _ u.1) (record { lines = tt; ends = inr refl; after = rw (next_not_empty f l u.0) u.0 })) (λ u. cc) (chosen (is_less_indented f l) v.1))
     (chosen (is_text_at f l) w.1))
     (chosen (is_empty_at keep f l) h)
 
@@ -100,14 +100,14 @@ raw_none keep f (l ∷ ls) h = ⊎_elim {0, 0, 0}
     (λ w. rw (next_not_text f l w.1, w.0, w.1) refl)
     (chosen (is_empty_line f l) h)
 
-ends_behind : (keep : Bool) (f : TextIndent) (l : List ℕ) (ls : RawLines) → (keep ≡ true) ⊎ (ends_in_text f (l ∷ ls) ≡ true) → (keep ≡ true) ⊎ (ends_in_text f ls ≡ true)
-ends_behind keep f l ls e = search rules
+following_ends : (keep : Bool) (f : TextIndent) (l : List ℕ) (ls : RawLines) → (keep ≡ true) ⊎ (ends_in_text f (l ∷ ls) ≡ true) → (keep ≡ true) ⊎ (ends_in_text f ls ≡ true)
+following_ends keep f l ls e = search rules
 
 pub raw_again : (keep : Bool) (f : TextIndent) (raw rest : RawLines) → AreRaw f raw → (keep ≡ true) ⊎ (ends_in_text f raw ≡ true) → ends_block keep f rest ≡ true → raw_at keep f (raw ++ rest) ≡ Some (raw, rest)
 unfolding raw_at
 raw_again keep f [] rest a e h = raw_none keep f rest h
 raw_again keep f (l ∷ ls) rest a e h =
-    let again = raw_again keep f ls rest a.1 (ends_behind keep f l ls e) h in
+    let again = raw_again keep f ls rest a.1 (following_ends keep f l ls e) h in
     search (rules, ⊎_elim, false≢true, and_parts, not-true, joined_some, and_from, or_right, again)
 
 -- lines and their text

@@ -52,7 +52,7 @@ plain_is : (s : ScalarText) (place : Place) (n : ℤ) (before rest : List ℕ) �
 plain_is s place n before rest u i h e = record {
   scalar = s.text;
   rest = rest;
-  stands = drop-append_seam before (s.text ++ rest);
+  is_located = drop-append_seam before (s.text ++ rest);
   plain = writable_piece s (in_flow place) (further_spaces place n) rest u i h e;
   piece = refl;
 }
@@ -72,10 +72,10 @@ plain_back s place n before rest u i h e =
 
 -- in quotes
 single_is : (t before rest : List ℕ) → Spells 39 t (single t) rest → IsQuotedPiece (length before) (string_between styles.Single t before rest) (put_piece styles.Single t before)
-single_is t before rest h = record { quote = 39; ls = last h.chars; scalar = single t; rest = rest; stands = drop-append_seam before (single t ++ rest); quoted = h.is; piece = refl }
+single_is t before rest h = record { quote = 39; ls = last h.chars; scalar = single t; rest = rest; is_located = drop-append_seam before (single t ++ rest); quoted = h.is; piece = refl }
 
 double_is : (t before rest : List ℕ) → Spells 34 t (double t) rest → IsQuotedPiece (length before) (string_between styles.Double t before rest) (put_piece styles.Double t before)
-double_is t before rest h = record { quote = 34; ls = last h.chars; scalar = double t; rest = rest; stands = drop-append_seam before (double t ++ rest); quoted = h.is; piece = refl }
+double_is t before rest h = record { quote = 34; ls = last h.chars; scalar = double t; rest = rest; is_located = drop-append_seam before (double t ++ rest); quoted = h.is; piece = refl }
 
 pub single_back : (s : ScalarText) (place : Place) (before rest : List ℕ) → IsUtf8 s.text → can_write s styles.Single place ≡ true → front (λ b. eqb b 39) rest ≡ false →
     IsQuotedPiece (length before) (string_between styles.Single s.text before rest) (put_piece styles.Single s.text before)
@@ -100,7 +100,7 @@ double_back s place before rest u h =
 
 -- literal
 block_is : (n : ℤ) (b : BlockText) (before rest : List ℕ) → IsBlock (deeper n) b rest → IsBlockPiece n (length before) (before ++ block_text b rest) (block_piece (length before) b)
-block_is n b before rest h = record { block = b; rest = rest; stands = drop-append_seam before (block_text b rest); scalar = h; piece = refl }
+block_is n b before rest h = record { block = b; rest = rest; is_located = drop-append_seam before (block_text b rest); scalar = h; piece = refl }
 
 pub literal_back : (s : ScalarText) (n : ℤ) (m : ℕ) (br : Break) (before tail rest : List ℕ) → IsUtf8 s.text → can_write s styles.Literal places.Block ≡ true → deeper n ≤ m → is_tail tail ≡ true →
     ends_block false (record { columns = m; known = true }) (text_lines rest) ≡ true →
@@ -108,9 +108,9 @@ pub literal_back : (s : ScalarText) (n : ℤ) (m : ℕ) (br : Break) (before tai
     × (piece_content (put_block s.text m br tail before rest) (put_block_piece s.text m br tail before) ≡ s.text)
     × (string_of s.text ≡ s)
 unfolding block_is
-literal_back s n m br before tail rest u h deep line behind =
+literal_back s n m br before tail rest u h deep line after =
     let b = written_block s.text m (break_text br) tail in
-    let is = block_is n b before rest (literal_block (deeper n) m br s tail rest u h deep line behind) in
+    let is = block_is n b before rest (literal_block (deeper n) m br s tail rest u h deep line after) in
     let can = and_parts (is_string s.kind && true) _ h in (
       is,
       block_piece_content n (put_block s.text m br tail before rest) (put_block_piece s.text m br tail before) is ∙ literal_content m br s tail u h,

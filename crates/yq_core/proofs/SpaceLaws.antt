@@ -1,7 +1,7 @@
 -- What comes after the spaces in front of a line.
 use Rattle.std.proofs.Common.{◌≡◌, ℕ, zero, suc, ◌+◌, Bool, true, false, cond, not, eqb, List, [], ◌∷◌, ◌++◌, drop, replicate, refl, ap}
 use Rattle.std.{proofs.Common.{◌∙◌, ⊎_elim, arith, rules}, proofs.lemmas.Bool.cases_Bool, specs.List.prefix_len}
-use Rattle.yq_core.{proofs.Bools.at_byte, specs.Lines.{spaces, behind_spaces, is_tab, is_blank}}
+use Rattle.yq_core.{proofs.Bools.at_byte, specs.Lines.{spaces, without_spaces, is_tab, is_blank}}
 use Rattle.yq_core.specs.Text.{is_white, ends_line, past_white, upto, no_white}
 
 -- what comes after a prefix, step by step
@@ -14,25 +14,25 @@ unfolding upto
 white_drop b l = elim (is_white b) as (λ c. drop (cond (not c) 0 (suc (upto no_white l))) (b ∷ l) ≡ cond c (past_white l) (b ∷ l)) [ true ↦ refl | false ↦ refl ]
 
 -- a line of spaces up to its break, and a line with a character that is neither white space nor a break
-pub spaces_blank : (l : List ℕ) → ends_line (behind_spaces l) ≡ true → is_blank l ≡ true
+pub spaces_blank : (l : List ℕ) → ends_line (without_spaces l) ≡ true → is_blank l ≡ true
 unfolding upto
 spaces_blank [] h = refl
 spaces_blank (b ∷ l) h = ⊎_elim {0, 0, 0}
-    (λ e. let behind : ends_line (behind_spaces l) ≡ true = rw e at (rw (prefix_drop (λ x. eqb x 32) b l) at h) in
-    rw (white_drop b l) (rw e (spaces_blank l behind)))
+    (λ e. let after : ends_line (without_spaces l) ≡ true = rw e at (rw (prefix_drop (λ x. eqb x 32) b l) at h) in
+    rw (white_drop b l) (rw e (spaces_blank l after)))
     (λ e. let here : ends_line (b ∷ l) ≡ true = rw e at (rw (prefix_drop (λ x. eqb x 32) b l) at h) in
     let tab : eqb b 9 ≡ false = at_byte (λ x. ends_line (x ∷ l)) b 9 here refl in
     let white : is_white b ≡ false = rw e tab in
     rw (white_drop b l) (rw white here))
     (cases_Bool (eqb b 32))
 
-pub char_not_blank : (l : List ℕ) → ends_line (behind_spaces l) ≡ false → is_tab (behind_spaces l) ≡ false → is_blank l ≡ false
+pub char_not_blank : (l : List ℕ) → ends_line (without_spaces l) ≡ false → is_tab (without_spaces l) ≡ false → is_blank l ≡ false
 unfolding upto
 char_not_blank [] h k = h
 char_not_blank (b ∷ l) h k = ⊎_elim {0, 0, 0}
-    (λ e. let behind : ends_line (behind_spaces l) ≡ false = rw e at (rw (prefix_drop (λ x. eqb x 32) b l) at h) in
-    let tab : is_tab (behind_spaces l) ≡ false = rw e at (rw (prefix_drop (λ x. eqb x 32) b l) at k) in
-    rw (white_drop b l) (rw e (char_not_blank l behind tab)))
+    (λ e. let after : ends_line (without_spaces l) ≡ false = rw e at (rw (prefix_drop (λ x. eqb x 32) b l) at h) in
+    let tab : is_tab (without_spaces l) ≡ false = rw e at (rw (prefix_drop (λ x. eqb x 32) b l) at k) in
+    rw (white_drop b l) (rw e (char_not_blank l after tab)))
     (λ e. let here : ends_line (b ∷ l) ≡ false = rw e at (rw (prefix_drop (λ x. eqb x 32) b l) at h) in
     let tab : eqb b 9 ≡ false = rw e at (rw (prefix_drop (λ x. eqb x 32) b l) at k) in
     let white : is_white b ≡ false = rw e tab in

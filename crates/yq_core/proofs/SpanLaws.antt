@@ -59,9 +59,9 @@ key_spans : (t : List ℕ) (k : ℕ) (key : Key) (r : List ℕ) → IsInlineKey 
 key_spans t k bare r h x = tt
 key_spans t k (keyed p b g) r h x =
     let more : List ℕ = b ++ (58 ∷ (g ++ r)) in
-    let behind = less t (p ++ more) p more refl x (scalar_past true None p more h.1 x.utf8) in
+    let after = less t (p ++ more) p more refl x (scalar_past true None p more h.1 x.utf8) in
     let there : length t - length (p ++ more) + length p ≡ length t - length more = search (rules, length-append, more) in
-    subst (λ (n : ℕ). IsSpan t (length t - length (p ++ more)) n) (sym there) (span t (p ++ more) more x behind (omega (arith, length-append p more)))
+    subst (λ (n : ℕ). IsSpan t (length t - length (p ++ more)) n) (sym there) (span t (p ++ more) more x after (omega (arith, length-append p more)))
 
 past_key : (t : List ℕ) (k : ℕ) (key : Key) (r : List ℕ) → IsInlineKey k key r → IsLeft t (key_text key r) → IsLeft t r
 past_key t k key r h x = less t (key_text key r) (key_text key []) r (key_append key [] r) x (key_past k key r h x.utf8)
@@ -114,19 +114,19 @@ mutual
   items_spans : (t : List ℕ) (k : ℕ) (is : Items) (d : ℕ) (rest : List ℕ) → is_close k ≡ true → AreFlowItems d k is rest → IsLeft t (flow_items_text k is rest) → PartsHaveSpans t (locate_items (length t) k is rest)
   items_spans t k none d rest c h x = tt
   items_spans t k (item key n s is) d rest c h x =
-      let behind : List ℕ = sep_text s (flow_items_text k is rest) in
-      let inner = past_key t k key (node_text n behind) h.0 x in
-      let y = past_node t true (Some 0) n d behind h.2 inner in
+      let after : List ℕ = sep_text s (flow_items_text k is rest) in
+      let inner = past_key t k key (node_text n after) h.0 x in
+      let y = past_node t true (Some 0) n d after h.2 inner in
       let z = past_sep t k s (flow_items_text k is rest) h.3 y in
-      (key_spans t k key (node_text n behind) h.0 x, node_spans t true (Some 0) n d behind h.2 inner, items_spans t k is d rest c h.4 z)
+      (key_spans t k key (node_text n after) h.0 x, node_spans t true (Some 0) n d after h.2 inner, items_spans t k is d rest c h.4 z)
 
 -- the node at an offset of a text
 pub inline_spans : (place : Place) (n : ℤ) (depth at : ℕ) (t : List ℕ) (p : Placed) → IsInlineAt place n depth at t p → IsUtf8 t → IsCharBoundary t at → HasSpans t p
 inline_spans place n depth at t p h u b =
     let x : IsLeft t (node_text h.node h.rest) = record {
       before = take at t;
-      is = sym (take-append-drop at t) ∙ ap (λ l. take at t ++ l) h.stands;
-      utf8 = subst IsUtf8 h.stands (IsUtf8-drop t at u b);
+      is = sym (take-append-drop at t) ∙ ap (λ l. take at t ++ l) h.is_located;
+      utf8 = subst IsUtf8 h.is_located (IsUtf8-drop t at u b);
     } in
     subst (HasSpans t) (sym h.places) (node_spans t (in_flow place) (further_spaces place n) h.node (depth_limit - depth) h.rest h.inline.valid x)
 

@@ -91,7 +91,7 @@ items_by_node total d t h =
     ∙ sym (bind_bind (all_node true (Some 0) d t) (λ x. Some (locate total x.0 x.1, x.1)) (λ x. cond (bare_placed x.0) None (then_value total d 93 None x)))))
 
 pub items_more : (total d : ℕ) (t : List ℕ) → begins_with 93 t ≡ false → placed_items total d 93 t ≡ (placed_item total d t >>= λ x. then_entry total d 93 None x.0 x.1)
-items_more total d t h = search (rules, items_by_node, bind_same, bind_bind, one, whole_item, item_behind)
+items_more total d t h = search (rules, items_by_node, bind_same, bind_bind, one, whole_item, item_after)
   where
     whole_item : Placed × List ℕ → Option (Parts × List ℕ)
     whole_item x = then_entry total d 93 None x.0 x.1
@@ -99,8 +99,8 @@ items_more total d t h = search (rules, items_by_node, bind_same, bind_bind, one
     past_item : Placed × List ℕ → Option (Placed × List ℕ)
     past_item x = past_sep 93 x.1 >>= λ r. Some (x.0, r)
 
-    item_behind : Placed × List ℕ → Option (Placed × List ℕ)
-    item_behind x = cond (bare_placed x.0) None (past_item x)
+    item_after : Placed × List ℕ → Option (Placed × List ℕ)
+    item_after x = cond (bare_placed x.0) None (past_item x)
 
     one : (x : Placed × List ℕ) (b : Bool) → cond b None (then_value total d 93 None x) ≡ (cond b None (past_item x) >>= whole_item)
     one x b = search (rules, bind_bind, whole_item)

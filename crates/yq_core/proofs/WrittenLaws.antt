@@ -14,13 +14,13 @@ use Rattle.yq_core.specs.Written.{written_letters, letter_of, upper, two_digits,
 use Rattle.yq_core.{specs.Written.{single, double}, proofs.Bools.{chosen, at_byte, not_byte}, proofs.Bytes.{Each, each_encode}}
 
 -- a character, written so in these quotes
-pub record Stands (q : ℕ) (text p : List ℕ) : Type 0 where
+pub record IsLocatedAt (q : ℕ) (text p : List ℕ) : Type 0 where
   pub items : List Char
   pub spelled : spell_chars items ≡ p
   pub means : chars_text items ≡ text
   pub are : (rest : List ℕ) → AreChars q items rest
 
-one_char : (q : ℕ) (c : Char) (text p : List ℕ) → spell_char c ≡ p → char_text c ≡ text → ((rest : List ℕ) → IsChar q c rest) → Stands q text p
+one_char : (q : ℕ) (c : Char) (text p : List ℕ) → spell_char c ≡ p → char_text c ≡ text → ((rest : List ℕ) → IsChar q c rest) → IsLocatedAt q text p
 one_char q c text p e f is = record {
   items = c ∷ [];
   spelled = append-nil (spell_char c) ∙ e;
@@ -40,7 +40,7 @@ are_append : (q : ℕ) (a b : List Char) (rest : List ℕ) → AreChars q a (spe
 are_append q [] b rest h k = k
 are_append q (c ∷ a) b rest h k = search (rules, append_assoc, spell_append, are_append q a b rest h.1 k)
 
-both : (q : ℕ) (t u p r : List ℕ) → Stands q t p → Stands q u r → Stands q (t ++ u) (p ++ r)
+both : (q : ℕ) (t u p r : List ℕ) → IsLocatedAt q t p → IsLocatedAt q u r → IsLocatedAt q (t ++ u) (p ++ r)
 both q t u p r a b = record {
   items = a.items ++ b.items;
   spelled = spell_append a.items b.items ∙ (ap (λ l. l ++ spell_chars b.items) a.spelled ∙ ap (λ l. p ++ l) b.spelled);
@@ -48,8 +48,8 @@ both q t u p r a b = record {
   are = λ rest. are_append q a.items b.items rest (a.are (spell_chars b.items ++ rest)) (b.are rest);
 }
 
-none_stands : (q : ℕ) → Stands q [] []
-none_stands q = record { items = []; spelled = refl; means = refl; are = λ rest. tt }
+none_is_there : (q : ℕ) → IsLocatedAt q [] []
+none_is_there q = record { items = []; spelled = refl; means = refl; are = λ rest. tt }
 
 -- a byte that means itself in these quotes
 abbrev pub is_ordinary : ℕ → ℕ → Bool
@@ -58,10 +58,10 @@ is_ordinary q b = not (eqb b q) && not (is_feed b) && not (is_return b) && not (
 ordinary_parts : (w x y z : Bool) → (not w && not x && not y && not z) ≡ true → (w ≡ false) × (x ≡ false) × (y ≡ false) × (z ≡ false)
 ordinary_parts w x y z h1 = search (rules, false≢true)
 
-bytes_stand : (q : ℕ) (t : List ℕ) → Each (is_ordinary q) t → Stands q t t
-bytes_stand q [] h = none_stands q
-bytes_stand q (b ∷ t) h =
-    both q (b ∷ []) t (b ∷ []) t (one_char q (itself b) (b ∷ []) (b ∷ []) refl refl (λ rest. (search (rules, ordinary_parts)))) (bytes_stand q t h.1)
+bytes_are_there : (q : ℕ) (t : List ℕ) → Each (is_ordinary q) t → IsLocatedAt q t t
+bytes_are_there q [] h = none_is_there q
+bytes_are_there q (b ∷ t) h =
+    both q (b ∷ []) t (b ∷ []) t (one_char q (itself b) (b ∷ []) (b ∷ []) refl refl (λ rest. (search (rules, ordinary_parts)))) (bytes_are_there q t h.1)
 
 not_both : (b : Bool) → not (b && false) ≡ true
 not_both b = search rules
@@ -69,8 +69,8 @@ not_both b = search rules
 high_ordinary : (q b : ℕ) → q < 128 → 128 ≤ b → is_ordinary q b ≡ true
 high_ordinary q b low high = rw (not_byte b q (omega arith), not_byte b 10 (omega arith), not_byte b 13 (omega arith), not_byte b 92 (omega arith)) (not_both (eqb q 34))
 
-itself_stands : (q c : ℕ) → q < 128 → (c < 128 → is_ordinary q c ≡ true) → Stands q (encode c) (encode c)
-itself_stands q c low h = bytes_stand q (encode c) (each_encode (is_ordinary q) c h (λ b high. high_ordinary q b low high))
+itself_is_there : (q c : ℕ) → q < 128 → (c < 128 → is_ordinary q c ≡ true) → IsLocatedAt q (encode c) (encode c)
+itself_is_there q c low h = bytes_are_there q (encode c) (each_encode (is_ordinary q) c h (λ b high. high_ordinary q b low high))
 
 -- the letters
 abbrev pub AllBeside : List (ℕ × ℕ) → Type 0
@@ -88,8 +88,8 @@ letter_beside (e ∷ es) c l all h = elim (chosen (eqb c e.1) h) [
   | inr w ↦ letter_beside es c l all.1 w.1
 ]
 
-letter_stands : (c l : ℕ) → letter_of c written_letters ≡ Some l → Stands 34 (encode c) (92 ∷ l ∷ [])
-letter_stands c l h =
+letter_is_there : (c l : ℕ) → letter_of c written_letters ≡ Some l → IsLocatedAt 34 (encode c) (92 ∷ l ∷ [])
+letter_is_there c l h =
     let e = letter_beside written_letters c l all_beside h in
     one_char 34 (escape l) (encode c) (92 ∷ l ∷ []) refl (ap bytes_of e) (λ rest. (refl, (c, e)))
 
@@ -106,8 +106,8 @@ two_value c h = rw (upper_value (c / 16 % 16) (omega arith), upper_value (c % 16
 four_value : (c : ℕ) → c < 65536 → digits_value 16 (four_digits c) ≡ c
 four_value c h = rw (upper_value (c / 4096 % 16) (omega arith), upper_value (c / 256 % 16) (omega arith), upper_value (c / 16 % 16) (omega arith), upper_value (c % 16) (omega arith)) (omega arith)
 
-code_stands : (c : ℕ) → c < 65536 → is_unicode c ≡ true → Stands 34 (encode c) (code_escape c)
-code_stands c h s = elim (cases_Bool (ltb c 256)) [
+code_is_there : (c : ℕ) → c < 65536 → is_unicode c ≡ true → IsLocatedAt 34 (encode c) (code_escape c)
+code_is_there c h s = elim (cases_Bool (ltb c 256)) [
   | inl lt ↦ (let low : c < 256 = ltb-true c 256 lt in rw lt (one_char 34 (code 120 (two_digits c)) (encode c) (92 ∷ 120 ∷ two_digits c) refl (ap encode (two_value c low))
       (λ rest. (refl, refl, (digit_at (c / 16 % 16) (omega arith), (digit_at (c % 16) (omega arith), tt)), ap is_unicode (two_value c low) ∙ s))))
   | inr ge ↦ rw ge (one_char 34 (code 117 (four_digits c)) (encode c) (92 ∷ 117 ∷ four_digits c) refl (ap encode (four_value c h))
@@ -118,33 +118,33 @@ code_stands c h s = elim (cases_Bool (ltb c 256)) [
 below : (c : ℕ) → is_text_char c ≡ false → is_unicode c ≡ true → c < 65536
 below c h s = search (rules, or_cases, ltb-true, and_parts, cases_lt, false≢true, and_from, le-leb, or_right, not_from_false, ne_eqb)
 
-double_as : (c : ℕ) (o : Option ℕ) → letter_of c written_letters ≡ o → is_unicode c ≡ true → Stands 34 (encode c) (double_by o c)
-double_as c (Some l) h s = letter_stands c l h
+double_as : (c : ℕ) (o : Option ℕ) → letter_of c written_letters ≡ o → is_unicode c ≡ true → IsLocatedAt 34 (encode c) (double_by o c)
+double_as c (Some l) h s = letter_is_there c l h
 double_as c None h s = elim (cases_Bool (is_text_char c)) [
-  | inl p ↦ rw p (itself_stands 34 c (omega arith) (λ low. (search (rules, is_none, at_byte))))
-  | inr p ↦ rw p (code_stands c (below c p s) s)
+  | inl p ↦ rw p (itself_is_there 34 c (omega arith) (λ low. (search (rules, is_none, at_byte))))
+  | inr p ↦ rw p (code_is_there c (below c p s) s)
 ]
 
 same_scalar : (x y : Bool) → cond x true y ≡ true → (x || y) ≡ true
 same_scalar x y h = search rules
 
-double_stands : (cs : List ℕ) → scalars cs ≡ true → Stands 34 (encodes cs) (flat_map in_double cs)
-double_stands [] h = none_stands 34
-double_stands (c ∷ cs) h =
+double_is_there : (cs : List ℕ) → scalars cs ≡ true → IsLocatedAt 34 (encodes cs) (flat_map in_double cs)
+double_is_there [] h = none_is_there 34
+double_is_there (c ∷ cs) h =
     let p = and_parts (scalar c) (scalars cs) h in
-    both 34 (encode c) (encodes cs) (in_double c) (flat_map in_double cs) (double_as c (letter_of c written_letters) refl (same_scalar (ltb c 55296) (leb 57344 c && ltb c 1114112) p.0)) (double_stands cs p.1)
+    both 34 (encode c) (encodes cs) (in_double c) (flat_map in_double cs) (double_as c (letter_of c written_letters) refl (same_scalar (ltb c 55296) (leb 57344 c && ltb c 1114112) p.0)) (double_is_there cs p.1)
 
-single_as : (c : ℕ) → is_single_char c ≡ true → Stands 39 (encode c) (in_single c)
+single_as : (c : ℕ) → is_single_char c ≡ true → IsLocatedAt 39 (encode c) (in_single c)
 single_as c h = elim (cases_Bool (eqb c 39)) [
-  | inl e ↦ (let is : c ≡ 39 = eqb-true c 39 e in subst (λ (x : ℕ). Stands 39 (encode x) (in_single x)) (sym is) (one_char 39 doubled (encode 39) (39 ∷ 39 ∷ []) refl (sym (encode_ascii 39 (omega arith))) (λ rest. refl)))
-  | inr n ↦ rw n (itself_stands 39 c (omega arith) (λ low. (rw (n, at_byte is_single_char c 10 h refl, at_byte is_single_char c 13 h refl) refl)))
+  | inl e ↦ (let is : c ≡ 39 = eqb-true c 39 e in subst (λ (x : ℕ). IsLocatedAt 39 (encode x) (in_single x)) (sym is) (one_char 39 doubled (encode 39) (39 ∷ 39 ∷ []) refl (sym (encode_ascii 39 (omega arith))) (λ rest. refl)))
+  | inr n ↦ rw n (itself_is_there 39 c (omega arith) (λ low. (rw (n, at_byte is_single_char c 10 h refl, at_byte is_single_char c 13 h refl) refl)))
 ]
 
-single_stands : (cs : List ℕ) → list_all is_single_char cs ≡ true → Stands 39 (encodes cs) (flat_map in_single cs)
-single_stands [] h = none_stands 39
-single_stands (c ∷ cs) h =
+single_is_there : (cs : List ℕ) → list_all is_single_char cs ≡ true → IsLocatedAt 39 (encodes cs) (flat_map in_single cs)
+single_is_there [] h = none_is_there 39
+single_is_there (c ∷ cs) h =
     let p = and_parts (is_single_char c) (list_all is_single_char cs) h in
-    both 39 (encode c) (encodes cs) (in_single c) (flat_map in_single cs) (single_as c p.0) (single_stands cs p.1)
+    both 39 (encode c) (encodes cs) (in_single c) (flat_map in_single cs) (single_as c p.0) (single_is_there cs p.1)
 
 -- a string in quotes
 pub record Spells (q : ℕ) (t piece rest : List ℕ) : Type 0 where
@@ -154,10 +154,10 @@ pub record Spells (q : ℕ) (t piece rest : List ℕ) : Type 0 where
 
 pub double_spells : (t rest : List ℕ) → IsUtf8 t → Spells 34 t (double t) rest
 double_spells t rest u =
-    let s = double_stands (chars t) (scalars-chars t u) in
+    let s = double_is_there (chars t) (scalars-chars t u) in
     search (rules, encodes-chars)
 
 pub single_spells : (t rest : List ℕ) → IsUtf8 t → list_all is_single_char (chars t) ≡ true → front (λ b. eqb b 39) rest ≡ false → Spells 39 t (single t) rest
 single_spells t rest u all open_ =
-    let s = single_stands (chars t) all in
+    let s = single_is_there (chars t) all in
     search (rules, encodes-chars)

@@ -4,7 +4,7 @@ use Rattle.std.specs.Prelude.{if◌then◌else◌, ◌⊎◌, Option, Some, None
 use Rattle.yq_core.{specs.declared.block_header.BlockStyle.BlockStyle, specs.declared.block_header.Chomping.Chomping}
 use Rattle.yq_core.{specs.declared.block_lines.TextIndent.TextIndent, specs.declared.fault.FaultKind.FaultKind}
 use Rattle.yq_core.{specs.declared.piece.Piece.Piece, specs.declared.style.Style.Style}
-use Rattle.yq_core.{specs.Lines.{spaces, behind_spaces, is_tab, is_hash, is_blank}, specs.Piece.deeper}
+use Rattle.yq_core.{specs.Lines.{spaces, without_spaces, is_tab, is_hash, is_blank}, specs.Piece.deeper}
 use Rattle.yq_core.specs.Text.{is_white, front, past_white, ends_line, text_lines, joined, is_line}
 use Rattle.yq_core.specs.declared.block_header.BlockStyle.TheVariants as styles
 use Rattle.yq_core.specs.declared.block_header.Chomping.TheVariants as chompings
@@ -18,7 +18,7 @@ RawLines = List (List ℕ)
 -- Under an indentation, a line of spaces alone, no more than that, is empty; where neither a digit nor a text line gives the indentation, of any
 -- number of spaces (YAML 1.2.2, section 8.1.1.1; l-empty of section 6.4).
 abbrev pub is_empty_line : TextIndent → List ℕ → Bool
-is_empty_line f l = ends_line (behind_spaces l) && (not f.known || nat_le (spaces l) f.columns)
+is_empty_line f l = ends_line (without_spaces l) && (not f.known || nat_le (spaces l) f.columns)
 
 -- A text line begins with the indentation and has a character after it (YAML 1.2.2, l-nb-literal-text of section 8.1.2).
 abbrev pub is_text_line : TextIndent → List ℕ → Bool
@@ -26,7 +26,7 @@ is_text_line f l = not (is_empty_line f l) && f.known && nat_le f.columns (space
 
 -- A less indented line has a character, no tab, after fewer spaces than the indentation has (YAML 1.2.2, section 8.1.1.2).
 abbrev pub is_less_indented : TextIndent → List ℕ → Bool
-is_less_indented f l = not (ends_line (behind_spaces l)) && nat_lt (spaces l) f.columns && not (is_tab (behind_spaces l))
+is_less_indented f l = not (ends_line (without_spaces l)) && nat_lt (spaces l) f.columns && not (is_tab (without_spaces l))
 
 -- What may come after a block scalar: empty lines, unless it keeps them as its own, then the end or a less indented line (YAML 1.2.2,
 -- l-chomped-empty of section 8.1.1.2).
@@ -129,7 +129,7 @@ pub record IsBlock (least : ℕ) (b : BlockText) (rest : List ℕ) : Type 0 wher
   pub indent : IsTextIndent least b.digit b.indent b.raw
   pub lines : AreRaw b.indent b.raw
   pub ends : (keeps b.chomping ≡ true) ⊎ (ends_in_text b.indent b.raw ≡ true)
-  pub behind : ends_block (keeps b.chomping) b.indent (text_lines rest) ≡ true
+  pub after : ends_block (keeps b.chomping) b.indent (text_lines rest) ≡ true
 
 -- where its pieces are, by the offset at which it begins (own)
 abbrev pub block_piece : ℕ → BlockText → Piece
@@ -147,7 +147,7 @@ block_piece start b = record {
 pub record IsBlockPiece (n : ℤ) (at : ℕ) (text : List ℕ) (p : Piece) : Type 0 where
   pub block : BlockText
   pub rest : List ℕ
-  pub stands : drop at text ≡ block_text block rest
+  pub is_located : drop at text ≡ block_text block rest
   pub scalar : IsBlock (deeper n) block rest
   pub piece : p ≡ block_piece at block
 

@@ -82,13 +82,13 @@ abbrev pub Indicators : Type 0
 Indicators = Option ℕ × Chomping × List ℕ × List ℕ
 
 -- the indicators after an indentation indicator, or where none is first (own)
-abbrev pub indicators_behind : Option ℕ × List ℕ → Indicators
-indicators_behind (None, t) = let c = sign_at t in let d = digit_at c.1 in (d.0, c.0, sign_text c.0 ++ digit_text d.0, d.1)
-indicators_behind (Some d, t) = let c = sign_at t in (Some d, c.0, digit_text (Some d) ++ sign_text c.0, c.1)
+abbrev pub indicators_after : Option ℕ × List ℕ → Indicators
+indicators_after (None, t) = let c = sign_at t in let d = digit_at c.1 in (d.0, c.0, sign_text c.0 ++ digit_text d.0, d.1)
+indicators_after (Some d, t) = let c = sign_at t in (Some d, c.0, digit_text (Some d) ++ sign_text c.0, c.1)
 
 -- the indicators in front (own)
 unfoldable pub indicators_at : List ℕ → Indicators
-indicators_at t = indicators_behind (digit_at t)
+indicators_at t = indicators_after (digit_at t)
 
 -- without how they are written (own)
 abbrev pub values : Indicators → Option ℕ × Chomping × List ℕ
@@ -99,8 +99,8 @@ unfoldable pub read_header_tail : List ℕ → Option (List ℕ × List ℕ)
 read_header_tail t = if is_tail (take (line_len t) t) then Some (take (line_len t) t, drop (line_len t) t) else None
 
 -- the block scalar whose style and indicators were read, and what follows it (own)
-unfoldable pub block_behind : ℕ → BlockStyle → Indicators → Option (BlockText × List ℕ)
-block_behind least s m = do
+unfoldable pub block_after : ℕ → BlockStyle → Indicators → Option (BlockText × List ℕ)
+block_after least s m = do
   tail ← read_header_tail m.3
   indent ← indent_at least m.0 (text_lines tail.1)
   raw ← raw_at (keeps m.1) indent (text_lines tail.1)
@@ -108,7 +108,7 @@ block_behind least s m = do
 
 -- the block scalar in front, and what follows it (own)
 unfoldable pub block_at : ℕ → List ℕ → Option (BlockText × List ℕ)
-block_at least t = read_style t >>= λ s. block_behind least s.0 (indicators_at s.1)
+block_at least t = read_style t >>= λ s. block_after least s.0 (indicators_at s.1)
 
 -- where the block scalar in front of a text that begins at this offset is (own)
 abbrev pub read_block_piece : ℕ → ℕ → List ℕ → Option Piece

@@ -1,7 +1,7 @@
 -- A gap put after a block scalar (own).
 use Rattle.std.specs.Prelude.{◌≡◌, ℕ, Bool, true, ◌||◌, ◌&&◌, not, nat_le, nat_lt, List, [], ◌∷◌, ◌++◌, replicate, if◌then◌else◌}
 use Rattle.yq_core.{specs.declared.block_lines.TextIndent.TextIndent, specs.Block.{RawLines, is_less_indented}}
-use Rattle.yq_core.{specs.Lines.{spaces, behind_spaces, is_tab, is_hash, is_blank}, specs.Text.{ends_line, past_white}}
+use Rattle.yq_core.{specs.Lines.{spaces, without_spaces, is_tab, is_hash, is_blank}, specs.Text.{ends_line, past_white}}
 
 -- each line is blank or a comment line (own)
 abbrev pub AreGap : RawLines → Type 0
@@ -10,11 +10,11 @@ AreGap (l ∷ ls) = ((is_blank l || is_hash (past_white l)) ≡ true) × AreGap 
 
 -- a blank line that stays as it is: of spaces alone, no more than the scalar's text is indented by (own)
 abbrev pub is_short : ℕ → List ℕ → Bool
-is_short m l = ends_line (behind_spaces l) && nat_le (spaces l) m
+is_short m l = ends_line (without_spaces l) && nat_le (spaces l) m
 
 -- a comment line that stays as it is: less indented, with no tab before its `#` (own)
 abbrev pub is_outdented_comment : ℕ → List ℕ → Bool
-is_outdented_comment m l = nat_lt (spaces l) m && not (is_tab (behind_spaces l))
+is_outdented_comment m l = nat_lt (spaces l) m && not (is_tab (without_spaces l))
 
 -- a blank line, emptied if it doesn't stay as it is; its break stays (own)
 abbrev pub repaired_blank : ℕ → List ℕ → List ℕ
@@ -38,6 +38,6 @@ comment_lines [] = []
 comment_lines (l ∷ ls) = if is_blank l then comment_lines ls else (past_white l ∷ comment_lines ls)
 
 -- the end, or a less indented line (own)
-abbrev pub is_behind : TextIndent → RawLines → Bool
-is_behind f [] = true
-is_behind f (l ∷ ls) = is_less_indented f l
+abbrev pub comes_later : TextIndent → RawLines → Bool
+comes_later f [] = true
+comes_later f (l ∷ ls) = is_less_indented f l

@@ -42,7 +42,7 @@ abbrev mutual
 pub record IsBorrowed (d : ℕ) (t : List ℕ) : Type 0 where
   pub node : FlowNode
   pub rest : List ℕ
-  pub stands : t ≡ node_text node rest
+  pub is_located : t ≡ node_text node rest
   pub valid : IsFlowNode true (Some 0) d node rest
   pub borrowed : borrows_node node ≡ true
   pub unique : has_unique_keys (tree_of node) ≡ true
@@ -51,7 +51,7 @@ pub record IsBorrowed (d : ℕ) (t : List ℕ) : Type 0 where
 pub record AreBorrowed (d k : ℕ) (t : List ℕ) : Type 0 where
   pub items : Items
   pub rest : List ℕ
-  pub stand : t ≡ flow_items_text k items rest
+  pub are_there : t ≡ flow_items_text k items rest
   pub valid : AreFlowItems d k items rest
   pub borrowed : borrows_items items ≡ true
   pub unique : each_has_unique_keys (items_tree items) ≡ true
@@ -91,8 +91,8 @@ located_or_nothing total None = placed None 0 0 0 nothing
 located_or_nothing total (Some x) = locate total x.0 x.1
 
 -- the node in front, with its places in a text so long (own)
-unfoldable pub node_in_front : ℕ → ℕ → List ℕ → Placed
-node_in_front total d t = located_or_nothing total (all_node true (Some 0) d t)
+unfoldable pub leading_node : ℕ → ℕ → List ℕ → Placed
+leading_node total d t = located_or_nothing total (all_node true (Some 0) d t)
 
 -- items or entries that are read, with their places in a text so long (own)
 abbrev pub located_or_end : ℕ → ℕ → Option (Items × List ℕ) → Parts
@@ -100,5 +100,5 @@ located_or_end total k None = end
 located_or_end total k (Some x) = locate_items total k x.0 x.1
 
 -- the items or entries in front, with their places in a text so long (own)
-unfoldable pub items_in_front : ℕ → ℕ → ℕ → List ℕ → Parts
-items_in_front total d k t = located_or_end total k (all_items d k t)
+unfoldable pub leading_items : ℕ → ℕ → ℕ → List ℕ → Parts
+leading_items total d k t = located_or_end total k (all_items d k t)

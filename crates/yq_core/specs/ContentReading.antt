@@ -96,8 +96,8 @@ before_of true = after (joined 0)
 before_of false = within
 
 -- what the rest of a scalar in these quotes means, perhaps after a joined line (own)
-abbrev pub content_behind : ℕ → Bool → List ℕ → List ℕ
-content_behind quote is_joined text = content_on quote 0 (before_of is_joined) [] text
+abbrev pub content_after : ℕ → Bool → List ℕ → List ℕ
+content_after quote is_joined text = content_on quote 0 (before_of is_joined) [] text
 
 -- whether a backslash in double quotes is in front (own)
 abbrev pub is_slash : ℕ → List ℕ → Bool

@@ -106,6 +106,6 @@ entry_pieces_at [] x = Some x
 entry_pieces_at (s ∷ ss) x = option_and_then (entry_pieces_at ss) (path_inside s x.node x.rest)
 
 -- an item or entry is in a text, after some of it (own)
-pub record StandsIn (t : List ℕ) (x : EntryPieces) : Type 0 where
+pub record IsEntryInText (t : List ℕ) (x : EntryPieces) : Type 0 where
   pub before : List ℕ
   pub text : t ≡ before ++ pieces_text x

@@ -18,7 +18,7 @@ pub record IsInline (place : Place) (n : ℤ) (depth : ℕ) (node : FlowNode) (r
 pub record IsInlineAt (place : Place) (n : ℤ) (depth at : ℕ) (text : List ℕ) (p : Placed) : Type 0 where
   pub node : FlowNode
   pub rest : List ℕ
-  pub stands : drop at text ≡ node_text node rest
+  pub is_located : drop at text ≡ node_text node rest
   pub inline : IsInline place n depth node rest
   pub places : p ≡ locate (length text) node rest
 

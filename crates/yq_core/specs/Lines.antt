@@ -7,8 +7,8 @@ abbrev pub spaces : List ℕ → ℕ
 spaces l = prefix_len (λ b. b == 32) l
 
 -- what comes after them (own)
-abbrev pub behind_spaces : List ℕ → List ℕ
-behind_spaces l = drop (spaces l) l
+abbrev pub without_spaces : List ℕ → List ℕ
+without_spaces l = drop (spaces l) l
 
 -- a tab is in front (YAML 1.2.2, section 5.5)
 abbrev pub is_tab : List ℕ → Bool

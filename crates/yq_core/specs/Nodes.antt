@@ -11,8 +11,8 @@ pub data Key : Type 0 where
 
 -- what comes after it: a gap, and after it nothing, or a comma and a gap (YAML 1.2.2, section 7.4)
 pub data Sep : Type 0 where
-  last : (behind : List ℕ) → Sep
-  comma : (behind gap : List ℕ) → Sep
+  last : (after : List ℕ) → Sep
+  comma : (after gap : List ℕ) → Sep
 
 mutual
   -- a node: nothing, an alias, a scalar, a collection by its closing bracket, or a node after an anchor (YAML 1.2.2, sections 6.9.2, 7.1,

@@ -59,13 +59,13 @@ pub data Mantissa : Type 0 where
 abbrev pub spell_mantissa : Mantissa → List ℕ
 spell_mantissa (fraction digits) = codes "." ++ digits
 spell_mantissa (whole digits) = digits
-spell_mantissa (pointed digits behind) = digits ++ (codes "." ++ behind)
+spell_mantissa (pointed digits after) = digits ++ (codes "." ++ after)
 
 -- a mantissa has digits; after a point that follows digits there may be none (10.3.2)
 abbrev pub IsMantissa : Mantissa → Type 0
 IsMantissa (fraction digits) = IsNumeral 10 digits
 IsMantissa (whole digits) = IsNumeral 10 digits
-IsMantissa (pointed digits behind) = IsNumeral 10 digits × AllDigits 10 behind
+IsMantissa (pointed digits after) = IsNumeral 10 digits × AllDigits 10 after
 
 -- ([eE][-+]?[0-9]+)? (10.3.2)
 pub data Exponent : Type 0 where

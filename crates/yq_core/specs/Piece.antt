@@ -26,7 +26,7 @@ further_spaces places.FlowKey n = None
 pub record IsPlainPiece (place : Place) (n : ℤ) (at : ℕ) (text : List ℕ) (p : Piece) : Type 0 where
   pub scalar : List ℕ
   pub rest : List ℕ
-  pub stands : drop at text ≡ scalar ++ rest
+  pub is_located : drop at text ≡ scalar ++ rest
   pub plain : IsPlain (in_flow place) (further_spaces place n) scalar rest
   pub piece : p ≡ inline_piece styles.Plain at (at + length scalar)
 

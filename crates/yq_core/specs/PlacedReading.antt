@@ -65,12 +65,12 @@ abbrev pub takes_placed : Placed → Bool
 takes_placed (placed a s c e f) = takes_in a f
 
 -- a node may come after an anchor and this gap (own)
-abbrev pub stands_behind : List ℕ → Placed → Bool
-stands_behind g s = (bare_placed s || not (is_empty g)) && takes_placed s
+abbrev pub may_follow_anchor : List ℕ → Placed → Bool
+may_follow_anchor g s = (bare_placed s || not (is_empty g)) && takes_placed s
 
 -- a node after an anchor and a gap (own)
 abbrev pub then_anchored : ℕ → List ℕ → List ℕ → List ℕ → Placed × List ℕ → Option (Placed × List ℕ)
-then_anchored total t n g x = if stands_behind g x.0 then Some (anchored_node n (total - length t) x.0, x.1) else None
+then_anchored total t n g x = if may_follow_anchor g x.0 then Some (anchored_node n (total - length t) x.0, x.1) else None
 
 -- the item in front with what comes after it, and what follows (own)
 abbrev pub placed_item : ℕ → ℕ → List ℕ → Option (Placed × List ℕ)

@@ -51,7 +51,8 @@ plain_may_follow spaces (Some indentation) text = begins_deep spaces (indentatio
 
 -- After white space and breaks a plain scalar goes on with text that is no comment and doesn't end it (YAML 1.2.2, section 7.3.3).
 abbrev pub follows : Bool → Option ℕ → List ℕ → List ℕ → Bool
-follows flow spaces gap text = not (is_empty text) && not (front (λ b. b == 35) text) && not (ends_text flow text) && plain_may_follow spaces (last_line gap) text
+follows flow spaces gap text =
+    not (is_empty text) && not (front (λ b. b == 35) text) && not (ends_text flow text) && plain_may_follow spaces (last_line gap) text
 
 -- A plain scalar has to end here: at the end, where its text ends, or at white space or a break after which it doesn't go on (YAML 1.2.2,
 -- section 7.3.3).

@@ -14,7 +14,7 @@ pub record IsQuotedPiece (at : ℕ) (text : List ℕ) (p : Piece) : Type 0 where
   pub ls : QuotedLines
   pub scalar : List ℕ
   pub rest : List ℕ
-  pub stands : drop at text ≡ scalar ++ rest
+  pub is_located : drop at text ≡ scalar ++ rest
   pub quoted : IsQuoted quote ls scalar rest
   pub piece : p ≡ inline_piece (quoted_style quote) at (at + length scalar)
 

@@ -65,18 +65,18 @@ read_flow_key t = do
   Some (keyed key.0 before.0 gap.0, gap.1)
 
 -- a comma or the closing bracket after a gap (own)
-unfoldable pub sep_behind : ℕ → List ℕ → List ℕ → Option (Sep × List ℕ)
-sep_behind k behind t =
+unfoldable pub sep_after : ℕ → List ℕ → List ℕ → Option (Sep × List ℕ)
+sep_after k after t =
     if begins_with 44 t then (do
       h ← read_gap (drop 1 t)
-      Some (comma behind h.0, h.1))
-    else (if begins_with k t then Some (last behind, t) else None)
+      Some (comma after h.0, h.1))
+    else (if begins_with k t then Some (last after, t) else None)
 
 -- what comes after an item, and what follows it (own)
 unfoldable pub sep_at : ℕ → List ℕ → Option (Sep × List ℕ)
 sep_at k t = do
   g ← read_gap t
-  sep_behind k g.0 g.1
+  sep_after k g.0 g.1
 
 -- what reads the items of a collection, by its closing bracket (own)
 abbrev pub Kids : Type 0

@@ -3,7 +3,7 @@ use Rattle.std.{specs.Prelude.{ℕ, List, [], ◌∷◌, map, Option, Some, None
 use denote.Bor.{Bor}
 use Rattle.yq_core.{specs.declared.piece.Piece.Piece, specs.Answers.◌>>=◌, specs.declared.inline.Inline.Inline}
 use Rattle.yq_core.{specs.declared.inline.Form.Form, specs.declared.inline.Form.TheOpen.{Inline-F, Form-F}}
-use Rattle.yq_core.{specs.declared.inline.Form.TheFolds.{fold-Inline, fold-Form}, specs.Borrowed.node_in_front}
+use Rattle.yq_core.{specs.declared.inline.Form.TheFolds.{fold-Inline, fold-Form}, specs.Borrowed.leading_node}
 use Rattle.yq_core.specs.declared.borrowed.BorrowedNode.{BorrowedNode}
 use Rattle.yq_core.specs.Places.{Placed, placed, CoreNode, nothing, name, text, sequence, mapping, Parts, end, part}
 
@@ -63,13 +63,13 @@ abbrev pub entries_end : List (String Global × Piece × Inline) → Parts
 entries_end es = entries_view es end
 
 -- items before those that are read (own)
-abbrev pub behind_items : List Inline → Option (Parts × List ℕ) → Option (Parts × List ℕ)
-behind_items is read = read >>= λ x. Some (items_view is x.0, x.1)
+abbrev pub after_items : List Inline → Option (Parts × List ℕ) → Option (Parts × List ℕ)
+after_items is read = read >>= λ x. Some (items_view is x.0, x.1)
 
 -- entries before those that are read (own)
-abbrev pub behind_entries : List (String Global × Piece × Inline) → Option (Parts × List ℕ) → Option (Parts × List ℕ)
-behind_entries es read = read >>= λ x. Some (entries_view es x.0, x.1)
+abbrev pub after_entries : List (String Global × Piece × Inline) → Option (Parts × List ℕ) → Option (Parts × List ℕ)
+after_entries es read = read >>= λ x. Some (entries_view es x.0, x.1)
 
 -- the node that a `BorrowedNode` shows (own)
 abbrev pub borrowed_view : BorrowedNode → Placed
-borrowed_view b = node_in_front b.total b.depth b.text.now
+borrowed_view b = leading_node b.total b.depth b.text.now

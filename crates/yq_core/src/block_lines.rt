@@ -4,7 +4,7 @@ ghost use Rattle.yq_core.{specs.Answers.ReadsAs, specs.Text.text_lines};
 ghost use Rattle.yq_core.specs.Block as spec;
 ghost use Rattle.yq_core.specs.BlockReading as reading;
 
-use crate::{FaultKind, behind_spaces, ends_line, is_blank, is_line, line_len, spaces_len};
+use crate::{FaultKind, ends_line, is_blank, is_line, line_len, spaces_len, without_spaces};
 
 /// The indentation of a block scalar's text, in columns, and whether a digit or a text line gives it.
 #[derive(Clone, Copy, PartialEq, Eq)]
@@ -17,7 +17,7 @@ pub struct TextIndent {
 fn is_empty_line(indent: TextIndent, line: &[u8]) -> bool
     ensures { result ≡ spec.is_empty_line indent line.now }
 {
-    ends_line(behind_spaces(line)) && (!indent.known || spaces_len(line) <= indent.columns)
+    ends_line(without_spaces(line)) && (!indent.known || spaces_len(line) <= indent.columns)
 }
 
 /// An empty line, with a break where it may belong to the scalar.
@@ -45,8 +45,8 @@ fn is_text_at(indent: TextIndent, line: &[u8]) -> bool
 fn is_less_indented(indent: TextIndent, line: &[u8]) -> bool
     ensures { result ≡ spec.is_less_indented indent line.now }
 {
-    let behind = behind_spaces(line);
-    !ends_line(behind) && spaces_len(line) < indent.columns && !matches!(behind, [b'\t', ..])
+    let after = without_spaces(line);
+    !ends_line(after) && spaces_len(line) < indent.columns && !matches!(after, [b'\t', ..])
 }
 
 /// The indentation that the lines give where no digit does.

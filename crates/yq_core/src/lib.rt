@@ -41,6 +41,8 @@ pub use runs::{Run, run_len};
 pub use scalar::Scalar;
 pub use schema::{are_digits, has_base, is_true_word, resolve};
 pub use style::{Place, Style};
-pub use text::{behind_spaces, ends_line, is_blank, is_white, past_white, spaces_len, split_white};
+pub use text::{
+    ends_line, is_blank, is_white, past_white, spaces_len, split_white, without_spaces,
+};
 pub use tokens::{first_is, is_quoted, strip};
 pub use value::Value;

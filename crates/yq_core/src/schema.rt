@@ -89,8 +89,8 @@ fn is_int(text: &[u8]) -> bool
 fn is_float(text: &str) -> bool
     ensures { result ≡ spec.is_float text.now }
 {
-    let behind = past_sign(text.as_bytes());
-    is_number(behind) || is_infinity(behind) || is_nan(text)
+    let after = past_sign(text.as_bytes());
+    is_number(after) || is_infinity(after) || is_nan(text)
 }
 
 fn is_number(text: &[u8]) -> bool

@@ -103,8 +103,8 @@ pub fn split_white(text: &str) -> (&str, &str)
 }
 
 /// What comes after the spaces in front.
-pub fn behind_spaces(line: &[u8]) -> &[u8]
-    ensures { result.now ≡ lines_spec.behind_spaces line.now }
+pub fn without_spaces(line: &[u8]) -> &[u8]
+    ensures { result.now ≡ lines_spec.without_spaces line.now }
 {
     line.split_at(spaces_len(line)).1
 }

@@ -16,5 +16,5 @@ pub block_read : (n : ℤ) (t : List ℕ) (p : Piece) (s : List ℕ) → IsBlock
 block_read n t p s h content =
     let start : p.start ≡ 0 = ap (λ (x : Piece). x.start) h.piece in
     let q : IsBlockPiece n p.start t p = subst (λ (k : ℕ). IsBlockPiece n k t p) (sym start) h in
-    let stands = ap (λ k. drop k t) (sym start) ∙ q.stands in
-    ap (block_head_at n) stands ∙ (ap (λ o. o >>= λ x. Some (string_head (block_content x.0))) (block_again (deeper n) q.block q.rest q.scalar) ∙ ap (λ l. Some (string_head l)) (sym (content n q)))
+    let is_located = ap (λ k. drop k t) (sym start) ∙ q.is_located in
+    ap (block_head_at n) is_located ∙ (ap (λ o. o >>= λ x. Some (string_head (block_content x.0))) (block_again (deeper n) q.block q.rest q.scalar) ∙ ap (λ l. Some (string_head l)) (sym (content n q)))

@@ -7,17 +7,17 @@ use Rattle.yq_documents.{specs.Documents.{Document, IsRoot, IsDocument, AreDocum
 use Rattle.yq_documents.proofs.Conditions.{keys_are, are_keys, short_is, is_short}
 use Rattle.yq_outline.{specs.Group.{group, is_fine}, specs.Outline.{Line, value}, proofs.ByRules.{rules_from, rules_give}}
 use Rattle.yq_outline.proofs.NameConditions.{anchors_are, are_anchors, bound_are, are_bound_of}
-use Rattle.yq_outline.{proofs.Decides.{stand-sound, stand-complete}, proofs.KeyLaws.{unique_is, is_unique}}
+use Rattle.yq_outline.{proofs.Decides.{are_there-sound, are_there-complete}, proofs.KeyLaws.{unique_is, is_unique}}
 
 -- the root of lines, as a test and as a fact
 root_is : (ls : List Line) → is_fine (group ls) ≡ true → IsRoot ls (value (group ls))
 root_is [] e = refl
 root_is (l ∷ ls) e =
-    let s = stand-sound (l ∷ ls) (value (group (l ∷ ls))) (cond-true _ _ _ e) in (s.0, rules_from s.0 (l ∷ ls) (value (group (l ∷ ls))) s.1 l ls refl)
+    let s = are_there-sound (l ∷ ls) (value (group (l ∷ ls))) (cond-true _ _ _ e) in (s.0, rules_from s.0 (l ∷ ls) (value (group (l ∷ ls))) s.1 l ls refl)
 
 is_root : (ls : List Line) (node : Node) → IsRoot ls node → (is_fine (group ls) ≡ true) × (value (group ls) ≡ node)
 is_root [] node h = (refl, sym h)
-is_root (l ∷ ls) node h = cond_some (is_fine (group (l ∷ ls))) (value (group (l ∷ ls))) node (stand-complete (l ∷ ls) node h.0 (rules_give h.0 (l ∷ ls) node h.1))
+is_root (l ∷ ls) node h = cond_some (is_fine (group (l ∷ ls))) (value (group (l ∷ ls))) node (are_there-complete (l ∷ ls) node h.0 (rules_give h.0 (l ∷ ls) node h.1))
 
 pub document_is : (p : Part) → is_document p ≡ true → IsDocument p (part_document p)
 document_is p e = search (rules, and_parts, root_is, keys_are, unique_is, leb-true, anchors_are, bound_are, short_is)

@@ -54,16 +54,16 @@ mutual
   pub items_there : (whole : List ℕ) (k : ℕ) (is : Items) (rest : List ℕ) → EndsIn whole (flow_items_text k is rest) → parts_fit whole (locate_items (length whole) k is rest) ≡ each_has_fit_keys is
   items_there whole k none rest h = refl
   items_there whole k (item key n s is) rest h =
-      let behind = flow_items_text k is rest in
-      let at_node = past_key whole key (node_text n (sep_text s behind)) h in
-      let one = key_there whole key (node_text n (sep_text s behind)) h in
-      let two = keys_there whole n (sep_text s behind) at_node in
-      let three = items_there whole k is rest (past_sep whole s behind (past_node whole n (sep_text s behind) at_node)) in
+      let after = flow_items_text k is rest in
+      let at_node = past_key whole key (node_text n (sep_text s after)) h in
+      let one = key_there whole key (node_text n (sep_text s after)) h in
+      let two = keys_there whole n (sep_text s after) at_node in
+      let three = items_there whole k is rest (past_sep whole s after (past_node whole n (sep_text s after) at_node)) in
       λ i. one i && (two i && three i)
 
 -- an entry of the code is one of those that are
-pub entry_stands : (t : List ℕ) (xs : List (String Global × Piece × Inline)) (i : ℕ) (x : String Global × Piece × Inline) → i < length xs → x ≡ get_or xs i x → PartsHaveSpans t (entries_end (drop i xs)) → HasSpans t (inline_view x.2)
-entry_stands t xs i x within is h = search (rules, drop_more)
+pub entry_is_there : (t : List ℕ) (xs : List (String Global × Piece × Inline)) (i : ℕ) (x : String Global × Piece × Inline) → i < length xs → x ≡ get_or xs i x → PartsHaveSpans t (entries_end (drop i xs)) → HasSpans t (inline_view x.2)
+entry_is_there t xs i x within is h = search (rules, drop_more)
 
-pub item_stands : (t : List ℕ) (xs : List Inline) (i : ℕ) (x : Inline) → i < length xs → x ≡ get_or xs i x → PartsHaveSpans t (items_end (drop i xs)) → HasSpans t (inline_view x)
-item_stands t xs i x within is h = search (rules, drop_more)
+pub item_is_there : (t : List ℕ) (xs : List Inline) (i : ℕ) (x : Inline) → i < length xs → x ≡ get_or xs i x → PartsHaveSpans t (items_end (drop i xs)) → HasSpans t (inline_view x)
+item_is_there t xs i x within is h = search (rules, drop_more)

@@ -9,7 +9,7 @@ use Rattle.yq_outline.{proofs.RowLaws.{IsBeside, beside_in, no_comments}, proofs
 use Rattle.yq_outline.proofs.WalkPositions.{Located}
 use Rattle.yq_row_table.{specs.Grammar.{AreRows, Limit, limit_after}, specs.Rows.Row, specs.View.{RowsView, Slices, slices}}
 use Rattle.yq_documents.{specs.RowReading.name_in, specs.Stretches.{HasText, IsLineIn, document_lines, number_of}}
-use Rattle.yq_documents.proofs.WalkedRows.{line_here, located_in, own_line, stands}
+use Rattle.yq_documents.proofs.WalkedRows.{line_here, located_in, own_line, is_located}
 use Rattle.yq_documents.proofs.RowLineLaws.{anchor_is, content_quoted, tail_is}
 use Rattle.yq_outline.specs.Comments as comments
 
@@ -21,10 +21,10 @@ rows_quoted limit (x ∷ rs) end rest h (suc i) r e = rows_quoted (limit_after x
 
 module _ {t : List ℕ} {n : ℕ} {s : RowsView} {d : Stretch} (x : HasText t n s d) {q : Position} (at : IsLineIn t n q) where
   pub head_quoted : is_quoted (slices (located_in x at).row).head ≡ true → IsQuotedText (slices (located_in x at).row).head
-  head_quoted = search (rules, stands, located_in, rows_quoted)
+  head_quoted = search (rules, is_located, located_in, rows_quoted)
 
   module _ (l : Line) (e : slice_get (document_lines n t) (number_of n t q) ≡ Some l) where
-    abbrev k : Located s d (stands x) q
+    abbrev k : Located s d (is_located x) q
     k = located_in x at
 
     own : (located_in x at).line ≡ l
@@ -43,10 +43,10 @@ module _ {t : List ℕ} {n : ℕ} {s : RowsView} {d : Stretch} (x : HasText t n 
     -- a key
     module _ (r : ℕ) (agrees : (y : Slices) → slice_get s.rows q.row ≡ Some y → r ≡ line_rank q.line y) where
       pub no_key : (r ≡ 2 → ⊥) → None ≡ key_of l.mark
-      no_key = key_none s d (stands x) q (line_here x at) l (k.is ∙ ap Some own) r agrees
+      no_key = key_none s d (is_located x) q (line_here x at) l (k.is ∙ ap Some own) r agrees
 
       pub own_key : r ≡ 2 → Some (scalar_content (slices (located_in x at).row).key) ≡ key_of l.mark
-      own_key = key_here s d (stands x) q (line_here x at) l (k.is ∙ ap Some own) r agrees
+      own_key = key_here s d (is_located x) q (line_here x at) l (k.is ∙ ap Some own) r agrees
 
     -- a head
     pub head_some : true ≡ is_some l.head → head_of (located_in x at).row.content ≡ l.head

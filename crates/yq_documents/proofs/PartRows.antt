@@ -5,7 +5,7 @@ use Rattle.std.{proofs.lemmas.List.{drop-map, length-map, length-drop, take_at, 
 use Rattle.yq_core.specs.Inline.{depth_limit}
 use Rattle.yq_outline.{specs.Group.group, specs.Sound.is_sound_outline, specs.Lines.lines_of_rows, specs.RowWalk.{HasDocument, HasRows}}
 use Rattle.yq_outline.specs.declared.line_position.Stretch.{Stretch}
-use Rattle.yq_row_table.{specs.Grammar.{IsCut, unlimited, AreRows}, specs.Rows.{Row, Part, Cut}, specs.Splices.{nth_part, behind_part}}
+use Rattle.yq_row_table.{specs.Grammar.{IsCut, unlimited, AreRows}, specs.Rows.{Row, Part, Cut}, specs.Splices.{nth_part, after_part}}
 use Rattle.yq_row_table.{specs.View.{slices, rows_of, RowsView, rows_view}, proofs.splices.PartPlaces.part_in}
 use Rattle.yq_documents.{specs.Documents.document_parts, specs.Reading.{all_documents, is_document}, specs.PartNumbers.part_number}
 use Rattle.yq_documents.{specs.LinesInRows.document_row, proofs.PartNumberLaws.{part_there, rows_there, rows_within}}
@@ -30,12 +30,12 @@ has_part (x ∷ ps) zero h = (x, refl)
 has_part (x ∷ ps) (suc i) h = has_part ps i (omega (arith, h))
 
 -- the rows of a document are among those of its cut
-pub rows_stand : (t : List ℕ) (s : RowsView) (c : Cut) (n : ℕ) (p : Part) (d : Stretch) → IsCut t c → s ≡ rows_view c → slice_get (document_parts c) n ≡ Some p → d.first ≡ document_row n c → d.end ≡ document_row n c + length p.rows →
+pub rows_located : (t : List ℕ) (s : RowsView) (c : Cut) (n : ℕ) (p : Part) (d : Stretch) → IsCut t c → s ≡ rows_view c → slice_get (document_parts c) n ≡ Some p → d.first ≡ document_row n c → d.end ≡ document_row n c + length p.rows →
     (h : HasRows s d) × ((h.rows ≡ p.rows) × (h.rows ≡ take (d.end - d.first) (drop d.first (rows_of c))))
-rows_stand t s c n p d cut is at first end =
+rows_located t s c n p d cut is at first end =
     let b = part_begins c n p at in
-    let valid : AreRows unlimited p.rows p.end (behind_part (part_number n c) c) =
-    subst (λ (x : Part). AreRows unlimited x.rows x.end (behind_part (part_number n c) c)) (part_there c n p at) (part_in c (part_number n c) true cut.parts).rows in
+    let valid : AreRows unlimited p.rows p.end (after_part (part_number n c) c) =
+    subst (λ (x : Part). AreRows unlimited x.rows x.end (after_part (part_number n c) c)) (part_there c n p at) (part_in c (part_number n c) true cut.parts).rows in
     let k : ℕ = document_row n c in
     let size : d.end - d.first ≡ length p.rows = omega (arith, first, end) in
     let here : drop d.first (rows_of c) ≡ p.rows ++ b.0 = ap (λ (j : ℕ). drop j (rows_of c)) first ∙ b.1 in
@@ -51,7 +51,7 @@ rows_stand t s c n p d cut is at first end =
         rows = p.rows;
         limit = unlimited;
         end = p.end;
-        rest = behind_part (part_number n c) c;
+        rest = after_part (part_number n c) c;
         order = omega (arith, first, end);
         within = omega (arith, first, end, long, all, upto);
         pieces = pieces;
@@ -63,7 +63,7 @@ rows_stand t s c n p d cut is at first end =
 -- the document of a text with its cut
 pub document_has : (t : List ℕ) (s : RowsView) (c : Cut) (n : ℕ) (p : Part) (d : Stretch) → IsCut t c → s ≡ rows_view c →
     slice_get (document_parts c) n ≡ Some p → d.first ≡ document_row n c → d.end ≡ document_row n c + length p.rows → all_documents c ≡ true →
-    (h : HasDocument s d) × (h.stand.rows ≡ p.rows)
+    (h : HasDocument s d) × (h.are_there.rows ≡ p.rows)
 document_has t s c n p d cut is at first end walk =
-    let h = rows_stand t s c n p d cut is at first end in
-    (record { stand = h.0; sound = ap (λ (rs : List Row). is_sound_outline depth_limit (group (lines_of_rows rs))) h.1.0 ∙ sound_part p (each (document_parts c) walk n p at) }, h.1.0)
+    let h = rows_located t s c n p d cut is at first end in
+    (record { are_there = h.0; sound = ap (λ (rs : List Row). is_sound_outline depth_limit (group (lines_of_rows rs))) h.1.0 ∙ sound_part p (each (document_parts c) walk n p at) }, h.1.0)

@@ -11,7 +11,7 @@ use Rattle.yq_documents.specs.LinesInRows.{document_row}
 use Rattle.yq_documents.specs.Stretches.{HasText, IsLineIn, IsPositionIn, OfLineIn, document_lines, rows_of_document, number_of, part_rows}
 use Rattle.yq_documents.proofs.PartRows.{document_has, has_part, part_begins}
 
-pub document_in : {t : List ℕ} {n : ℕ} {s : RowsView} {d : Stretch} → HasText t n s d → (h : HasDocument s d) × (h.stand.rows ≡ rows_of_document n t)
+pub document_in : {t : List ℕ} {n : ℕ} {s : RowsView} {d : Stretch} → HasText t n s d → (h : HasDocument s d) × (h.are_there.rows ≡ rows_of_document n t)
 document_in {t} {n} {s} {d} x =
     let c : Cut = cut_of t in
     let p = has_part (document_parts c) n (omega (arith, x.there, length-map (document_parts c) part_document)) in
@@ -20,17 +20,17 @@ document_in {t} {n} {s} {d} x =
     (h.0, h.1 ∙ sym is)
 
 module _ {t : List ℕ} {n : ℕ} {s : RowsView} {d : Stretch} (x : HasText t n s d) where
-  abbrev pub stands : HasRows s d
-  stands = (document_in x).0.stand
+  abbrev pub is_located : HasRows s d
+  is_located = (document_in x).0.are_there
 
   -- what is known of the lines of the rows that were walked is so of those of the document
-  agrees_lines : (P : List Line → (Position → ℕ) → Type 0) → P (lines_of_rows stands.rows) (line_number d stands.rows) → P (document_lines n t) (number_of n t)
+  agrees_lines : (P : List Line → (Position → ℕ) → Type 0) → P (lines_of_rows is_located.rows) (line_number d is_located.rows) → P (document_lines n t) (number_of n t)
   agrees_lines P p = subst (λ (y : List Row × Stretch). P (lines_of_rows y.0) (line_number y.1 y.0)) (λ i. ((document_in x).1 i, x.place i)) p
 
   pub agrees_rows : (P : List Line → (Position → ℕ) → Type 0) → ((h : HasRows s d) → P (lines_of_rows h.rows) (line_number d h.rows)) → P (document_lines n t) (number_of n t)
-  agrees_rows P f = agrees_lines P (f stands)
+  agrees_rows P f = agrees_lines P (f is_located)
 
-  pub agrees_document : (P : List Line → (Position → ℕ) → Type 0) → ((h : HasDocument s d) → P (lines_of_rows h.stand.rows) (line_number d h.stand.rows)) → P (document_lines n t) (number_of n t)
+  pub agrees_document : (P : List Line → (Position → ℕ) → Type 0) → ((h : HasDocument s d) → P (lines_of_rows h.are_there.rows) (line_number d h.are_there.rows)) → P (document_lines n t) (number_of n t)
   agrees_document P f = agrees_lines P (f (document_in x).0)
 
   pub of_line : (q : Position) (said : Line → Type 0) → OfLine s d q said → OfLineIn t n q said
@@ -43,12 +43,12 @@ module _ {t : List ℕ} {n : ℕ} {s : RowsView} {d : Stretch} (x : HasText t n 
   position_here {q} at = subst (λ (y : RowsView × Stretch). IsPosition y.0 y.1 q) (λ i. (sym x.rows i, sym x.place i)) at
 
   -- a line with its row
-  abbrev pub located_in : {q : Position} → IsLineIn t n q → Located s d stands q
-  located_in {q} at = located s d stands q (line_here at)
+  abbrev pub located_in : {q : Position} → IsLineIn t n q → Located s d is_located q
+  located_in {q} at = located s d is_located q (line_here at)
 
   pub line_back : {q : Position} → IsLine s d q → IsLineIn t n q
   line_back {q} at =
-      let k = located s d stands q at in
+      let k = located s d is_located q at in
       search (rules, agrees_lines, x.rows, x.place)
 
   -- the line of that number is that of the row
@@ -57,7 +57,7 @@ module _ {t : List ℕ} {n : ℕ} {s : RowsView} {d : Stretch} (x : HasText t n 
 
   -- a row of the document is one of the text
   pub row_in : {q : Position} → IsLineIn t n q → q.row < length s.rows
-  row_in {q} at = omega (arith, (line_here at).upto, stands.within)
+  row_in {q} at = omega (arith, (line_here at).upto, is_located.within)
 
   -- and that of its cut
   pub row_there : {q : Position} (at : IsLineIn t n q) → slice_get (rows_of (cut_of t)) q.row ≡ Some (located_in at).row

@@ -5,7 +5,7 @@ use Rattle.yq_core.{specs.Borrowed.borrowed_text, specs.Scalar.plain_of, specs.T
 use Rattle.yq_core.{specs.Places.{Placed, placed, name}, specs.Scalars.{is_quoted, scalar_content}, specs.Trees.{placed_tree, scalar_node}}
 use Rattle.yq_core.specs.View.{borrowed_view}
 use Rattle.yq_outline.{specs.View.{head_flow, head_view}, specs.Lines.head_of}
-use Rattle.yq_row_table.{specs.Exchange.behind_row, specs.Rows.{Row, Cut}, specs.View.slices}
+use Rattle.yq_row_table.{specs.Exchange.after_row, specs.Rows.{Row, Cut}, specs.View.slices}
 use Rattle.yq_documents.{specs.FlowReading.row_flow, specs.RowReading.string_head, specs.declared.decoded.Decoded.Decoded}
 use Rattle.yq_documents.specs.declared.decoded.DecodedHead as heads
 
@@ -60,7 +60,7 @@ decoded_flow m = option_and_then (λ x. option_and_then decoded_head_flow x.head
 pub record IsDecodedBy (total : ℕ) (c : Cut) (m : Option Decoded) (i : ℕ) (r : Row) : Type 0 where
   pub key : decoded_key m (slices r).key ≡ scalar_content (slices r).key
   pub head : decoded_head m (slices r).head ≡ head_of r.content
-  pub flow : decoded_flow m ≡ row_flow total r (behind_row i c)
+  pub flow : decoded_flow m ≡ row_flow total r (after_row i c)
 
 -- The same by what is made of rows (own).
 abbrev pub IsDecoded : ℕ → Cut → List Decoded → ℕ → Row → Type 0

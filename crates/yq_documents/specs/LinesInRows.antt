@@ -15,13 +15,15 @@ pub record RowLine : Type 0 where
   pub line : ℕ
 
 -- the same after one more row (own)
-abbrev pub behind_one : RowLine → RowLine
-behind_one s = record s { before = suc s.before }
+abbrev pub one_row_later : RowLine → RowLine
+one_row_later s = record s { before = suc s.before }
 
 -- line n of rows; a row has a line for each dash before its mark, and one for the mark (own)
 abbrev pub row_line : ℕ → List Row → Option RowLine
 row_line n [] = None
-row_line n (r ∷ rs) = if nat_lt (length r.dashes) n then option_map behind_one (row_line (n - suc (length r.dashes)) rs) else Some (record { before = 0; row = r; line = n })
+row_line n (r ∷ rs) =
+    if nat_lt (length r.dashes) n then option_map one_row_later (row_line (n - suc (length r.dashes)) rs)
+    else Some (record { before = 0; row = r; line = n })
 
 -- the line of the entry or item to which steps lead among rows; the root has none, nor has what is in flow (own)
 abbrev pub row_line_of : List Step → List Row → Option RowLine

@@ -43,9 +43,13 @@ abbrev pub has_short_root : List Row → Bool
 has_short_root [] = true
 has_short_root (r ∷ rs) = not (is_long_plain r.mark r.content)
 
+-- whether each alias of a part has its anchor before it, and its outline is sound
+abbrev pub has_sound_root : Part → Bool
+has_sound_root p = are_bound [] (names_of (root_of p)) && is_sound_outline depth_limit (part_outline p)
+
 -- whether a part means a document
 abbrev pub is_document : Part → Bool
-is_document p = have_fit_keys p.rows && (has_short_root p.rows && (have_one_anchor_each (lines_of_rows p.rows) && (are_bound [] (names_of (root_of p)) && is_sound_outline depth_limit (part_outline p))))
+is_document p = have_fit_keys p.rows && (has_short_root p.rows && (have_one_anchor_each (lines_of_rows p.rows) && has_sound_root p))
 
 -- the documents that the parts of a cut mean, where each means one
 abbrev pub documents : Cut → List Document

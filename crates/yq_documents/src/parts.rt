@@ -45,7 +45,7 @@ fn is_sought(is_document: bool, left: usize) -> bool
 }
 
 /// How many documents are left before the sought one after a part.
-fn left_behind(is_document: bool, left: usize) -> usize
+fn left_past(is_document: bool, left: usize) -> usize
     ensures { result ≡ (if is_document then left - 1 else left) }
 {
     if is_document {
@@ -67,7 +67,7 @@ fn number_in(rows: &Rows<'_>, first: bool, i: usize) -> Option<usize>
         if is_sought(is_document, left) {
             return Some(at);
         }
-        left = left_behind(is_document, left);
+        left = left_past(is_document, left);
         is_document = begins_document(bound.marker.as_bytes());
     }
     None

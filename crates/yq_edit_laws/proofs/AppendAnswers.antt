@@ -9,7 +9,7 @@ use Rattle.yq_flow_edits.specs.declared.flow_place.EditPlace.{EditPlace}
 use Rattle.yq_text.specs.Script.{Segment}
 use Rattle.yq_row_table.specs.Rows.{Cut, cut_text}
 use Rattle.yq_documents.specs.Reading.{cut_of, read_at}
-use Rattle.yq_places.{specs.FlowNodes.flow_collection, specs.FlowViews.{behind_anchor, placed_collection}}
+use Rattle.yq_places.{specs.FlowNodes.flow_collection, specs.FlowViews.{following_anchor, placed_collection}}
 use Rattle.yq_places.{specs.declared.places.flow_node.FlowHead.FlowHead, proofs.PrintedTexts.map_some, proofs.FlowNodeLaws.with_more}
 use Rattle.yq_lookup.specs.RowFronts.{IsFlowFront}
 use Rattle.yq_inline.{specs.Neighbours.{coll_end, end_view}, specs.declared.neighbours.CollectionEnd.CollectionEnd}
@@ -22,7 +22,7 @@ use Rattle.yq_edit_laws.{proofs.FlowAppendLaws.{bounds, there}, proofs.FlowHeads
 use Rattle.yq_edit_laws.proofs.FlowLonger.{appending_more}
 
 -- whether the collection takes it
-core_takes : (q : Placed) (key : Option (List ℕ)) → placed_takes (behind_anchor q) key ≡ placed_takes q key
+core_takes : (q : Placed) (key : Option (List ℕ)) → placed_takes (following_anchor q) key ≡ placed_takes q key
 core_takes (placed a b c e f) key = refl
 
 takes_is : (total : ℕ) (w : CollPieces) (key : Option (List ℕ)) → placed_takes (placed_collection total w) key ≡ takes_key w.close key
@@ -30,7 +30,7 @@ unfolding locate
 takes_is total w key = search rules
 
 -- where it is written
-core_append : (q : Placed) → append_place (behind_anchor q) ≡ append_place q
+core_append : (q : Placed) → append_place (following_anchor q) ≡ append_place q
 core_append (placed a b c e f) = refl
 
 module _ (c : Cut) (n : ℕ) (steps : List Step) (key : Option (List ℕ)) (v : Node) (x : FlowHead) (q : Placed) (f : CollFound c n steps x q) where
@@ -53,15 +53,15 @@ module _ (c : Cut) (n : ℕ) (steps : List Step) (key : Option (List ℕ)) (v : 
   place_is =
       sym (core_append q)
       ∙ (ap append_place f.node
-      ∙ subst (λ (l : List ℕ). append_place (placed_collection (length l) own) ≡ Some (place_edit (length l) (edit own))) (sym f.agrees.node_is) (append_found f.agrees.at f.agrees.stands (flow_key key) (flow_of v)))
+      ∙ subst (λ (l : List ℕ). append_place (placed_collection (length l) own) ≡ Some (place_edit (length l) (edit own))) (sym f.agrees.node_is) (append_found f.agrees.at f.agrees.is_located (flow_key key) (flow_of v)))
 
   pub takes_there : placed_takes q key ≡ true → takes_key f.coll.close key ≡ true
   takes_there takes = sym own_takes ∙ takes
 
   pub more_placed : (r : EditPlace) → Some (edit_view r) ≡ append_place q → IsEditPlace (cut_text c) (more_edit key v f.coll) (place_after x.before r)
   more_placed r is =
-      let same = ap edit (whole_is (cut_text c) f.coll x f.agrees) ∙ appending_more (flow_key key) (flow_of v) f.agrees.behind own in
-      let moved = edit_moved c n steps x q f (edit f.coll) (edit own) (edit_view r) same (appended_within f.agrees.at f.agrees.stands (flow_key key) (flow_of v)) (same_Some _ _ (is ∙ place_is)) in
+      let same = ap edit (whole_is (cut_text c) f.coll x f.agrees) ∙ appending_more (flow_key key) (flow_of v) f.agrees.after own in
+      let moved = edit_moved c n steps x q f (edit f.coll) (edit own) (edit_view r) same (appended_within f.agrees.at f.agrees.is_located (flow_key key) (flow_of v)) (same_Some _ _ (is ∙ place_is)) in
       let s = there c n steps key v f.coll f.read f.found in
       record { lies = edit_lies c n steps x q f (edit f.coll) (edit_view r) (bounds c n steps key v f.coll f.read f.found) moved; place_is = moved; before = s.before; text = s.text }
 
@@ -86,13 +86,13 @@ module _ (t : List ℕ) (n : ℕ) (steps : List Step) (x : Front) (w : IsFlowFro
     z = map_some (front_coll x) (sym is)
 
     abbrev whole_coll : CollPieces
-    whole_coll = with_more w.behind z.0
+    whole_coll = with_more w.after z.0
 
     abbrev edited : CollPieces → FlowEdit
     edited = appending (flow_key key) (flow_of v)
 
     put_is : put ≡ cond (takes_key z.0.close key) (Some (flow_segments (cut_text (cut_of t)) (edited whole_coll))) None
-    put_is = ap (λ (o : Option CollPieces). o >>= flow_more (cut_text (cut_of t)) key v) (all_is t n steps x w ∙ ap (option_map (with_more w.behind)) z.1)
+    put_is = ap (λ (o : Option CollPieces). o >>= flow_more (cut_text (cut_of t)) key v) (all_is t n steps x w ∙ ap (option_map (with_more w.after)) z.1)
 
     -- whether the collection takes it
     keyed_is : keyed_takes y.keyed key ≡ takes_key z.0.close key
@@ -112,5 +112,5 @@ module _ (t : List ℕ) (n : ℕ) (steps : List Step) (x : Front) (w : IsFlowFro
         is ∙ (ap (λ (e : Bool × Bool × List ℕ). end_place e.1 (length x.0.text.now - length e.2)) (sym z.2) ∙ end_is_there (length x.0.text.now) (flow_key key) (flow_of v) z.0) in
         subst (λ (o : Option (List Segment)). EditFound o whole (moved_on x.1 p) (key_text (flow_key key) (flow_text v)))
         (sym (put_is ∙ ap (λ (k : Bool). cond k (Some (flow_segments (cut_text (cut_of t)) (edited whole_coll))) None) (sym keyed_is ∙ takes)))
-        (place_found (cut_of t) n steps x.0.text.now x.1 w.behind at f (edited whole_coll) (edited z.0) s.before whole p (appending_more (flow_key key) (flow_of v) w.behind z.0)
-        (appended_within at f.stands (flow_key key) (flow_of v)) (bounds (cut_of t) n steps key v whole_coll f.read f.found) s.text place all)
+        (place_found (cut_of t) n steps x.0.text.now x.1 w.after at f (edited whole_coll) (edited z.0) s.before whole p (appending_more (flow_key key) (flow_of v) w.after z.0)
+        (appended_within at f.is_located (flow_key key) (flow_of v)) (bounds (cut_of t) n steps key v whole_coll f.read f.found) s.text place all)

@@ -3,9 +3,9 @@ use Rattle.std.proofs.Common.{rules, ◌≡◌, ℕ, suc, ◌≤◌, true, false
 use Rattle.std.{proofs.Common.{append_assoc, append-nil}, proofs.lemmas.Bool.false≢true}
 use Rattle.yq_core.{specs.BlockWritten.break_text, specs.Paths.{Step, append_child, changed_at, within}, specs.Tree.Node}
 use Rattle.yq_text.{specs.Limit.text_limit, specs.Script.{Segment, new_text}}
-use Rattle.yq_row_table.{specs.Exchange.asked_behind, specs.Grammar.{unlimited, no_rows}, proofs.PlainEnds.AtLine}
+use Rattle.yq_row_table.{specs.Exchange.asked_after, specs.Grammar.{unlimited, no_rows}, proofs.PlainEnds.AtLine}
 use Rattle.yq_row_table.{specs.Rows.{Row, rows_text, Part, Cut, cut_text}, specs.Seams.{ends_in_block, ends_in_line}}
-use Rattle.yq_row_table.{specs.Splices.{first_gap, behind_first}, proofs.seams.SeamLaws.rows_text-append}
+use Rattle.yq_row_table.{specs.Splices.{first_gap, after_first}, proofs.seams.SeamLaws.rows_text-append}
 use Rattle.yq_row_table.{proofs.splices.SpliceTexts.{own_gap, own_end, first_text}, specs.Items.rows_items}
 use Rattle.yq_places.{specs.CollectionEnds.{CollectionEnd, is_broken}, specs.RowPaths.IsReadable}
 use Rattle.yq_documents.{specs.Documents.lead_of, specs.Ready.begins_no_node, specs.Reading.read_at}
@@ -13,7 +13,7 @@ use Rattle.yq_outline.{specs.Lines.{lines_from, lines_of_rows}, specs.Outline.la
 use Rattle.yq_edit_rules.{specs.declared.layout.Layout.Layout, specs.Alone.singleton, specs.BlockRows.node_rows}
 use Rattle.yq_edit_rules.{proofs.BlockEndLaws.line_ends, proofs.TextLaws.value_spelled, specs.Appends.{TakesRows, inserted}}
 use Rattle.yq_edit_rules.{specs.Changed.{IsChanged, put_document}, specs.CollectionPlaces.IsCollectionEnd}
-use Rattle.yq_edit_rules.{specs.DocumentRows.behind_document, specs.Rooms.is_block_root, proofs.AppendLaws.block_appended}
+use Rattle.yq_edit_rules.{specs.DocumentRows.after_document, specs.Rooms.is_block_root, proofs.AppendLaws.block_appended}
 use Rattle.yq_edit_rules.{proofs.EndedRowLaws.rows_then, proofs.TextPieceLaws.pieces_joined, proofs.BlockLineLaws.break_uncommented}
 use Rattle.yq_edit_rules.{specs.Local.{IsLocal, IsLocalTo}, proofs.ItemsLocal.{first_nothing, last_nothing}}
 use Rattle.yq_edit_rules.{proofs.LocalLaws.{cut_known, rows_local}, specs.Layouts.layout_of, specs.EntryEdits.entry_lines}
@@ -56,7 +56,7 @@ module _ (doc : ℕ) (steps : List Step) (key : Option (List ℕ)) (v : Node) (c
   l = layout_of doc c
 
   abbrev rest : List ℕ
-  rest = behind_document doc c
+  rest = after_document doc c
 
   abbrev part : Part
   part = p doc steps c x read at
@@ -89,8 +89,8 @@ module _ (doc : ℕ) (steps : List Step) (key : Option (List ℕ)) (v : Node) (c
       let h = allows_there doc steps c x read at in
       record {
         rows_are = place.rows_are;
-        new_are = new_rows_are doc steps key v c x read at g (break_text l.br) (first_gap place.back part.end) (behind_first place.back part.end rest) (asked_behind unlimited place.front)
-            (line_ends l.br x.column (first_gap place.back part.end ++ behind_first place.back part.end rest) (subst (AtLine (suc x.column)) (place.behind_is ∙ first_text place.back part.end rest) h.line)) h.allowed h.gap;
+        new_are = new_rows_are doc steps key v c x read at g (break_text l.br) (first_gap place.back part.end) (after_first place.back part.end rest) (asked_after unlimited place.front)
+            (line_ends l.br x.column (first_gap place.back part.end ++ after_first place.back part.end rest) (subst (AtLine (suc x.column)) (place.following_is ∙ first_text place.back part.end rest) h.line)) h.allowed h.gap;
         closed = λ none_back none_block. ap ends_in_line place.front_is ∙ last_closed place.others place.last (sym place.broken ∙ broken) (ap ends_in_block (sym place.front_is) ∙ none_block);
       }
 
@@ -145,9 +145,9 @@ module _ (doc : ℕ) (steps : List Step) (key : Option (List ℕ)) (v : Node) (c
         lead = [];
         trail = [];
         before_is = append-nil x.before ∙ before_is;
-        behind_is = append-nil x.behind ∙ place.behind_is;
+        following_is = append-nil x.after ∙ place.following_is;
         puts = refl;
-        old_is = ap (λ z. x.before ++ z) (append-nil x.behind) ∙ old_is doc steps c x read at;
+        old_is = ap (λ z. x.before ++ z) (append-nil x.after) ∙ old_is doc steps c x read at;
         new_is = sym new_is;
       }) refl (first_nothing (rows_items new [])) refl (last_nothing (rows_items new [])) in (
         subst (ReadsAfter (append doc steps key v) c) new_is

@@ -6,7 +6,7 @@ use Rattle.yq_flow_edits.proofs.RemoveTexts.{either}
 use Rattle.yq_row_table.specs.Rows.{Cut, cut_text}
 use Rattle.yq_documents.specs.Reading.{read_at}
 use Rattle.yq_places.{specs.FlowNodes.flow_collection, specs.NodesAt.node_in, specs.RemovalPlaces.has_others_at}
-use Rattle.yq_places.{specs.Standings.{flow_standing, last_step, rows_of_entry, standing_at}, proofs.PrintedTexts.map_some}
+use Rattle.yq_places.{specs.Placements.{flow_placement, last_step, rows_of_entry, placement_at}, proofs.PrintedTexts.map_some}
 use Rattle.yq_semantics.specs.Operations.{replace, append, remove, line_comment, head_comment}
 use Rattle.yq_text.specs.Script.{Segment, keep}
 use Rattle.yq_edit_rules.specs.EditLaws.{KindsCarryOut, EditsCarryOut, IsEdit}
@@ -19,22 +19,22 @@ module _ (laws : KindsCarryOut) where
   replaced_is n steps v c ss read is = go (keeps_scalar (node_in n steps c) v) refl is
     where
       block : Option (List Segment)
-      block = option_map (value_put (has_text (node_in n steps c)) (layout_of n c) v) (standing_at n steps c)
+      block = option_map (value_put (has_text (node_in n steps c)) (layout_of n c) v) (placement_at n steps c)
 
       flow : Option (List Segment)
-      flow = option_map (flow_put (cut_text c) v) (flow_standing n c (last_step steps))
+      flow = option_map (flow_put (cut_text c) v) (flow_placement n c (last_step steps))
 
       there : keeps_scalar (node_in n steps c) v ≡ false → (block ≡ Some ss) ⊎ (flow ≡ Some ss) → IsEdit (replace n steps v) c ss
-      there other (inl e) = let t = map_some (standing_at n steps c) e in subst (IsEdit (replace n steps v) c) t.2 (laws.values n steps v c t.0 read t.1 other)
-      there other (inr e) = let x = map_some (flow_standing n c (last_step steps)) e in subst (IsEdit (replace n steps v) c) x.2 (laws.flow_values n steps v c x.0 read x.1 other)
+      there other (inl e) = let t = map_some (placement_at n steps c) e in subst (IsEdit (replace n steps v) c) t.2 (laws.values n steps v c t.0 read t.1 other)
+      there other (inr e) = let x = map_some (flow_placement n c (last_step steps)) e in subst (IsEdit (replace n steps v) c) x.2 (laws.flow_values n steps v c x.0 read x.1 other)
 
       go : (b : Bool) → keeps_scalar (node_in n steps c) v ≡ b → cond b (Some (keep (cut_text c) ∷ [])) (option_or block flow) ≡ Some ss → IsEdit (replace n steps v) c ss
       go true same e = subst (IsEdit (replace n steps v) c) (same_Some _ _ e) (laws.equal n steps v c read same)
       go false other e = there other (either block flow e)
 
   appended_is : (n : ℕ) (steps : List Step) (key : Option (List ℕ)) (v : Node) (c : Cut) (ss : List Segment) → read_at (cut_text c) ≡ Some c →
-      ((standing_at n steps c >>= block_more (layout_of n c) key v) ≡ Some ss) ⊎ ((flow_collection n steps c >>= flow_more (cut_text c) key v) ≡ Some ss) → IsEdit (append n steps key v) c ss
-  appended_is n steps key v c ss read (inl e) = let t = bind_some (standing_at n steps c) e in laws.more n steps key v c t.0 ss read t.1 t.2
+      ((placement_at n steps c >>= block_more (layout_of n c) key v) ≡ Some ss) ⊎ ((flow_collection n steps c >>= flow_more (cut_text c) key v) ≡ Some ss) → IsEdit (append n steps key v) c ss
+  appended_is n steps key v c ss read (inl e) = let t = bind_some (placement_at n steps c) e in laws.more n steps key v c t.0 ss read t.1 t.2
   appended_is n steps key v c ss read (inr e) = let w = bind_some (flow_collection n steps c) e in laws.flow_more n steps key v c w.0 ss read w.1 w.2
 
   part_is : (n : ℕ) (steps : List Step) (c : Cut) (ss : List Segment) → read_at (cut_text c) ≡ Some c → (o : Option (List Step × Step)) → last_step steps ≡ o → part_removed n c o ≡ Some ss → IsEdit (remove n steps) c ss

@@ -4,12 +4,12 @@ use Rattle.yq_core.specs.Text.{is_empty, is_line}
 use Rattle.yq_edit_rules.{specs.ClosedTexts.is_closed_text, proofs.BreakLaws.IsLfOrCrLf}
 
 -- the end of a text tells
-pub closed_behind : (a b : List ℕ) → is_empty b ≡ false → is_closed_text (a ++ b) ≡ is_closed_text b
+pub closed_after : (a b : List ℕ) → is_empty b ≡ false → is_closed_text (a ++ b) ≡ is_closed_text b
 unfolding is_closed_text
-closed_behind [] b some = refl
-closed_behind (x ∷ []) [] some = absurd (false≢true (sym some))
-closed_behind (x ∷ []) (y ∷ b) some = refl
-closed_behind (x ∷ (z ∷ a)) b some = closed_behind (z ∷ a) b some
+closed_after [] b some = refl
+closed_after (x ∷ []) [] some = absurd (false≢true (sym some))
+closed_after (x ∷ []) (y ∷ b) some = refl
+closed_after (x ∷ (z ∷ a)) b some = closed_after (z ∷ a) b some
 
 -- with a break after it a text ends in one
 pub closed_end : (a b : List ℕ) → IsLfOrCrLf b → is_closed_text (a ++ b) ≡ true

@@ -4,16 +4,16 @@ use Rattle.std.{proofs.Common.{arith, append_assoc, length-append}, proofs.lemma
 use Rattle.std.specs.List.{slice_get}
 use Rattle.yq_core.specs.Text.{is_empty}
 use Rattle.yq_outline.{specs.Outline.Line, specs.Positions.has_no_mark, proofs.WalkLevels.{RowsAgree, RowAgrees}}
-use Rattle.yq_row_table.{specs.Grammar.{AreRows, unlimited}, specs.Rows.{Row, behind_columns, dashes_text, print_row, rows_text}}
+use Rattle.yq_row_table.{specs.Grammar.{AreRows, unlimited}, specs.Rows.{Row, after_columns, dashes_text, print_row, rows_text}}
 use Rattle.yq_row_table.proofs.seams.SeamLaws.{rows_text-append}
 use Rattle.yq_places.{specs.CollectionEnds.is_broken, specs.PrintedLines.last_break}
 use Rattle.yq_edit_rules.{specs.Siblings.IsEntry, proofs.EndedRowLaws.{row_there, rows_then}}
 use Rattle.yq_edit_laws.proofs.FinalBreaks.{broken_is}
 use Rattle.yq_outline.specs.Outline as outlines
 
-pub get_behind : (a b : List Line) (j : ℕ) → slice_get (a ++ b) (length a + j) ≡ slice_get b j
-get_behind [] b j = let same : 0 + j ≡ j = omega arith in ap (slice_get b) same
-get_behind (x ∷ a) b j = let same : suc (length a) + j ≡ suc (length a + j) = omega arith in ap (slice_get (x ∷ (a ++ b))) same ∙ get_behind a b j
+pub get_after : (a b : List Line) (j : ℕ) → slice_get (a ++ b) (length a + j) ≡ slice_get b j
+get_after [] b j = let same : 0 + j ≡ j = omega arith in ap (slice_get b) same
+get_after (x ∷ a) b j = let same : suc (length a) + j ≡ suc (length a + j) = omega arith in ap (slice_get (x ∷ (a ++ b))) same ∙ get_after a b j
 
 pub get_front : (xs more : List Line) (i : ℕ) (l : Line) → slice_get xs i ≡ Some l → slice_get (xs ++ more) i ≡ Some l
 get_front [] more i l e = absurd (cc)
@@ -30,14 +30,14 @@ last_row : (r : Row) (rs : List Row) → EndIn (r ∷ rs)
 last_row r [] = record { others = []; last = r; is = refl }
 last_row r (q ∷ rs) = let h = last_row q rs in record { others = r ∷ h.others; last = h.last; is = ap (λ x. r ∷ x) h.is }
 
-pub behind_front : (front : List Row) (r : Row) (rs : List Row) → EndIn (front ++ (r ∷ rs))
-behind_front front r rs = let h = last_row r rs in record { others = front ++ h.others; last = h.last; is = ap (λ x. front ++ x) h.is ∙ sym (append_assoc front h.others (h.last ∷ [])) }
+pub past_front : (front : List Row) (r : Row) (rs : List Row) → EndIn (front ++ (r ∷ rs))
+past_front front r rs = let h = last_row r rs in record { others = front ++ h.others; last = h.last; is = ap (λ x. front ++ x) h.is ∙ sym (append_assoc front h.others (h.last ∷ [])) }
 
 pub row_agrees_in : (a b : List Row) (r : Row) → RowsAgree (a ++ (r ∷ b)) → RowAgrees r
 row_agrees_in [] b r h = h.0
 row_agrees_in (x ∷ a) b r h = row_agrees_in a b r h.1
 
-pub columns_are : (column : ℕ) (ns : List ℕ) → behind_columns column ns ≡ column + length (dashes_text ns [])
+pub columns_are : (column : ℕ) (ns : List ℕ) → after_columns column ns ≡ column + length (dashes_text ns [])
 columns_are column [] = omega arith
 columns_are column (n ∷ ns) = search (rules, arith, length-replicate {A = ℕ} n 32, length-append, columns_are (suc (column + n)) ns)
 

@@ -4,10 +4,10 @@ use Rattle.std.proofs.lemmas.Bool.{lt-ltb}
 use Rattle.yq_core.{specs.Paths.Step, specs.Text.separates, specs.Tree.{Node, anchor_of}}
 use Rattle.yq_outline.{specs.Comments.line_comment, specs.Outline.{end, IsOpen, head_or, value}, specs.Places.content_under}
 use Rattle.yq_outline.specs.Lines.{content_anchor, head_of, tail_of}
-use Rattle.yq_row_table.{specs.Exchange.with_content, specs.Grammar.{allows, limit_behind, IsContent}}
+use Rattle.yq_row_table.{specs.Exchange.with_content, specs.Grammar.{allows, limit_after_content, IsContent}}
 use Rattle.yq_row_table.specs.Rows.{Content, content_text, Row, mark_column, parent_indent, rows_text, Cut, cut_text}
 use Rattle.yq_documents.specs.Documents.{MarkIsFit, ContentHasFitKeys, HaveFitKeys}
-use Rattle.yq_edit_rules.{specs.DocumentRows.behind_document, proofs.AnchorLaws.fit_parts, proofs.ContentLaws.free_alone}
+use Rattle.yq_edit_rules.{specs.DocumentRows.after_document, proofs.AnchorLaws.fit_parts, proofs.ContentLaws.free_alone}
 use Rattle.yq_edit_rules.{proofs.InlineReplaceLaws.deeper_entry, proofs.PartLaws.document_known, proofs.UnderLaws.{line_with, gone_lines}}
 use Rattle.yq_edit_rules.{specs.BlockPlaces.{IsUpto, Replaces}, proofs.LaidRows.no_gap_here, proofs.PlaceLaws.upto_row}
 use Rattle.yq_edit_laws.{proofs.NodeRowLaws.{NodeRows, entry, limit, rest, rows_there}, proofs.NodeTaken.TakesNode}
@@ -25,7 +25,7 @@ module _ (doc : ℕ) (s : Step) (ss : List Step) (c : Cut) (h : NodeRows doc s s
 
   -- A content that may come after the key or dash alone: it means the value, after the old anchor and before the old comment.
   pub record IsContentFor (v : Node) (new : Content) : Type 0 where
-    pub stands : IsContent (parent_indent h.mark) new (rest doc s ss c h)
+    pub is_located : IsContent (parent_indent h.mark) new (rest doc s ss c h)
     pub apart : separates (content_text new (rest doc s ss c h)) ≡ true
     pub head : head_of new ≡ Some v
     pub comment : line_comment (tail_of new) ≡ line_comment (tail_of h.mark.content)
@@ -33,13 +33,13 @@ module _ (doc : ℕ) (s : Step) (ss : List Step) (c : Cut) (h : NodeRows doc s s
     pub keys : ContentHasFitKeys new
 
   -- what is after it may begin at any column up to that of the key or dash
-  follow : (x : Content) (k : ℕ) → k ≤ mark_column h.mark → allows (limit_behind (parent_indent h.mark) x) k ≡ true
+  follow : (x : Content) (k : ℕ) → k ≤ mark_column h.mark → allows (limit_after_content (parent_indent h.mark) x) k ≡ true
   follow x k h1 = search (rules, deeper_entry, entry, lt-ltb)
 
   module _ (v : Node) (new : Content) (is : IsContentFor v new) where
-    replaces : Replaces (limit doc s ss c h) (mark_column h.mark) h.row (rows_text (h.under ++ h.back) (h.p.end ++ behind_document doc c)) (with_content new h.mark ∷ []) (rest doc s ss c h)
+    replaces : Replaces (limit doc s ss c h) (mark_column h.mark) h.row (rows_text (h.under ++ h.back) (h.p.end ++ after_document doc c)) (with_content new h.mark ∷ []) (rest doc s ss c h)
     replaces =
-        let row = upto_row new (rest doc s ss c h) (rows_there doc s ss c h).0 h.upto is.stands is.apart in
+        let row = upto_row new (rest doc s ss c h) (rows_there doc s ss c h).0 h.upto is.is_located is.apart in
         record { rows = (row.0, no_gap_here (rest doc s ss c h)); alike = row.1; follow = follow new }
 
     pub takes_content : TakesNode doc s ss c h v (with_content new h.mark ∷ [])

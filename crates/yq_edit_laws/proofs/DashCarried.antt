@@ -11,10 +11,10 @@ use Rattle.yq_row_table.{specs.Rows.{Cut, Nothing, Row, cut_text, mark_column, r
 use Rattle.yq_row_table.proofs.PlaceLaws.{row_front-append}
 use Rattle.yq_documents.specs.Reading.{part_outline, read_at, root_of}
 use Rattle.yq_places.{specs.RowPieces.upto_dash, specs.PrintedLines.{last_break, less_break}}
-use Rattle.yq_places.specs.Standings.{LinesIn, RowsOfEntry, compact_lines, compact_mark, dash_text, rows_of_entry}
+use Rattle.yq_places.specs.Placements.{LinesIn, RowsOfEntry, compact_lines, compact_mark, dash_text, rows_of_entry}
 use Rattle.yq_places.proofs.PrintedTexts.{less_is}
 use Rattle.yq_edit_rules.{proofs.AppendEntryLaws.none_uncommented, specs.Appends.inserted, specs.Changed.put_document}
-use Rattle.yq_edit_rules.{specs.SoundRoots.MayReplace, specs.StandingLaws.StandsThere, specs.TextPieces.IsPiece}
+use Rattle.yq_edit_rules.{specs.SoundRoots.MayReplace, specs.PlacementLaws.HasItsRows, specs.TextPieces.IsPiece}
 use Rattle.yq_edit_rules.{specs.Unders.spaced_content, proofs.TextPieceLaws.pieces_joined, specs.declared.layout.Layout.Layout}
 use Rattle.yq_edit_rules.{specs.BlockReading.is_filled, specs.BlockRows.{item_column, node_rows}, specs.BlockText.block_value}
 use Rattle.yq_edit_rules.{specs.BlockValues.IsFilledValue, proofs.TextLaws.value_spelled, specs.Done.ArePieces, specs.EditLaws.CarriedOut}
@@ -25,14 +25,14 @@ use Rattle.yq_edit_rules.{proofs.CommentReadLaws.break_is, proofs.EditsFitLaws.F
 use Rattle.yq_edit_rules.{proofs.LayoutLaws.mapping_least, proofs.OneLines.break_line, proofs.SegmentLaws.segments_readable}
 use Rattle.yq_edit_rules.proofs.ValueTexts.{IsWrittenFor, value_for}
 use Rattle.yq_semantics.specs.Operations.{Operation, replace}
-use Rattle.yq_edit_laws.proofs.DashNodes.{dash_behind, dash_last_ends, dash_node, dash_pieces, dash_spelled, dash_unnamed, upto}
-use Rattle.yq_edit_laws.proofs.DashValueLaws.{behind_first, behind_rows, behind_spelled, takes_behind}
+use Rattle.yq_edit_laws.proofs.DashNodes.{dash_after, dash_last_ends, dash_node, dash_pieces, dash_spelled, dash_unnamed, upto}
+use Rattle.yq_edit_laws.proofs.DashValueLaws.{after_first, after_rows, after_spelled, takes_after}
 use Rattle.yq_edit_laws.{proofs.HeldLines.{block_piece, break_tail, lines_piece}, proofs.MarkKinds.filled_is}
 use Rattle.yq_edit_laws.{proofs.NodeCarriedLaws.{KeepsNode, node_carried}, proofs.NodeLeads.{content_first, upto_long}}
 use Rattle.yq_edit_laws.{proofs.NodeRowLaws.{NodeRows, rest}, proofs.NodeTaken.{TakesNode, q_text}}
 use Rattle.yq_edit_laws.proofs.NodeValueLaws.{IsHolding, end_is, rows_beside, rows_under, takes_beside, takes_under}
 
-module _ (n : ℕ) (s : Step) (ss : List Step) (c : Cut) (e : RowsOfEntry) (there : StandsThere n s ss c e) (less : e.line < length e.row.dashes) (read : read_at (cut_text c) ≡ Some c) (at : rows_of_entry n (s ∷ ss) c ≡ Some e) where
+module _ (n : ℕ) (s : Step) (ss : List Step) (c : Cut) (e : RowsOfEntry) (there : HasItsRows n s ss c e) (less : e.line < length e.row.dashes) (read : read_at (cut_text c) ≡ Some c) (at : rows_of_entry n (s ∷ ss) c ≡ Some e) where
   abbrev h : NodeRows n s ss c
   h = dash_node n s ss c e there less
 
@@ -52,13 +52,13 @@ module _ (n : ℕ) (s : Step) (ss : List Step) (c : Cut) (e : RowsOfEntry) (ther
   z = rest n s ss c (dash_node n s ss c e there less)
 
   abbrev segments : List ℕ → List Segment
-  segments t = keep p.before ∷ (put p.lines t ∷ (keep p.last ∷ (keep p.behind ∷ [])))
+  segments t = keep p.before ∷ (put p.lines t ∷ (keep p.last ∷ (keep p.after ∷ [])))
 
   -- the old text
   old_there : (t : List ℕ) → old_text (segments t) ≡ cut_text c
   old_there t =
-      let parts : p.before ++ (less_break (dash_text e) ++ (last ++ (p.behind ++ []))) ≡ p.before ++ ((less_break (dash_text e) ++ last) ++ p.behind) = simp (append_assoc, append-nil) refl in
-      parts ∙ (ap (λ o. p.before ++ (o ++ p.behind)) (less_is (dash_text e)) ∙ sym (dash_spelled n s ss c e there less read at))
+      let parts : p.before ++ (less_break (dash_text e) ++ (last ++ (p.after ++ []))) ≡ p.before ++ ((less_break (dash_text e) ++ last) ++ p.after) = simp (append_assoc, append-nil) refl in
+      parts ∙ (ap (λ o. p.before ++ (o ++ p.after)) (less_is (dash_text e)) ∙ sym (dash_spelled n s ss c e there less read at))
 
   pub dash_old : (br : List ℕ) (w : Written) → old_text (compact_put br (compact_lines e) w) ≡ cut_text c
   dash_old br (inline t) = old_there (32 ∷ t)
@@ -71,7 +71,7 @@ module _ (n : ℕ) (s : Step) (ss : List Step) (c : Cut) (e : RowsOfEntry) (ther
     lead = row_front mark;
     trail = last;
     before_is = append-nil p.before;
-    behind_is = ap (λ b. last ++ b) (append-nil p.behind ∙ dash_behind n s ss c e there less);
+    following_is = ap (λ b. last ++ b) (append-nil p.after ∙ dash_after n s ss c e there less);
     one = break_line last z (dash_last_ends n s ss c e there less);
     begins = upto_long (upto n s ss c e there less);
     puts = refl;
@@ -91,7 +91,7 @@ module _ (n : ℕ) (s : Step) (ss : List Step) (c : Cut) (e : RowsOfEntry) (ther
 
   -- what may come after the dash: the end of its line, without a comment
   holding : (t more : List ℕ) → IsTail t more → line_comment t ≡ None → IsHolding n s ss c h (Nothing t) more
-  holding t more tail none = record { holds = refl; stands = tail; apart = tail_apart t more tail; comment = none ∙ sym none_uncommented; anchor = sym (dash_unnamed n s ss c e there less) }
+  holding t more tail none = record { holds = refl; is_located = tail; apart = tail_apart t more tail; comment = none ∙ sym none_uncommented; anchor = sym (dash_unnamed n s ss c e there less) }
 
   module _ (v : Node) (tree : IsValueTree v) (f : FitsReplace n (s ∷ ss) v c there.part) where
     abbrev op : Operation
@@ -108,9 +108,9 @@ module _ (n : ℕ) (s : Step) (ss : List Step) (c : Cut) (e : RowsOfEntry) (ther
     carried_as new takes t text begins piece size =
         let a : List ℕ = rows_text e.front [] in
         let m : List ℕ = row_front mark in
-        let parts : e.start ++ (a ++ (m ++ (t ++ (last ++ p.behind)))) ≡ p.before ++ (t ++ (last ++ (p.behind ++ []))) = simp (append_assoc, append-nil) refl in
+        let parts : e.start ++ (a ++ (m ++ (t ++ (last ++ p.after)))) ≡ p.before ++ (t ++ (last ++ (p.after ++ []))) = simp (append_assoc, append-nil) refl in
         let same : cut_text (put_document n (inserted e.front new e.back there.part) c) ≡ new_text (segments t) =
-        q_text n s ss c h v new takes ∙ (ap (λ r. e.start ++ (a ++ r)) text ∙ (ap (λ r. e.start ++ (a ++ (m ++ (t ++ (last ++ r))))) (sym (dash_behind n s ss c e there less)) ∙ parts)) in
+        q_text n s ss c h v new takes ∙ (ap (λ r. e.start ++ (a ++ r)) text ∙ (ap (λ r. e.start ++ (a ++ (m ++ (t ++ (last ++ r))))) (sym (dash_after n s ss c e there less)) ∙ parts)) in
         node_carried n s ss c h v new takes (segments t) (keeps t) may (segments_readable (segments t) (new_pieces t piece) size) same begins
 
     -- ---- on its line
@@ -138,14 +138,14 @@ module _ (n : ℕ) (s : Step) (ss : List Step) (c : Cut) (e : RowsOfEntry) (ther
       column = item_column (mark_column mark)
 
       -- the first one on the line of the dash
-      abbrev behind : List Row
-      behind = behind_rows n s ss c h l (mapping_least n c) v filled f.near last refl (end_is n s ss c h last last_tail) uncommented none_uncommented (dash_unnamed n s ss c e there less)
+      abbrev after : List Row
+      after = after_rows n s ss c h l (mapping_least n c) v filled f.near last refl (end_is n s ss c h last last_tail) uncommented none_uncommented (dash_unnamed n s ss c e there less)
 
-      behind_carried : CarriedWith (32 ∷ block_value l column v)
-      behind_carried =
-          carried_as behind (takes_behind n s ss c h l (mapping_least n c) v filled f.near last refl (end_is n s ss c h last last_tail) uncommented none_uncommented (dash_unnamed n s ss c e there less)) (32 ∷ block_value l column v)
-          (behind_spelled n s ss c h l (mapping_least n c) v filled f.near last refl (end_is n s ss c h last last_tail) uncommented none_uncommented (dash_unnamed n s ss c e there less))
-          (behind_first n s ss c h l (mapping_least n c) v filled f.near last refl (end_is n s ss c h last last_tail) uncommented none_uncommented (dash_unnamed n s ss c e there less))
+      after_carried : CarriedWith (32 ∷ block_value l column v)
+      after_carried =
+          carried_as after (takes_after n s ss c h l (mapping_least n c) v filled f.near last refl (end_is n s ss c h last last_tail) uncommented none_uncommented (dash_unnamed n s ss c e there less)) (32 ∷ block_value l column v)
+          (after_spelled n s ss c h l (mapping_least n c) v filled f.near last refl (end_is n s ss c h last last_tail) uncommented none_uncommented (dash_unnamed n s ss c e there less))
+          (after_first n s ss c h l (mapping_least n c) v filled f.near last refl (end_is n s ss c h last last_tail) uncommented none_uncommented (dash_unnamed n s ss c e there less))
           (byte_then 32 (block_value l column v) refl (block_piece l column v tree))
 
       -- all on lines under it
@@ -184,6 +184,6 @@ module _ (n : ℕ) (s : Step) (ss : List Step) (c : Cut) (e : RowsOfEntry) (ther
             CarriedOut op c (compact_put (break_text l.br) p
             (cond b (cond d (compact_text (block_value l (item_column (compact_mark e).column) v))
             (lines (lines_in l (item_column (compact_mark e).column) v))) (inline (value_text InBlock [] v))))
-        go true true full = behind_carried full
+        go true true full = after_carried full
         go true false full = under_carried full
         go false d full = beside_carried (value_text InBlock [] v) (value_for [] v tree f.deep f.long)

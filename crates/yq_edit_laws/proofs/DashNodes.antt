@@ -6,17 +6,17 @@ use mathlib.Core.List.{tail-eq_of_cons-eq}
 use Rattle.yq_core.{specs.Paths.Step, specs.Text.is_empty, specs.Tree.anchor_of, proofs.BlockPieceLaws.IsLf}
 use Rattle.yq_outline.{specs.Outline.Line, specs.Places.content_under}
 use Rattle.yq_row_table.{specs.Exchange.row_front, specs.Gap.IsBreak, specs.Grammar.{AreDashes, is_entry}}
-use Rattle.yq_row_table.{specs.Rows.{Cut, Row, behind_dashes, cut_text, print_row, rows_text}, proofs.PlaceLaws.row_then}
+use Rattle.yq_row_table.{specs.Rows.{Cut, Row, after_dashes, cut_text, print_row, rows_text}, proofs.PlaceLaws.row_then}
 use Rattle.yq_documents.specs.Reading.{read_at}
 use Rattle.yq_places.{specs.RowPieces.{past_dash, upto_dash}, specs.PrintedLines.last_break}
-use Rattle.yq_places.{specs.Standings.{RowsOfEntry, before_entry, behind_entry, dash_text, rows_of_entry}, proofs.CommentPieceLaws.Ended}
+use Rattle.yq_places.{specs.Placements.{RowsOfEntry, before_entry, after_entry, dash_text, rows_of_entry}, proofs.CommentPieceLaws.Ended}
 use Rattle.yq_places.{proofs.DashLaws.{front_is, row_cut}, proofs.RunSpans.rows_then}
-use Rattle.yq_edit_rules.{specs.Siblings.HasEntries, specs.StandingLaws.StandsThere, specs.TextPieces.IsPiece}
-use Rattle.yq_edit_rules.{proofs.StandingMarks.{behind_there, row_there, rows_ended_there}, proofs.TextPieceLaws.{line_cut, text_is_piece}}
+use Rattle.yq_edit_rules.{specs.Siblings.HasEntries, specs.PlacementLaws.HasItsRows, specs.TextPieces.IsPiece}
+use Rattle.yq_edit_rules.{proofs.PlacementMarks.{after_there, row_there, rows_ended_there}, proofs.TextPieceLaws.{line_cut, text_is_piece}}
 use Rattle.yq_edit_rules.{specs.BlockPlaces.{IsUpto, at_dash}, proofs.CommentPieceLaws.nothing, proofs.HeldCuts.last_cut}
 use Rattle.yq_edit_rules.{proofs.CommentRowLaws.cut_spelled, proofs.HeldPieces.suffix_lf}
 use Rattle.yq_edit_laws.{proofs.HeldRows.{last_ends, value_unnamed}, proofs.NodeRowLaws.{NodeRows, line_is, parts, rest}}
-use Rattle.yq_edit_laws.{proofs.RowLines.entries_under, proofs.StandingNodes.node_upto}
+use Rattle.yq_edit_laws.{proofs.RowLines.entries_under, proofs.PlacementNodes.node_upto}
 use Rattle.yq_row_table.specs.Rows as rows
 
 -- dashes from one on
@@ -34,7 +34,7 @@ spaces_some : (n : ℕ) (t : List ℕ) → 1 ≤ n → is_empty (replicate n 32 
 spaces_some zero t h = absurd (omega (arith, h))
 spaces_some (suc n) t h = refl
 
-module _ (n : ℕ) (s : Step) (ss : List Step) (c : Cut) (e : RowsOfEntry) (there : StandsThere n s ss c e) (less : e.line < length e.row.dashes) where
+module _ (n : ℕ) (s : Step) (ss : List Step) (c : Cut) (e : RowsOfEntry) (there : HasItsRows n s ss c e) (less : e.line < length e.row.dashes) where
   -- the dash
   pub dash : (k : ℕ) × (ms : List ℕ) × (drop e.line e.row.dashes ≡ k ∷ ms)
   dash = dashes_from e.line e.row.dashes less
@@ -58,8 +58,8 @@ module _ (n : ℕ) (s : Step) (ss : List Step) (c : Cut) (e : RowsOfEntry) (ther
   abbrev pub dash_node : NodeRows n s ss c
   dash_node = node_upto n s ss c e there (upto_dash e.line e.row) upto dash_count
 
-  pub dash_behind : behind_entry e ≡ rest n s ss c dash_node
-  dash_behind = behind_there n s ss c e there
+  pub dash_after : after_entry e ≡ rest n s ss c dash_node
+  dash_after = after_there n s ss c e there
 
   -- a collection that begins on its line has no anchor
   pub dash_unnamed : anchor_of (content_under there.found.line there.found.under) ≡ None
@@ -71,31 +71,31 @@ module _ (n : ℕ) (s : Step) (ss : List Step) (c : Cut) (e : RowsOfEntry) (ther
   -- ---- the text
 
   -- what comes after the dash, before a rest
-  abbrev behind_it : List ℕ → List ℕ
-  behind_it t = past_dash (drop e.line e.row.dashes) (behind_dashes e.row t)
+  abbrev after_it : List ℕ → List ℕ
+  after_it t = past_dash (drop e.line e.row.dashes) (after_dashes e.row t)
 
-  row_text : (t : List ℕ) → print_row e.row t ≡ row_front (upto_dash e.line e.row) ++ past_dash (drop e.line e.row.dashes) (behind_dashes e.row t)
+  row_text : (t : List ℕ) → print_row e.row t ≡ row_front (upto_dash e.line e.row) ++ past_dash (drop e.line e.row.dashes) (after_dashes e.row t)
   row_text t = row_cut e.line e.row t less
 
   -- more text comes after
-  then_more : (t u : List ℕ) → behind_it (t ++ u) ≡ behind_it t ++ u
+  then_more : (t u : List ℕ) → after_it (t ++ u) ≡ after_it t ++ u
   then_more t u =
-      append_cancel_left (row_front mark) (behind_it (t ++ u)) (behind_it t ++ u)
-      (sym (row_text (t ++ u)) ∙ (row_then e.row t u ∙ (ap (λ l. l ++ u) (row_text t) ∙ append_assoc (row_front mark) (behind_it t) u)))
+      append_cancel_left (row_front mark) (after_it (t ++ u)) (after_it t ++ u)
+      (sym (row_text (t ++ u)) ∙ (row_then e.row t u ∙ (ap (λ l. l ++ u) (row_text t) ∙ append_assoc (row_front mark) (after_it t) u)))
 
   -- the text from after the dash on isn't empty, and ends in an LF, or nothing is after
   some_text : is_empty (dash_text e) ≡ false
-  some_text = ap (λ ns. is_empty (past_dash ns (behind_dashes e.row (rows_text e.under [])))) dash.2 ∙ spaces_some dash.0 _ asked.0
+  some_text = ap (λ ns. is_empty (past_dash ns (after_dashes e.row (rows_text e.under [])))) dash.2 ∙ spaces_some dash.0 _ asked.0
 
-  dash_ended : Ended (dash_text e) (behind_entry e)
+  dash_ended : Ended (dash_text e) (after_entry e)
   dash_ended = go (rows_ended_there n s ss c e there)
     where
-      go : Ended (rows_text (e.row ∷ e.under) []) (behind_entry e) → Ended (dash_text e) (behind_entry e)
+      go : Ended (rows_text (e.row ∷ e.under) []) (after_entry e) → Ended (dash_text e) (after_entry e)
       go (inl lf) = inl (suffix_lf (row_front mark) (dash_text e) (subst IsLf (row_text (rows_text e.under [])) lf) some_text)
       go (inr none) = inr none
 
   pub dash_last_ends : IsBreak (last_break (dash_text e)) (rest n s ss c dash_node)
-  dash_last_ends = subst (IsBreak (last_break (dash_text e))) dash_behind (last_ends (dash_text e) (behind_entry e) dash_ended)
+  dash_last_ends = subst (IsBreak (last_break (dash_text e))) dash_after (last_ends (dash_text e) (after_entry e) dash_ended)
 
   -- it ends in the dash
   dash_last : (front : List ℕ) × (before_entry e ++ row_front (upto_dash e.line e.row) ≡ front ++ 45 ∷ [])
@@ -104,19 +104,19 @@ module _ (n : ℕ) (s : Step) (ss : List Step) (c : Cut) (e : RowsOfEntry) (ther
       (before_entry e ++ r, ap (λ l. before_entry e ++ l) (front_is e.line e.row) ∙ sym (append_assoc (before_entry e) r (45 ∷ [])))
 
   module _ (read : read_at (cut_text c) ≡ Some c) (at : rows_of_entry n (s ∷ ss) c ≡ Some e) where
-    pub dash_spelled : cut_text c ≡ (before_entry e ++ row_front (upto_dash e.line e.row)) ++ (dash_text e ++ behind_entry e)
+    pub dash_spelled : cut_text c ≡ (before_entry e ++ row_front (upto_dash e.line e.row)) ++ (dash_text e ++ after_entry e)
     dash_spelled =
         cut_spelled n (s ∷ ss) c e at
-        ∙ (ap (λ l. before_entry e ++ l) (row_text (rows_text e.under (behind_entry e)) ∙ ap (λ l. row_front mark ++ l) (ap behind_it (rows_then e.under (behind_entry e)) ∙ then_more (rows_text e.under []) (behind_entry e)))
-        ∙ sym (append_assoc (before_entry e) (row_front mark) (dash_text e ++ behind_entry e)))
+        ∙ (ap (λ l. before_entry e ++ l) (row_text (rows_text e.under (after_entry e)) ∙ ap (λ l. row_front mark ++ l) (ap after_it (rows_then e.under (after_entry e)) ∙ then_more (rows_text e.under []) (after_entry e)))
+        ∙ sym (append_assoc (before_entry e) (row_front mark) (dash_text e ++ after_entry e)))
 
     -- the text round it is in pieces
-    pub dash_pieces : IsPiece (before_entry e ++ row_front (upto_dash e.line e.row)) × IsPiece (behind_entry e)
-    dash_pieces = (subst IsPiece (sym dash_last.1) cut.0, behind dash_ended)
+    pub dash_pieces : IsPiece (before_entry e ++ row_front (upto_dash e.line e.row)) × IsPiece (after_entry e)
+    dash_pieces = (subst IsPiece (sym dash_last.1) cut.0, after dash_ended)
       where
-        cut : IsPiece (dash_last.0 ++ 45 ∷ []) × IsPiece (dash_text e ++ behind_entry e)
-        cut = last_cut 45 dash_last.0 (dash_text e ++ behind_entry e) (omega arith) refl (subst (λ b. IsPiece (b ++ (dash_text e ++ behind_entry e))) dash_last.1 (subst IsPiece dash_spelled (text_is_piece c read)))
+        cut : IsPiece (dash_last.0 ++ 45 ∷ []) × IsPiece (dash_text e ++ after_entry e)
+        cut = last_cut 45 dash_last.0 (dash_text e ++ after_entry e) (omega arith) refl (subst (λ b. IsPiece (b ++ (dash_text e ++ after_entry e))) dash_last.1 (subst IsPiece dash_spelled (text_is_piece c read)))
 
-        behind : Ended (dash_text e) (behind_entry e) → IsPiece (behind_entry e)
-        behind (inl lf) = (line_cut lf.0 (behind_entry e) (subst (λ t. IsPiece (t ++ behind_entry e)) lf.1 cut.1)).1
-        behind (inr none) = subst IsPiece (sym none) nothing
+        after : Ended (dash_text e) (after_entry e) → IsPiece (after_entry e)
+        after (inl lf) = (line_cut lf.0 (after_entry e) (subst (λ t. IsPiece (t ++ after_entry e)) lf.1 cut.1)).1
+        after (inr none) = subst IsPiece (sym none) nothing

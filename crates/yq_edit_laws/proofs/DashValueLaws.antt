@@ -1,19 +1,19 @@
 -- A value in rows on the line of an item's dash.
 use Rattle.std.proofs.Common.{◌≡◌, ℕ, ◌*◌, ◌+◌, ◌<◌, ◌≤◌, List, [], ◌∷◌, ◌++◌, None, sym, ap, ◌∙◌, subst, arith, append_assoc, rules}
 use Rattle.yq_core.{specs.Paths.Step, specs.Tree.{Node, anchor_of}}
-use Rattle.yq_outline.{specs.LineAnchors.HaveOneAnchorEach, specs.Comments.line_comment, specs.Outline.{level, Stands}}
+use Rattle.yq_outline.{specs.LineAnchors.HaveOneAnchorEach, specs.Comments.line_comment, specs.Outline.{level, IsLocatedAt}}
 use Rattle.yq_outline.{specs.Places.content_under, proofs.ByRules.rules_give, specs.Lines.{lines_of_rows, tail_of}}
 use Rattle.yq_row_table.{specs.Exchange.row_front, specs.Rows.{Nothing, Row, mark_column, rows_text, Cut}, specs.Items.rows_items}
-use Rattle.yq_edit_rules.{proofs.AppendEntryLaws.none_uncommented, specs.DocumentRows.behind_document}
-use Rattle.yq_edit_rules.{proofs.LineLaws.{above_mark, mark_behind}, proofs.UnderLaws.{dashes_of, line_with}}
+use Rattle.yq_edit_rules.{proofs.AppendEntryLaws.none_uncommented, specs.DocumentRows.after_document}
+use Rattle.yq_edit_rules.{proofs.LineLaws.{above_mark, mark_after}, proofs.UnderLaws.{dashes_of, line_with}}
 use Rattle.yq_edit_rules.{specs.declared.layout.Layout.Layout, specs.BlockPlaces.{compact_rows, Replaces}}
 use Rattle.yq_edit_rules.{specs.BlockRows.{item_column, node_rows}, specs.BlockText.block_value}
 use Rattle.yq_edit_rules.specs.BlockValues.{HasNearKeys, IsFilledValue, IsEnd, entry_level, level_at}
 use Rattle.yq_edit_rules.proofs.FitLaws.{anchors_fit, keys_fit, node_fit}
-use Rattle.yq_edit_rules.proofs.BlockLineLaws.{BeginAt, lines_deeper, node_begun, node_stands}
-use Rattle.yq_edit_rules.{proofs.PlaceLaws.{behind_laid, compact_lines}, proofs.RowLaws.deeper_laid, proofs.TextLaws.value_spelled}
+use Rattle.yq_edit_rules.proofs.BlockLineLaws.{BeginAt, lines_deeper, node_begun, node_is_there}
+use Rattle.yq_edit_rules.{proofs.PlaceLaws.{after_laid, compact_lines}, proofs.RowLaws.deeper_laid, proofs.TextLaws.value_spelled}
 use Rattle.yq_edit_rules.specs.Local.{InFirst}
-use Rattle.yq_edit_laws.proofs.BehindDashLaws.{behind_lead, behind_text, first_row, gap_same, keys_same, more_rows, rows_are}
+use Rattle.yq_edit_laws.proofs.AfterDashLaws.{after_lead, after_text, first_row, gap_same, keys_same, more_rows, rows_are}
 use Rattle.yq_edit_laws.{proofs.ContentRows.upto_gap, proofs.NodeRowLaws.{NodeRows, limit, rest, rows_there}, proofs.NodeTaken.TakesNode}
 use Rattle.yq_row_table.specs.Rows as rows
 
@@ -29,26 +29,26 @@ module _ (doc : ℕ) (s : Step) (ss : List Step) (c : Cut) (h : NodeRows doc s s
   abbrev z : List ℕ
   z = rest doc s ss c h
 
-  abbrev pub behind_rows : List Row
-  behind_rows = compact_rows h.mark (node_rows l (item_column (mark_column h.mark)) last v)
+  abbrev pub after_rows : List Row
+  after_rows = compact_rows h.mark (node_rows l (item_column (mark_column h.mark)) last v)
 
   begun : BeginAt (item_column (mark_column h.mark)) (node_rows l (item_column (mark_column h.mark)) last v)
   begun = node_begun v l below last filled.filled filled.value
 
-  replaces : Replaces (limit doc s ss c h) (mark_column h.mark) h.row (rows_text (h.under ++ h.back) (h.p.end ++ behind_document doc c)) behind_rows (rest doc s ss c h)
+  replaces : Replaces (limit doc s ss c h) (mark_column h.mark) h.row (rows_text (h.under ++ h.back) (h.p.end ++ after_document doc c)) after_rows (rest doc s ss c h)
   replaces =
-      behind_laid (limit doc s ss c h) h.row h.mark (rows_text (h.under ++ h.back) (h.p.end ++ behind_document doc c)) rs z (rows_there doc s ss c h).0 h.upto dash
+      after_laid (limit doc s ss c h) h.row h.mark (rows_text (h.under ++ h.back) (h.p.end ++ after_document doc c)) rs z (rows_there doc s ss c h).0 h.upto dash
       (deeper_laid v l (mark_column h.mark) below last z (omega arith) (record { rows = filled; near = near_keys; ends = ends }))
 
-  stands : Stands (lines_of_rows rs) v (level_at below v)
-  stands = rules_give (level_at below v) (lines_of_rows rs) v (node_stands v l below last step filled.filled filled.value uncommented)
+  is_located : IsLocatedAt (lines_of_rows rs) v (level_at below v)
+  is_located = rules_give (level_at below v) (lines_of_rows rs) v (node_is_there v l below last step filled.filled filled.value uncommented)
 
   dash_level : level (line_with h.mark (Nothing [])) ≡ entry_level None (mark_column h.mark)
   unfolding level
   dash_level = ap (λ m. 3 * mark_column h.mark + Rattle.yq_outline.specs.Outline.rank (Rattle.yq_outline.specs.Lines.line_mark m)) dash
 
-  pub takes_behind : TakesNode doc s ss c h v behind_rows
-  takes_behind =
+  pub takes_after : TakesNode doc s ss c h v after_rows
+  takes_after =
       let fit = node_fit v l below last filled.value in
       record {
         first = first_row h.mark rs;
@@ -58,21 +58,21 @@ module _ (doc : ℕ) (s : Step) (ss : List Step) (c : Cut) (h : NodeRows doc s s
         replaces = replaces;
         content = Nothing [];
         level = level_at below v;
-        under = stands.outline;
+        under = is_located.outline;
         comment = none_uncommented ∙ sym none;
         anchor = sym unnamed;
         open' = tt;
-        value_is = stands.node_is;
-        even = stands.even;
+        value_is = is_located.node_is;
+        even = is_located.even;
         deep = subst (λ n. n < level_at below v) (sym dash_level) (lines_deeper v l (mark_column h.mark) None step filled.filled);
-        lines = search (rules, dashes_of, above_mark, compact_lines, begun, mark_behind, append_assoc);
+        lines = search (rules, dashes_of, above_mark, compact_lines, begun, mark_after, append_assoc);
         keys = keys_same h.mark rs (keys_fit rs fit);
-        anchors = subst (λ ls. HaveOneAnchorEach (line_with h.mark (Nothing []) ∷ ls)) (sym stands.lines_are) (tt, anchors_fit rs fit);
+        anchors = subst (λ ls. HaveOneAnchorEach (line_with h.mark (Nothing []) ∷ ls)) (sym is_located.lines_are) (tt, anchors_fit rs fit);
       }
 
   -- their text
-  pub behind_spelled : rows_text behind_rows (rest doc s ss c h) ≡ row_front h.mark ++ (32 ∷ (block_value l (item_column (mark_column h.mark)) v ++ (last ++ rest doc s ss c h)))
-  behind_spelled = behind_text below h.mark rs (block_value l below v ++ (last ++ z)) z begun dash (value_spelled v l below last z filled.filled filled.value)
+  pub after_spelled : rows_text after_rows (rest doc s ss c h) ≡ row_front h.mark ++ (32 ∷ (block_value l (item_column (mark_column h.mark)) v ++ (last ++ rest doc s ss c h)))
+  after_spelled = after_text below h.mark rs (block_value l below v ++ (last ++ z)) z begun dash (value_spelled v l below last z filled.filled filled.value)
 
-  pub behind_first : InFirst (row_front h.mark) (rows_items behind_rows [])
-  behind_first = behind_lead below h.mark rs begun dash
+  pub after_first : InFirst (row_front h.mark) (rows_items after_rows [])
+  after_first = after_lead below h.mark rs begun dash

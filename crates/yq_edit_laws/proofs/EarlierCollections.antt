@@ -17,14 +17,14 @@ use Rattle.yq_edit_laws.proofs.LaterParts.{content_within, node_in_items}
 -- ---- before an item or entry that is taken out
 
 abbrev gone_text : FlowEdit → List ℕ
-gone_text e = e.old ++ e.behind
+gone_text e = e.old ++ e.after
 
 abbrev left_text : FlowEdit → List ℕ
-left_text e = (e.lead ++ e.written) ++ e.behind
+left_text e = (e.lead ++ e.written) ++ e.after
 
 -- what is known of items from which one is taken out: how long the text after it is, and the items that come before it
 record Outs (k : ℕ) (rest : List ℕ) (is : Items) (e : FlowEdit) : Type 0 where
-  longer : length rest < length e.behind
+  longer : length rest < length e.after
   before : (r : Step) (u : EntryPieces) → item_at k r is rest ≡ Some u → length (gone_text e) < length (node_text u.node u.rest) → ComesBefore (gone_text e) (left_text e) u (item_at k r e.items rest)
 
 -- up to the next one
@@ -35,19 +35,19 @@ next_outs k rest g key n sep (item key2 n2 sep2 is) e at =
     let others : Items = item key2 n2 sep2 is in
     let all : flow_items_text k (item key n sep others) rest ≡ gone_text e = item_cut key n sep (flow_items_text k others rest) ∙ ap gone_text (same_Some _ _ at) in
     record {
-      longer = omega (arith, items_longer k others rest, ap (λ (z : FlowEdit). length z.behind) (same_Some _ _ at));
+      longer = omega (arith, items_longer k others rest, ap (λ (z : FlowEdit). length z.after) (same_Some _ _ at));
       before = λ r u there long. absurd (omega (arith, long, node_in_items k r (item key n sep others) rest u there, ap length all));
     }
 
 -- the last one
-last_outs : (k : ℕ) (rest g : List ℕ) (key : Key) (n : FlowNode) (sep : Sep) (key2 : Key) (n2 : FlowNode) (sep2 left : Sep) (old lead behind : List ℕ) → LastBytes k rest sep key2 n2 sep2 left old lead behind → length rest < length behind →
-    Outs k rest (item key n sep (item key2 n2 sep2 none)) (record { gap = g; items = item key n left none; old = old; lead = lead; written = []; behind = behind })
+last_outs : (k : ℕ) (rest g : List ℕ) (key : Key) (n : FlowNode) (sep : Sep) (key2 : Key) (n2 : FlowNode) (sep2 left : Sep) (old lead after : List ℕ) → LastBytes k rest sep key2 n2 sep2 left old lead after → length rest < length after →
+    Outs k rest (item key n sep (item key2 n2 sep2 none)) (record { gap = g; items = item key n left none; old = old; lead = lead; written = []; after = after })
 unfolding flow_items_text
-last_outs k rest g key n sep key2 n2 sep2 left old lead behind h longer = record { longer = longer; before = λ r u there long. go r u (is_here r (key_label (key_content key))) refl there long }
+last_outs k rest g key n sep key2 n2 sep2 left old lead after h longer = record { longer = longer; before = λ r u there long. go r u (is_here r (key_label (key_content key))) refl there long }
   where
     go : (r : Step) (u : EntryPieces) (b : Bool) → is_here r (key_label (key_content key)) ≡ b →
         cond b (Some (record { key = key; node = n; rest = sep_text sep (key_text key2 (node_text n2 (sep_text sep2 (k ∷ rest)))) })) (item_at k (further r) (item key2 n2 sep2 none) rest) ≡ Some u →
-        length (old ++ behind) < length (node_text u.node u.rest) → ComesBefore (old ++ behind) ((lead ++ []) ++ behind) u (item_at k r (item key n left none) rest)
+        length (old ++ after) < length (node_text u.node u.rest) → ComesBefore (old ++ after) ((lead ++ []) ++ after) u (item_at k r (item key n left none) rest)
     go r u true is there long = search (rules, same_Some, append-nil)
     go r u false is there long =
         absurd (omega (arith, long, node_in_items k (further r) (item key2 n2 sep2 none) rest u there, sep_longer sep (key_text key2 (node_text n2 (sep_text sep2 (k ∷ rest)))), ap length h.was))
@@ -112,10 +112,10 @@ outs : (k : ℕ) (rest : List ℕ) (s : Step) (g : List ℕ) (is : Items) (e : F
 outs k rest s g none e at = absurd (none-some _ at)
 outs k rest s g (item key n sep is) e at = go (is_here s (key_label (key_content key))) (λ x. outs k rest (further s) (gap_of sep) is x) at
   where
-    behind : ((x : FlowEdit) → removing_from k rest (further s) (gap_of sep) is ≡ Some x → Outs k rest is x) →
+    after : ((x : FlowEdit) → removing_from k rest (further s) (gap_of sep) is ≡ Some x → Outs k rest is x) →
         (last_out k rest (further s) g key n sep is ≡ Some e) ⊎ (option_map (edit_from_item g key n sep) (removing_from k rest (further s) (gap_of sep) is) ≡ Some e) → Outs k rest (item key n sep is) e
-    behind again (inl at) = ended_outs k rest (further s) g key n sep is e at
-    behind again (inr at) =
+    after again (inl at) = ended_outs k rest (further s) g key n sep is e at
+    after again (inr at) =
         let x = option_some (edit_from_item g key n sep) (removing_from k rest (further s) (gap_of sep) is) e at in
         subst (Outs k rest (item key n sep is)) x.2 (later_outs k rest (further s) g key n sep is x.0 x.1 (again x.0 x.1))
 
@@ -124,18 +124,18 @@ outs k rest s g (item key n sep is) e at = go (is_here s (key_label (key_content
         (option_or (last_out k rest (further s) g key n sep is)
         (option_map (edit_from_item g key n sep) (removing_from k rest (further s) (gap_of sep) is))) ≡ Some e → Outs k rest (item key n sep is) e
     go true again at = next_outs k rest g key n sep is e at
-    go false again at = behind again (either _ _ at)
+    go false again at = after again (either _ _ at)
 
 -- a collection that ends before the one from which an item or entry is taken out
 module _ (s : Step) (w : CollPieces) (e : FlowEdit) (gone : removing s w ≡ Some e) where
   known : Outs w.close w.rest w.items e
   known = outs w.close w.rest s w.gap w.items e gone
 
-  text : Becomes (w.gap ++ flow_items_text w.close w.items w.rest) (e.gap ++ flow_items_text w.close e.items w.rest) e.old (e.lead ++ e.written) e.behind
+  text : Becomes (w.gap ++ flow_items_text w.close w.items w.rest) (e.gap ++ flow_items_text w.close e.items w.rest) e.old (e.lead ++ e.written) e.after
   text = (removed_text w.close w.rest s w.gap w.items e gone).text
 
   short : length w.rest < length (gone_text e)
-  short = omega (arith, known.longer, length-append e.old e.behind)
+  short = omega (arith, known.longer, length-append e.old e.after)
 
   before : PartsBefore (gone_text e) (left_text e) w e.items
   before r u there long = known.before r u there (omega (arith, long, content_within u.node u.rest))

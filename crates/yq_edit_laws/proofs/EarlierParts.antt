@@ -8,7 +8,7 @@ use Rattle.yq_core.{specs.Collections.within_items, specs.Entries.{EntryPieces, 
 use Rattle.yq_core.specs.Nodes.{Key, FlowNode, empty, alias, scalar, coll, anchored, Items, none, item, flow_items_text, key_text}
 use Rattle.yq_core.{specs.Nodes.{node_text, opening_bracket, sep_text, without_anchor}, specs.Trees.key_content, specs.Tree.key_label}
 use Rattle.yq_core.{proofs.NodeAgain.{node_longer, sep_longer}, proofs.NodesWrittenLaws.{key_append, sep_append}, proofs.PathLaws.then_some}
-use Rattle.yq_flow_edits.specs.FlowEdits.{FlowEdit, IsFlowEdited, add_item, behind_appended, behind_last, put_content, put_item}
+use Rattle.yq_flow_edits.specs.FlowEdits.{FlowEdit, IsFlowEdited, add_item, after_appended, after_last, put_content, put_item}
 use Rattle.yq_flow_edits.{proofs.EditLaws.around_is, proofs.ItemSwaps.{item_cut, text_cut}}
 use Rattle.yq_places.proofs.FlowNodeLaws.{item_more, entry_more}
 use Rattle.yq_edit_laws.proofs.LaterEnds.{items_end, node_end, own_end, rest_in}
@@ -247,7 +247,7 @@ module _ (w : CollPieces) (gap : List ℕ) (is : Items) (t t2 : List ℕ) (short
 
   -- a collection in whose node the one that changes is not
   pub earlier_coll : (p q : List Step) (x : EntryPieces) (z : CollPieces) → coll_along p x.node x.rest ≡ Some w → coll_along q x.node x.rest ≡ Some z →
-      ((u : EntryPieces) (o : List Step) → coll_in u.node u.rest ≡ Some z → coll_along o u.node u.rest ≡ Some w → ⊥) → length t < length (behind_appended z) →
+      ((u : EntryPieces) (o : List Step) → coll_in u.node u.rest ≡ Some z → coll_along o u.node u.rest ≡ Some w → ⊥) → length t < length (after_appended z) →
       (m : List ℕ) × (z.rest ≡ m ++ t) × (coll_along q (collection_put p gap is x.node) x.rest ≡ Some (record z { rest = m ++ t2 }))
   earlier_coll p q x z at there apart long =
       let u = coll_part q x z there in
@@ -255,24 +255,24 @@ module _ (w : CollPieces) (gap : List ℕ) (is : Items) (t t2 : List ℕ) (short
       (b.0, rest_in u.0.node u.0.rest z u.2 ∙ b.1, part_coll q (with_node (collection_put p gap is x.node) x) (record u.0 { rest = b.0 ++ t2 }) b.2 ∙ in_rest u.0.node u.0.rest (b.0 ++ t2) z u.2)
 
   -- one whose end is before the place, where that of the one that changes is not
-  pub end_earlier : (p q : List Step) (x : EntryPieces) (z : CollPieces) → coll_along p x.node x.rest ≡ Some w → coll_along q x.node x.rest ≡ Some z → length (behind_appended w) ≤ length t → length t < length (behind_appended z) →
+  pub end_earlier : (p q : List Step) (x : EntryPieces) (z : CollPieces) → coll_along p x.node x.rest ≡ Some w → coll_along q x.node x.rest ≡ Some z → length (after_appended w) ≤ length t → length t < length (after_appended z) →
       (m : List ℕ) × (z.rest ≡ m ++ t) × (coll_along q (collection_put p gap is x.node) x.rest ≡ Some (record z { rest = m ++ t2 }))
   end_earlier p q x z at there own long = earlier_coll p q x z at there apart long
     where
       apart : (u : EntryPieces) (o : List Step) → coll_in u.node u.rest ≡ Some z → coll_along o u.node u.rest ≡ Some w → ⊥
-      apart u [] is e = omega (arith, own, long, ap (λ (v : CollPieces). length (behind_appended v)) (same_Some _ _ (sym is ∙ e)))
+      apart u [] is e = omega (arith, own, long, ap (λ (v : CollPieces). length (after_appended v)) (same_Some _ _ (sym is ∙ e)))
       apart u (s ∷ o) is e =
           let y = then_some (path_inside s u.node u.rest) e in
           omega (arith, short, long, node_end s u.node u.rest z y.0 is y.1, rest_within o y.0 w y.2)
 
 -- ---- the text of a collection in which one is edited
 
-pub coll_turn : (x : CollAt) (e : FlowEdit) (changed : tree.Node → tree.Node) → IsCollAt x → IsFlowEdited x e changed → length (e.old ++ e.behind) ≤ length (x.coll.gap ++ flow_items_text x.coll.close x.coll.items x.coll.rest) →
-    Turns (x.coll.gap ++ flow_items_text x.coll.close x.coll.items x.coll.rest) (e.gap ++ flow_items_text x.coll.close e.items x.coll.rest) (e.old ++ e.behind) ((e.lead ++ e.written) ++ e.behind)
-coll_turn x e changed stands edited short =
-    let i = around_is x stands in
+pub coll_turn : (x : CollAt) (e : FlowEdit) (changed : tree.Node → tree.Node) → IsCollAt x → IsFlowEdited x e changed → length (e.old ++ e.after) ≤ length (x.coll.gap ++ flow_items_text x.coll.close x.coll.items x.coll.rest) →
+    Turns (x.coll.gap ++ flow_items_text x.coll.close x.coll.items x.coll.rest) (e.gap ++ flow_items_text x.coll.close e.items x.coll.rest) (e.old ++ e.after) ((e.lead ++ e.written) ++ e.after)
+coll_turn x e changed is_located edited short =
+    let i = around_is x is_located in
     let front : List ℕ = i.before ++ (opening_bracket x.coll.close ∷ []) in
-    turn_tail front _ _ (e.old ++ e.behind) ((e.lead ++ e.written) ++ e.behind)
+    turn_tail front _ _ (e.old ++ e.after) ((e.lead ++ e.written) ++ e.after)
     (edited.text.before, append_assoc i.before (opening_bracket x.coll.close ∷ []) _ ∙ (sym i.text ∙ edited.text.was), append_assoc i.before (opening_bracket x.coll.close ∷ []) _ ∙ (sym (i.new_text e.gap e.items) ∙ edited.text.is)) short
 
 -- ---- before a content that is another one
@@ -319,7 +319,7 @@ put_before k s r m (item key n sep is) rest y u t t2 here there turns size long 
 
 pub more_before : (k : ℕ) (r : Step) (key : Key) (m : FlowNode) (gap : List ℕ) (is : Items) (rest : List ℕ) (u : EntryPieces) (t t2 : List ℕ) →
     item_at k r is rest ≡ Some u → Turns (flow_items_text k is rest) (flow_items_text k (add_item key m gap is) rest) t t2 →
-    length t ≡ length (behind_last k gap is rest) → ComesBefore t t2 u (item_at k r (add_item key m gap is) rest)
+    length t ≡ length (after_last k gap is rest) → ComesBefore t t2 u (item_at k r (add_item key m gap is) rest)
 unfolding flow_items_text
 more_before k r key m gap none rest u t t2 there turns size = absurd (none-some _ there)
 more_before k r key m gap (item j n sep none) rest u t t2 there turns size = go (is_here r (key_label (key_content j))) refl there

@@ -1,11 +1,11 @@
 -- What each operation exchanges carries it out, and one that fits has it: the laws of all kinds of edits together.
 use Rattle.std.proofs.Common.{refl}
-use Rattle.yq_places.specs.Standings.{alone, beside, under, compact, block, root, no_rows}
+use Rattle.yq_places.specs.Placements.{alone, beside, under, compact, block, root, no_rows}
 use Rattle.yq_edit_rules.{specs.EditLaws.{KindsCarryOut, EditsCarryOut, FittingHasEdit, ValuesArePut}, proofs.KeptLaws.equal_scalars_stay}
 use Rattle.yq_edit_laws.{proofs.HeadCommentLaws.head_comment_is_put, proofs.LineCommentLaws.line_comment_is_put}
 use Rattle.yq_edit_laws.{proofs.MoreLaws.more_is_put, proofs.RemovingFirstLaws.one_is_removed, proofs.FlowAppendLaws.flow_more_put}
 use Rattle.yq_edit_laws.{proofs.FlowPutLaws.flow_values_put, proofs.FlowRemoveLaws.flow_part_removed, proofs.MoreExists.takers_have_edit}
-use Rattle.yq_edit_laws.{proofs.SoleLaws.sole_removed, proofs.StandingExists.{entries_stand, roots_stand}}
+use Rattle.yq_edit_laws.{proofs.SoleLaws.sole_removed, proofs.PlacementExists.{entries_are_there, roots_are_there}}
 use Rattle.yq_edit_laws.{proofs.RootEditLaws.{first_nodes_are_put, roots_are_put}, proofs.MarkedValueLaws.marked_values}
 use Rattle.yq_edit_laws.{proofs.FittingExists.fitting_has_edit, proofs.CarryOutLaws.edits_carry_out}
 
@@ -37,4 +37,4 @@ pub edit_is : EditsCarryOut
 edit_is = edits_carry_out are_edits
 
 pub edit_there : FittingHasEdit
-edit_there = fitting_has_edit roots_stand entries_stand takers_have_edit
+edit_there = fitting_has_edit roots_are_there entries_are_there takers_have_edit

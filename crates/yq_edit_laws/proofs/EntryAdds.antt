@@ -46,7 +46,7 @@ pub record AddsEntry (m : ℕ) (steps : List Step) (key : List ℕ) (v : tree.No
   pub rows : (y : IsCollectionEnd d m place.part steps x) → (y.front ≡ front) × (y.back ≡ back)
   pub column_is : x.column ≡ column
   pub before : x.before ≡ upto
-  pub behind : x.behind ≡ rest
+  pub after : x.after ≡ rest
   pub broken : x.broken ≡ true
   pub segments : List Segment
   pub edited : op_edits (append m steps (Some key) v) d ≡ Some segments
@@ -56,8 +56,8 @@ pub record AddsEntry (m : ℕ) (steps : List Step) (key : List ℕ) (v : tree.No
 pub adds_as : (m : ℕ) (steps : List Step) (key : List ℕ) (v : tree.Node) (d : Cut) (p q : Part) (front front2 back back2 : List Row) (column column2 : ℕ) (upto upto2 rest rest2 : List ℕ) →
     p ≡ q → front ≡ front2 → back ≡ back2 → column ≡ column2 → upto ≡ upto2 → rest ≡ rest2 →
     AddsEntry m steps key v d p front back column upto rest → AddsEntry m steps key v d q front2 back2 column2 upto2 rest2
-adds_as m steps key v d p q front front2 back back2 column column2 upto upto2 rest rest2 part first after at before behind =
-    subst (λ (w : Part × List Row × List Row × ℕ × List ℕ × List ℕ). AddsEntry m steps key v d w.0 w.1 w.2 w.3 w.4 w.5) (λ i. (part i, first i, after i, at i, before i, behind i))
+adds_as m steps key v d p q front front2 back back2 column column2 upto upto2 rest rest2 part first after at before following =
+    subst (λ (w : Part × List Row × List Row × ℕ × List ℕ × List ℕ). AddsEntry m steps key v d w.0 w.1 w.2 w.3 w.4 w.5) (λ i. (part i, first i, after i, at i, before i, following i))
 
 module _ (m : ℕ) (steps : List Step) (key : List ℕ) (v : tree.Node) (d : Cut) (p : Part) (front back : List Row) (column : ℕ) (upto rest : List ℕ)
     (read : read_at (cut_text d) ≡ Some d) (a : AddsEntry m steps key v d p front back column upto rest)
@@ -84,7 +84,7 @@ module _ (m : ℕ) (steps : List Step) (key : List ℕ) (v : tree.Node) (d : Cut
   rows = a.rows (places.e m steps d a.x read a.place)
 
   text_is : new_text (put_segments a.x lines) ≡ new_text a.segments
-  text_is = (λ i. a.before i ++ ((entry_lines l (a.column_is i) (Some key) v ++ break_text l.br) ++ append-nil (a.behind i) i)) ∙ sym a.puts.new_is
+  text_is = (λ i. a.before i ++ ((entry_lines l (a.column_is i) (Some key) v ++ break_text l.br) ++ append-nil (a.after i) i)) ∙ sym a.puts.new_is
 
   new_is : node_rows l a.x.column (break_text l.br) (singleton (Some key) v) ≡ new ∷ []
   new_is = ap (λ (n : ℕ). node_rows l n (break_text l.br) (singleton (Some key) v)) a.column_is ∙ row_is.1

@@ -9,11 +9,10 @@ use Rattle.yq_core.specs.Nodes.{FlowNode, empty, alias, scalar, coll, anchored, 
 use Rattle.yq_core.{specs.Nodes.{opening_bracket, IsFlowNode}, proofs.NodesWrittenLaws.node_append}
 use Rattle.yq_row_table.{proofs.seams.FrontSeams.row_some, specs.Exchange.row_front, specs.Gap.IsWhite}
 use Rattle.yq_row_table.specs.Grammar.{IsContent, IsKey, IsMark, IsRow, Limit, is_entry}
-use Rattle.yq_row_table.specs.Rows.{Content, Nothing, Inline, Block, Row, behind_indent, content_text, dashes_text, mark_text}
-use Rattle.yq_row_table.{specs.Rows.{parent_indent, print_row}, specs.View.content_cut, proofs.NothingLaws.some_behind}
-use Rattle.yq_row_table.{proofs.PlaceLaws.row_front-append, proofs.RowAgain.row_starts, proofs.SliceLaws.content_slices}
-use Rattle.yq_row_table.proofs.seams.ScalarSeams.{last_no_space}
-use Rattle.yq_places.{specs.CollectionEnds.is_broken, specs.Standings.is_alone, specs.PrintedLines.{end_break, last_break, less_break}}
+use Rattle.yq_row_table.specs.Rows.{Content, Nothing, Inline, Block, Row, after_indent, content_text, dashes_text, mark_text, parent_indent}
+use Rattle.yq_row_table.{specs.Rows.print_row, specs.View.content_cut, proofs.NothingLaws.some_after, proofs.PlaceLaws.row_front-append}
+use Rattle.yq_row_table.{proofs.RowAgain.row_starts, proofs.SliceLaws.content_slices, proofs.seams.ScalarSeams.last_no_space}
+use Rattle.yq_places.{specs.CollectionEnds.is_broken, specs.Placements.is_alone, specs.PrintedLines.{end_break, last_break, less_break}}
 use Rattle.yq_places.{proofs.ContentEndLaws.{Ends, content_ends, tail_ends}, proofs.LastBreakLaws.lf_last, proofs.PrintedTexts.less_is}
 use Rattle.yq_edit_rules.{proofs.EndedRowLaws.many_lf, proofs.LineFrontLaws.items_close, proofs.BreakLaws.last_is}
 use Rattle.yq_row_table.specs.Rows as rows
@@ -25,7 +24,7 @@ ends_feed (b ∷ p) = cond (is_empty p) (is_feed b) (ends_feed p)
 
 pub feed_more : (a b : List ℕ) → is_empty b ≡ false → ends_feed (a ++ b) ≡ ends_feed b
 feed_more [] b h = refl
-feed_more (x ∷ a) b h = rw (some_behind a b h) (feed_more a b h)
+feed_more (x ∷ a) b h = rw (some_after a b h) (feed_more a b h)
 
 feed_joined : (a b : List ℕ) → ends_feed a ≡ false → ends_feed b ≡ false → ends_feed (a ++ b) ≡ false
 feed_joined a [] h k = ap ends_feed (append-nil a) ∙ h
@@ -137,7 +136,7 @@ colon_some key colon rest t h = ap (λ x. is_empty (x ++ t)) h.colon_is.spelled 
 pub mark_some : (m : rows.RowMark) (c : Content) (rest t : List ℕ) → IsMark m c rest → is_entry m ≡ true → is_empty (mark_text m t) ≡ false
 mark_some rows.Bare c rest t h e = absurd (false≢true e)
 mark_some rows.Dash c rest t h e = refl
-mark_some (rows.Key key colon) c rest t h e = some_behind key (colon ++ t) (colon_some key colon (content_text c rest) t h)
+mark_some (rows.Key key colon) c rest t h e = some_after key (colon ++ t) (colon_some key colon (content_text c rest) t h)
 
 mark_feed : (m : rows.RowMark) (c : Content) (rest t : List ℕ) → IsMark m c rest → ends_feed t ≡ false → ends_feed (mark_text m t) ≡ false
 mark_feed m c rest t h k = search (rules, feed_byte, feed_more, colon_some, feed_joined)
@@ -161,10 +160,10 @@ content_feed n (Block space anchor block) h bare = absurd (false≢true (sym bar
 row_feed : (limit : Limit) (r : Row) → IsRow limit r [] → is_broken r.content ≡ false → ends_feed (print_row r []) ≡ false
 row_feed limit r h bare =
     let content : ends_feed (content_text r.content []) ≡ false = content_feed (parent_indent r) r.content h.content bare in
-    let behind : ends_feed (behind_indent r []) ≡ false = dashes_feed r.dashes (mark_text r.mark (content_text r.content [])) (mark_feed r.mark r.content [] (content_text r.content []) h.mark content) in
-    let some : is_empty (behind_indent r []) ≡ false = (row_starts limit r [] h).some in
-    feed_more r.gap (replicate r.column 32 ++ behind_indent r []) (some_behind (replicate r.column 32) (behind_indent r []) some)
-    ∙ (feed_more (replicate r.column 32) (behind_indent r []) some ∙ behind)
+    let after : ends_feed (after_indent r []) ≡ false = dashes_feed r.dashes (mark_text r.mark (content_text r.content [])) (mark_feed r.mark r.content [] (content_text r.content []) h.mark content) in
+    let some : is_empty (after_indent r []) ≡ false = (row_starts limit r [] h).some in
+    feed_more r.gap (replicate r.column 32 ++ after_indent r []) (some_after (replicate r.column 32) (after_indent r []) some)
+    ∙ (feed_more (replicate r.column 32) (after_indent r []) some ∙ after)
 
 -- a content with its break
 content_lf : (n : ℤ) (c : Content) (rest : List ℕ) → IsContent n c rest → is_broken c ≡ true → IsLf (content_text c [])
@@ -194,5 +193,5 @@ broken_is limit r rest h front a t is some = go (is_broken r.content) refl
         ap (λ x. not (is_empty x)) (feed_none t (feed_before a t (ap ends_feed (sym is) ∙ feed)))
 
 -- an item or entry is something
-pub entry_some : (limit : Limit) (r : Row) (rest t : List ℕ) → IsRow limit r rest → is_alone r ≡ false → is_empty (behind_indent r t) ≡ false
+pub entry_some : (limit : Limit) (r : Row) (rest t : List ℕ) → IsRow limit r rest → is_alone r ≡ false → is_empty (after_indent r t) ≡ false
 entry_some limit r rest t h alone = search (rules, false≢true, mark_some)

@@ -3,10 +3,10 @@ use Rattle.std.proofs.Common.{◌≡◌, ◌⊎◌, ℕ, ◌<◌, List, [], ◌�
 use Rattle.std.proofs.lemmas.Bool.{false≢true}
 use Rattle.yq_core.specs.Text.{is_empty}
 use Rattle.yq_outline.specs.Lines.{lines_of_rows}
-use Rattle.yq_row_table.{specs.Grammar.IsMark, specs.Rows.{Row, behind_indent}, proofs.PlaceLaws.content_then}
-use Rattle.yq_row_table.{proofs.NothingLaws.some_behind, proofs.GapLaws.some_more}
+use Rattle.yq_row_table.{specs.Grammar.IsMark, specs.Rows.{Row, after_indent}, proofs.PlaceLaws.content_then, proofs.NothingLaws.some_after}
+use Rattle.yq_row_table.proofs.GapLaws.{some_more}
 use Rattle.yq_documents.specs.Ready.{begins_no_node}
-use Rattle.yq_places.{specs.PrintedLines.last_break, specs.Standings.is_alone, proofs.CommentPieceLaws.Ended, proofs.LastBreakLaws.lf_last}
+use Rattle.yq_places.{specs.PrintedLines.last_break, specs.Placements.is_alone, proofs.CommentPieceLaws.Ended, proofs.LastBreakLaws.lf_last}
 use Rattle.yq_edit_rules.{proofs.FirstBreakLaws.IsOneBreak, proofs.BreakLaws.last_is}
 use Rattle.yq_edit_laws.proofs.HeldRows.{no_line}
 
@@ -14,8 +14,8 @@ pub some_length : (t : List ℕ) → is_empty t ≡ false → 0 < length t
 some_length [] h = absurd (false≢true (sym h))
 some_length (b ∷ t) h = omega arith
 
-pub row_some : (r : Row) (rest t : List ℕ) → IsMark r.mark r.content rest → is_alone r ≡ false → is_empty (behind_indent r t) ≡ false
-row_some r rest t h alone = search (rules, some_more, false≢true, some_behind, content_then, append_assoc)
+pub row_some : (r : Row) (rest t : List ℕ) → IsMark r.mark r.content rest → is_alone r ≡ false → is_empty (after_indent r t) ≡ false
+row_some r rest t h alone = search (rules, some_more, false≢true, some_after, content_then, append_assoc)
 
 -- its line is that of a key or dash
 pub row_entry : (r : Row) (rs : List Row) → is_alone r ≡ false → begins_no_node (lines_of_rows (r ∷ rs)) ≡ true

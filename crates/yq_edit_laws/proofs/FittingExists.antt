@@ -14,10 +14,10 @@ use Rattle.yq_documents.{specs.Documents.{Document, document_parts}, specs.Readi
 use Rattle.yq_documents.specs.LinesInRows.{RowLine, line_has_room, row_line_has_room, row_line_of}
 use Rattle.yq_places.{specs.FirstBreak.first_break, specs.FlowNodes.flow_collection, specs.NodesAt.node_in}
 use Rattle.yq_places.{specs.PlacedRows.{PlacedPart, placed_document}, specs.RemovalPlaces.has_others_at}
-use Rattle.yq_places.specs.Standings.{FlowPart, RowsOfEntry, Standing, entry_rows_at, entry_standing, flow_part, flow_standing, held}
-use Rattle.yq_places.{specs.Standings.{last_step, rows_of_entry, standing_at}, proofs.PlacedRowLaws.{document_placed, part_of}}
+use Rattle.yq_places.specs.Placements.{FlowPart, RowsOfEntry, Placement, entry_rows_at, entry_placement, flow_part, flow_placement, held}
+use Rattle.yq_places.{specs.Placements.{last_step, rows_of_entry, placement_at}, proofs.PlacedRowLaws.{document_placed, part_of}}
 use Rattle.yq_places.proofs.PrintedTexts.{map_some}
-use Rattle.yq_edit_rules.specs.StandingLaws.{EntriesStand, RootsStand}
+use Rattle.yq_edit_rules.specs.PlacementLaws.{EntriesOccur, RootsOccur}
 use Rattle.yq_edit_rules.specs.CommentEdits.{above_rows, comment_put, head_comment_put, head_comment_segments, line_comment_put}
 use Rattle.yq_edit_rules.specs.EditLaws.{FittingHasEdit, AppendHasEdit}
 use Rattle.yq_edit_rules.specs.Edits.{op_edits, empty_collection, part_removed, removed, replace_segments, rows_or_sole, sole_removed}
@@ -25,7 +25,7 @@ use Rattle.yq_edit_rules.{specs.EntryEdits.one_removed, specs.FlowParts.{flow_pu
 use Rattle.yq_edit_rules.{specs.ReplaceEdits.{has_text, value_put}, specs.Replacing.keeps_scalar, proofs.DoneLaws.read_cut}
 use Rattle.yq_semantics.{specs.Fits.Fits, specs.Operations.{replace, append, remove, line_comment, head_comment}, specs.Rooms.room_of}
 use Rattle.yq_text.specs.Script.{Segment, keep}
-use Rattle.yq_edit_laws.{proofs.FlowSoundLaws.{above_is, last_is}, proofs.StandingExists.last_there, proofs.RemoveExists.one_there}
+use Rattle.yq_edit_laws.{proofs.FlowSoundLaws.{above_is, last_is}, proofs.PlacementExists.last_there, proofs.RemoveExists.one_there}
 use Rattle.yq_core.specs.Tree as tree
 use Rattle.yq_row_table.specs.Rows as rows
 use Rattle.yq_edit_laws.proofs.DocumentParts as parts
@@ -84,16 +84,16 @@ removing_there k rest s g (item key n sep (item key2 n2 sep2 (item key3 n3 sep3 
 
 -- ---- where nodes are
 
-module _ (roots : RootsStand) (entries : EntriesStand) where
+module _ (roots : RootsOccur) (entries : EntriesOccur) where
   -- where a node is, something is
-  stands : (n : ℕ) (steps : List Step) (c : Cut) (w : Node) → read_at (cut_text c) ≡ Some c → node_in n steps c ≡ Some w →
-      ((t : Standing) × (standing_at n steps c ≡ Some t)) ⊎ ((x : FlowPart) × (flow_standing n c (last_step steps) ≡ Some x))
-  stands n [] c w read at = let d = bind_some (slice_get (documents c) n) at in let p = parts.part_of c n d.0 d.1 in inl (roots n c p.part p.there)
-  stands n (s ∷ ss) c w read at = go (entries n s ss c w read at)
+  is_located : (n : ℕ) (steps : List Step) (c : Cut) (w : Node) → read_at (cut_text c) ≡ Some c → node_in n steps c ≡ Some w →
+      ((t : Placement) × (placement_at n steps c ≡ Some t)) ⊎ ((x : FlowPart) × (flow_placement n c (last_step steps) ≡ Some x))
+  is_located n [] c w read at = let d = bind_some (slice_get (documents c) n) at in let p = parts.part_of c n d.0 d.1 in inl (roots n c p.part p.there)
+  is_located n (s ∷ ss) c w read at = go (entries n s ss c w read at)
     where
-      go : ((e : RowsOfEntry) × (rows_of_entry n (s ∷ ss) c ≡ Some e)) ⊎ ((x : FlowPart) × (flow_standing n c (last_step (s ∷ ss)) ≡ Some x) × (has_others_at n (s ∷ ss) c ≡ ltb 1 (count (items_tree x.collection.items)))) →
-          ((t : Standing) × (standing_at n (s ∷ ss) c ≡ Some t)) ⊎ ((x : FlowPart) × (flow_standing n c (last_step (s ∷ ss)) ≡ Some x))
-      go (inl e) = inl (entry_standing e.0, ap (option_map entry_standing) e.1)
+      go : ((e : RowsOfEntry) × (rows_of_entry n (s ∷ ss) c ≡ Some e)) ⊎ ((x : FlowPart) × (flow_placement n c (last_step (s ∷ ss)) ≡ Some x) × (has_others_at n (s ∷ ss) c ≡ ltb 1 (count (items_tree x.collection.items)))) →
+          ((t : Placement) × (placement_at n (s ∷ ss) c ≡ Some t)) ⊎ ((x : FlowPart) × (flow_placement n c (last_step (s ∷ ss)) ≡ Some x))
+      go (inl e) = inl (entry_placement e.0, ap (option_map entry_placement) e.1)
       go (inr x) = inr (x.0, x.1)
 
   -- a node is replaced
@@ -101,25 +101,25 @@ module _ (roots : RootsStand) (entries : EntriesStand) where
   replaced_there n steps v c w read at = go (keeps_scalar (node_in n steps c) v)
     where
       block : Option (List Segment)
-      block = option_map (value_put (has_text (node_in n steps c)) (layout_of n c) v) (standing_at n steps c)
+      block = option_map (value_put (has_text (node_in n steps c)) (layout_of n c) v) (placement_at n steps c)
 
       flow : Option (List Segment)
-      flow = option_map (flow_put (cut_text c) v) (flow_standing n c (last_step steps))
+      flow = option_map (flow_put (cut_text c) v) (flow_placement n c (last_step steps))
 
-      put_there : ((t : Standing) × (standing_at n steps c ≡ Some t)) ⊎ ((x : FlowPart) × (flow_standing n c (last_step steps) ≡ Some x)) → IsThere (option_or block flow)
+      put_there : ((t : Placement) × (placement_at n steps c ≡ Some t)) ⊎ ((x : FlowPart) × (flow_placement n c (last_step steps) ≡ Some x)) → IsThere (option_or block flow)
       put_there (inl t) = first_there block flow (value_put (has_text (node_in n steps c)) (layout_of n c) v t.0, ap (option_map (value_put (has_text (node_in n steps c)) (layout_of n c) v)) t.1)
       put_there (inr x) = second_there block flow (flow_put (cut_text c) v x.0, ap (option_map (flow_put (cut_text c) v)) x.1)
 
       go : (b : Bool) → IsThere (cond b (Some (keep (cut_text c) ∷ [])) (option_or block flow))
       go true = (keep (cut_text c) ∷ [], refl)
-      go false = put_there (stands n steps c w read at)
+      go false = put_there (is_located n steps c w read at)
 
   -- one of several is taken out
   several_there : (n : ℕ) (s : Step) (ss : List Step) (c : Cut) (w : Node) → read_at (cut_text c) ≡ Some c → node_in n (s ∷ ss) c ≡ Some w →
       has_others_at n (s ∷ ss) c ≡ true → IsThere (part_removed n c (last_step (s ∷ ss))) ⊎ IsThere (one_removed n (s ∷ ss) c)
   several_there n s ss c w read at others = go (entries n s ss c w read at)
     where
-      part : (o : Option (List Step × Step)) (x : FlowPart) → flow_standing n c o ≡ Some x → ltb 1 (count (items_tree x.collection.items)) ≡ true → IsThere (part_removed n c o)
+      part : (o : Option (List Step × Step)) (x : FlowPart) → flow_placement n c o ≡ Some x → ltb 1 (count (items_tree x.collection.items)) ≡ true → IsThere (part_removed n c o)
       part None x e more = absurd (none-some _ e)
       part (Some y) x e more =
           let v = bind_some {f = λ (z : CollPieces). flow_part y.1 z} (flow_collection n y.0 c) e in
@@ -128,7 +128,7 @@ module _ (roots : RootsStand) (entries : EntriesStand) where
           let r = removing_there v.0.close v.0.rest y.1 v.0.gap v.0.items i.0 i.1 (several_items v.0.items own) in
           (flow_segments (cut_text c) r.0, ap (λ (o : Option CollPieces). o >>= flow_removed (cut_text c) y.1) v.1 ∙ ap (option_map (flow_segments (cut_text c))) r.1)
 
-      go : ((e : RowsOfEntry) × (rows_of_entry n (s ∷ ss) c ≡ Some e)) ⊎ ((x : FlowPart) × (flow_standing n c (last_step (s ∷ ss)) ≡ Some x) × (has_others_at n (s ∷ ss) c ≡ ltb 1 (count (items_tree x.collection.items)))) →
+      go : ((e : RowsOfEntry) × (rows_of_entry n (s ∷ ss) c ≡ Some e)) ⊎ ((x : FlowPart) × (flow_placement n c (last_step (s ∷ ss)) ≡ Some x) × (has_others_at n (s ∷ ss) c ≡ ltb 1 (count (items_tree x.collection.items)))) →
           IsThere (part_removed n c (last_step (s ∷ ss))) ⊎ IsThere (one_removed n (s ∷ ss) c)
       go (inl e) = inr (one_there n s ss c e.0 read e.1)
       go (inr x) = inl (part (last_step (s ∷ ss)) x.0 x.1 (sym x.2 ∙ others))
@@ -221,7 +221,7 @@ head_comment_there n steps text c read fits =
 -- ---- each operation
 
 -- An operation that fits has its edit.
-pub fitting_has_edit : RootsStand → EntriesStand → AppendHasEdit → FittingHasEdit
+pub fitting_has_edit : RootsOccur → EntriesOccur → AppendHasEdit → FittingHasEdit
 fitting_has_edit roots entries takers (replace n steps v) c read operand fits = replaced_there roots entries n steps v c fits.2.1.0 read (ap (λ (o : Option Document). o >>= λ d. node_at steps d.root) fits.1 ∙ fits.2.1.1)
 fitting_has_edit roots entries takers (append n steps key v) c read operand fits = takers n steps key v c read fits
 fitting_has_edit roots entries takers (remove n []) c read operand fits = absurd fits.2.0

@@ -8,13 +8,13 @@ use Rattle.yq_flow_edits.{specs.FlowEdits.FlowEdit, specs.FlowPlaces.{PlacedEdit
 use Rattle.yq_row_table.specs.Rows.{Cut, cut_text}
 use Rattle.yq_documents.specs.Reading.{cut_of, read_at}
 use Rattle.yq_places.specs.FlowNodes.{flow_collection}
-use Rattle.yq_places.specs.FlowViews.{IsHeadOfSteps, FlowAgrees, behind_anchor, collection_view, placed_collection}
-use Rattle.yq_places.{specs.Standings.{FlowPart, flow_part, flow_standing, last_step}, specs.declared.places.flow_node.FlowHead.FlowHead}
+use Rattle.yq_places.specs.FlowViews.{IsHeadOfSteps, FlowAgrees, following_anchor, collection_view, placed_collection}
+use Rattle.yq_places.{specs.Placements.{FlowPart, flow_part, flow_placement, last_step}, specs.declared.places.flow_node.FlowHead.FlowHead}
 use Rattle.yq_places.proofs.FlowNodeLaws.{entry_more}
 use Rattle.yq_text.specs.Script.{Segment, keep, put}
 use Rattle.yq_edit_rules.specs.FlowParts.{flow_segments}
 use Rattle.yq_edit_laws.{specs.EditPlaces.{LiesIn, edit_segments, moved_on}, proofs.CutLaws.{text_read, text_small}}
-use Rattle.yq_edit_laws.{proofs.FlowHeads.{in_text, item_whole, agrees_there}, proofs.FlowLonger.edit_more, proofs.FlowStandings.EntryAt}
+use Rattle.yq_edit_laws.{proofs.FlowHeads.{in_text, item_whole, agrees_there}, proofs.FlowLonger.edit_more, proofs.FlowPlacements.EntryAt}
 
 -- ---- the last step
 
@@ -36,20 +36,20 @@ steps_last f x (y ∷ xs) some is =
 -- ---- the bytes of an edit
 
 -- the pieces of a text at the place of an edit
-pub segments_at : (t before : List ℕ) (e : FlowEdit) → t ≡ before ++ (e.old ++ e.behind) → edit_segments t (place_edit (length t) e) e.written ≡ flow_segments t e
+pub segments_at : (t before : List ℕ) (e : FlowEdit) → t ≡ before ++ (e.old ++ e.after) → edit_segments t (place_edit (length t) e) e.written ≡ flow_segments t e
 segments_at t before e is =
-    let n : ℕ = length t - length (e.old ++ e.behind) in
-    let m : ℕ = length t - length e.behind in
-    let whole : t ≡ (before ++ e.old) ++ e.behind = is ∙ sym (append_assoc before e.old e.behind) in
-    let start : n ≡ length before = omega (arith, ap length is, length-append before (e.old ++ e.behind)) in
-    let end_ : m ≡ length (before ++ e.old) = omega (arith, ap length whole, length-append (before ++ e.old) e.behind) in
-    let front : take m t ≡ before ++ e.old = (λ i. take (end_ i) (whole i)) ∙ take-append_seam (before ++ e.old) e.behind in
+    let n : ℕ = length t - length (e.old ++ e.after) in
+    let m : ℕ = length t - length e.after in
+    let whole : t ≡ (before ++ e.old) ++ e.after = is ∙ sym (append_assoc before e.old e.after) in
+    let start : n ≡ length before = omega (arith, ap length is, length-append before (e.old ++ e.after)) in
+    let end_ : m ≡ length (before ++ e.old) = omega (arith, ap length whole, length-append (before ++ e.old) e.after) in
+    let front : take m t ≡ before ++ e.old = (λ i. take (end_ i) (whole i)) ∙ take-append_seam (before ++ e.old) e.after in
     let old : drop n (take m t) ≡ e.old = (λ i. drop (start i) (front i)) ∙ drop-append_seam before e.old in
-    let behind : drop m t ≡ e.behind = (λ i. drop (end_ i) (whole i)) ∙ drop-append_seam (before ++ e.old) e.behind in
-    λ i. keep (take n t) ∷ (put (old i) e.lead ∷ (put [] e.written ∷ (keep (behind i) ∷ [])))
+    let after : drop m t ≡ e.after = (λ i. drop (end_ i) (whole i)) ∙ drop-append_seam (before ++ e.old) e.after in
+    λ i. keep (take n t) ∷ (put (old i) e.lead ∷ (put [] e.written ∷ (keep (after i) ∷ [])))
 
 edit_order : (t : List ℕ) (e : FlowEdit) → (place_edit (length t) e).start ≤ (place_edit (length t) e).end
-edit_order t e = omega (arith, length-append e.old e.behind)
+edit_order t e = omega (arith, length-append e.old e.after)
 
 -- ---- a collection that is found
 
@@ -59,11 +59,11 @@ pub record CollFound (c : Cut) (n : ℕ) (steps : List Step) (x : FlowHead) (q :
   pub coll : CollPieces
   pub found : flow_collection n steps c ≡ Some coll
   pub agrees : IsHeadOfSteps (cut_text c) coll x
-  pub node : behind_anchor q ≡ placed_collection (length x.text.now) agrees.at.coll
+  pub node : following_anchor q ≡ placed_collection (length x.text.now) agrees.at.coll
 
 -- by what it tells
 pub coll_found : (t : List ℕ) (n : ℕ) (steps : List Step) (o : Option FlowHead) (x : FlowHead) (q : Placed) → read_at t ≡ Some (cut_of t) →
-    FlowAgrees t (flow_collection n steps (cut_of t)) o → o ≡ Some x → Some (behind_anchor q) ≡ collection_view x →
+    FlowAgrees t (flow_collection n steps (cut_of t)) o → o ≡ Some x → Some (following_anchor q) ≡ collection_view x →
     CollFound (cut_of t) n steps x q
 coll_found t n steps o x q read agrees is node = go (cut_of t) read (subst (FlowAgrees t (flow_collection n steps (cut_of t))) is agrees)
   where
@@ -86,7 +86,7 @@ pub record EditFound (o : Option (List Segment)) (t : List ℕ) (p : PlacedEdit)
 
 -- Where the places of an edit in the text are characters' ends.
 abbrev pub HasBounds : List ℕ → FlowEdit → Type 0
-HasBounds t e = IsCharBoundary t (length t - length (e.old ++ e.behind)) × IsCharBoundary t (length t - length e.behind)
+HasBounds t e = IsCharBoundary t (length t - length (e.old ++ e.after)) × IsCharBoundary t (length t - length e.after)
 
 -- the place of such an edit lies in the text
 pub bounds_lie : (c : Cut) (e : FlowEdit) (p : PlacedEdit) → read_at (cut_text c) ≡ Some c → HasBounds (cut_text c) e → p ≡ place_edit (length (cut_text c)) e → LiesIn (cut_text c) p
@@ -98,8 +98,8 @@ module _ (c : Cut) (n : ℕ) (steps : List Step) (x : FlowHead) (q : Placed) (f 
   t = cut_text c
 
   -- An edit that the text has as the row alone has its own: its place,
-  pub edit_moved : (e own : FlowEdit) (p : PlacedEdit) → e ≡ edit_more f.agrees.behind own →
-      length (own.old ++ own.behind) ≤ length (node_text f.agrees.at.node f.agrees.at.rest) → p ≡ place_edit (length x.text.now) own →
+  pub edit_moved : (e own : FlowEdit) (p : PlacedEdit) → e ≡ edit_more f.agrees.after own →
+      length (own.old ++ own.after) ≤ length (node_text f.agrees.at.node f.agrees.at.rest) → p ≡ place_edit (length x.text.now) own →
       moved_on x.before p ≡ place_edit (length t) e
   edit_moved e own p same within is = ap (moved_on x.before) is ∙ sym (in_text t f.coll x f.agrees e own same within)
 
@@ -117,9 +117,9 @@ module _ (c : Cut) (n : ℕ) (path init : List Step) (s : Step) (x : FlowHead) (
   own = f.agrees.at.coll
 
   -- what is at the path, by the row alone
-  pub standing_is : flow_standing n c (last_step path) ≡ option_map (part_in s f.coll) (option_map (entry_more f.agrees.behind) (item_at own.close s own.items own.rest))
-  standing_is =
-      ap (flow_standing n c) (sym last)
+  pub placement_is : flow_placement n c (last_step path) ≡ option_map (part_in s f.coll) (option_map (entry_more f.agrees.after) (item_at own.close s own.items own.rest))
+  placement_is =
+      ap (flow_placement n c) (sym last)
       ∙ (ap (λ (o : Option CollPieces). o >>= flow_part s) f.found ∙ ap (option_map (part_in s f.coll)) (item_whole (cut_text c) f.coll x f.agrees s))
 
   abbrev pub entry_found : (y : EntryPieces) → item_at own.close s own.items own.rest ≡ Some y → EntryAt c n path
@@ -129,6 +129,6 @@ module _ (c : Cut) (n : ℕ) (path init : List Step) (s : Step) (x : FlowHead) (
     last = sym last;
     coll = f.coll;
     found = f.found;
-    item = entry_more f.agrees.behind y;
-    at = item_whole (cut_text c) f.coll x f.agrees s ∙ ap (option_map (entry_more f.agrees.behind)) at;
+    item = entry_more f.agrees.after y;
+    at = item_whole (cut_text c) f.coll x f.agrees s ∙ ap (option_map (entry_more f.agrees.after)) at;
   }

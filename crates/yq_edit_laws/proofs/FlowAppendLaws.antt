@@ -6,7 +6,7 @@ use Rattle.yq_text.{specs.Limit.text_limit, specs.Script.new_text}
 use Rattle.yq_core.{specs.Keys.{depth, keys_of}, specs.Paths.{Step, append_child, node_at}, specs.Tree.{children_of, key_label}}
 use Rattle.yq_core.{specs.Collections.{CollAt, CollPieces, IsCollAt, room_in}, specs.Entries.EntryPieces}
 use Rattle.yq_core.{specs.Nodes.{Key, FlowNode, Items, none, item, node_text, without_anchor}, specs.NodesWritten.{flow_key, flow_of}}
-use Rattle.yq_flow_edits.{specs.FlowEdits.{FlowEdit, add_item, appending, behind_appended, is_none}, specs.Valued.{IsLabel, IsValueTree}}
+use Rattle.yq_flow_edits.{specs.FlowEdits.{FlowEdit, add_item, appending, after_appended, is_none}, specs.Valued.{IsLabel, IsValueTree}}
 use Rattle.yq_flow_edits.{proofs.EditLaws.around_is, proofs.EditSpans.ends_bound, proofs.ValueEdits.{appended_ends, value_appended}}
 use Rattle.yq_flow_edits.proofs.ItemPlaces.{last_rest}
 use Rattle.yq_row_table.specs.Rows.{Cut, cut_text}
@@ -22,12 +22,12 @@ use Rattle.yq_edit_rules.proofs.ValueNodes.{comma_piece, flow_piece, key_piece}
 use Rattle.yq_semantics.{specs.Fits.{Fits, Takes}, specs.Operations.append, specs.Rooms.room_of}
 use Rattle.yq_edit_laws.proofs.FlowPieceLaws.{edit_pieces}
 use Rattle.yq_edit_laws.proofs.FlowEditLaws.{FlowCarried, before_is, flow_carried, made_cut, made_reads, segments_old}
-use Rattle.yq_edit_laws.{specs.PartPuts.{EndsAfter, EndsAsIn, IsPartOf}, proofs.FlowWholeLaws.{StandsBefore, appended_stands}}
+use Rattle.yq_edit_laws.{specs.PartPuts.{EndsAfter, EndsAsIn, IsPartOf}, proofs.FlowWholeLaws.{IsPlacedBefore, appended_is_there}}
 use Rattle.yq_edit_laws.{proofs.LaterCuts.{end_after, part_after, slot}, proofs.LaterEnds.{end_after_more, part_after_more}}
 use Rattle.yq_edit_rules.proofs.FlowStayLaws as stay
 use Rattle.yq_core.specs.Tree as tree
 use Rattle.yq_documents.specs.Reading as reading
-use Rattle.yq_edit_laws.proofs.FlowStandings as standing
+use Rattle.yq_edit_laws.proofs.FlowPlacements as placement
 
 -- ---- the edit
 
@@ -49,52 +49,52 @@ key_new (Some k) n t = subst (λ (m : tree.Node). IsNewKey (Some k) (keys_of (ch
 
 module _ (c : Cut) (doc : ℕ) (steps : List Step) (key : Option (List ℕ)) (v : tree.Node) (w : CollPieces) (read : read_at (cut_text c) ≡ Some c) (found : flow_collection doc steps c ≡ Some w) where
   abbrev pub at : FlowAt c doc steps w
-  at = standing.at c doc steps w read found
+  at = placement.at c doc steps w read found
 
   abbrev pub x : CollAt
-  x = standing.x c doc steps w read found
+  x = placement.x c doc steps w read found
 
   abbrev pub e : FlowEdit
   e = appending (flow_key key) (flow_of v) w
 
-  pub stands : IsCollAt x
-  stands = standing.stands c doc steps w read found
+  pub is_located : IsCollAt x
+  is_located = placement.is_located c doc steps w read found
 
-  old_is : cut_text c ≡ (standing.row_text c doc steps w read found).before ++ node_text x.node x.rest
-  old_is = (standing.row_text c doc steps w read found).old
+  old_is : cut_text c ≡ (placement.row_text c doc steps w read found).before ++ node_text x.node x.rest
+  old_is = (placement.row_text c doc steps w read found).old
 
-  pub there : StandsBefore (cut_text c) (e.old ++ e.behind)
-  there = subst (λ (t : List ℕ). StandsBefore t (behind_appended w)) (sym old_is) (appended_stands x (standing.row_text c doc steps w read found).before stands)
+  pub there : IsPlacedBefore (cut_text c) (e.old ++ e.after)
+  there = subst (λ (t : List ℕ). IsPlacedBefore t (after_appended w)) (sym old_is) (appended_is_there x (placement.row_text c doc steps w read found).before is_located)
 
-  pub bounds : IsCharBoundary (cut_text c) (length (cut_text c) - length (e.old ++ e.behind)) × IsCharBoundary (cut_text c) (length (cut_text c) - length e.behind)
-  bounds = let i = around_is x stands in let b = ends_bound w.close (cut_text c) there.before (behind_appended w) i.closes (appended_ends x i) there.text in (b, b)
+  pub bounds : IsCharBoundary (cut_text c) (length (cut_text c) - length (e.old ++ e.after)) × IsCharBoundary (cut_text c) (length (cut_text c) - length e.after)
+  bounds = let i = around_is x is_located in let b = ends_bound w.close (cut_text c) there.before (after_appended w) i.closes (appended_ends x i) there.text in (b, b)
 
   -- one that fits
   module _ (u : KeyIsUtf8 key) (h : IsValueTree v) (takes : takes_key w.close key ≡ true) (fits : Fits (room_of (cut_text c)) (append doc steps key v) (documents c)) where
     pub append_done : FlowCarried (append doc steps key v) c steps w at e (append_child (key_label key) v)
     append_done =
-        let known = document_known (cut_text c) c doc at.part (standing.old c doc steps w read found) in
+        let known = document_known (cut_text c) c doc at.part (placement.old c doc steps w read found) in
         let old : IsSoundRoot (root_of at.part) = record { unique = known.document.unique; nested = known.document.nested; bound = known.document.bound } in
         let root : fits.0.root ≡ root_of at.part = ap (λ (d : Document). d.root) (same_Some _ _ (sym fits.1 ∙ nth_map doc at.part reading.part_document (document_parts c) at.there)) in
         let node : node_at steps (root_of at.part) ≡ Some fits.2.2.0 = ap (node_at steps) (sym root) ∙ fits.2.2.1 in
         let new : IsNewValue v (suc (length steps)) = new_value (suc (length steps)) v h (tree_unique v fits.2.1.0) fits.2.1.2 in
-        let room : depth v ≤ room_in x = omega (arith, standing.fewer c doc steps w read found, new.nested) in
-        let p = standing.piece c doc steps w read found in
+        let room : depth v ≤ room_in x = omega (arith, placement.fewer c doc steps w read found, new.nested) in
+        let p = placement.piece c doc steps w read found in
         let parts = edit_pieces (cut_text c) there.before e p there.text bounds.0 bounds.1 there.whole in
         record {
-          edited = value_appended x (key_label key) v stands (label_is w.close key u takes) h room;
-          keys = flow_keys (cut_text c) c doc at.part steps at.line at.rest at.row w e.gap e.items (standing.old c doc steps w read found) at.at
+          edited = value_appended x (key_label key) v is_located (label_is w.close key u takes) h room;
+          keys = flow_keys (cut_text c) c doc at.part steps at.line at.rest at.row w e.gap e.items (placement.old c doc steps w read found) at.at
               (add_fit (flow_key key) (flow_of v) w.gap w.items (key_fits key fits.2.0) (flow_fits v fits.2.1.1));
           sound = append_keeps steps (root_of at.part) fits.2.2.0 v (key_label key) old node new (key_new key fits.2.2.0 fits.2.2.2);
           root = refl;
           pieces = (
-            subst IsPiece (sym (before_is (cut_text c) there.before (e.old ++ e.behind) there.text)) parts.0,
+            subst IsPiece (sym (before_is (cut_text c) there.before (e.old ++ e.after) there.text)) parts.0,
             (
               cond_both (is_none w.items) [] (44 ∷ (32 ∷ [])) IsPiece (λ _. nothing) (λ _. comma_piece),
               (key_piece (eqb w.close 125) (key_label key) (node_text (flow_of v) []) (label_is w.close key u takes) (flow_piece v h), (parts.1, tt)),
             ),
           );
-          stays = omega (arith, (around_is x stands).longer, last_rest w.close w.gap w.items w.rest);
+          stays = omega (arith, (around_is x is_located).longer, last_rest w.close w.gap w.items w.rest);
         }
 
     append_carried : length (new_text (flow_segments (cut_text c) e)) ≤ text_limit → CarriedOut (append doc steps key v) c (flow_segments (cut_text c) e)
@@ -112,16 +112,16 @@ module _ (c : Cut) (doc : ℕ) (steps : List Step) (key : Option (List ℕ)) (v 
     abbrev own : EntryPieces
     own = slot c doc steps w at e.gap e.items stem left init h
 
-    pub head_behind : LeadsToHead next doc stem
-    head_behind = stay.head_behind c doc steps w at e.gap e.items stem left init h
+    pub head_after : LeadsToHead next doc stem
+    head_after = stay.head_after c doc steps w at e.gap e.items stem left init h
 
-    pub part_behind : (ss : List Step) (r : Step) (z : EntryPieces) → IsPartOf c doc (stem ++ ss) r z → length z.rest < length (behind_appended w) →
-        length (node_text (without_anchor z.node) z.rest) ≤ length (behind_appended w) → IsPartOf next doc (stem ++ ss) r z
-    part_behind ss r z part less begins =
+    pub following_part : (ss : List Step) (r : Step) (z : EntryPieces) → IsPartOf c doc (stem ++ ss) r z → length z.rest < length (after_appended w) →
+        length (node_text (without_anchor z.node) z.rest) ≤ length (after_appended w) → IsPartOf next doc (stem ++ ss) r z
+    following_part ss r z part less begins =
         part_after c doc steps w at e.gap e.items stem left init h ss r z part (λ before. part_after_more (flow_key key) (flow_of v) e.gap w at.rest (ss ++ (r ∷ [])) own z at.at.along before less begins)
 
-    pub end_behind : (ss : List Step) (z : CollPieces) → flow_collection doc (stem ++ ss) c ≡ Some z → EndsAfter (length (behind_appended w)) z → EndsAsIn z next doc (stem ++ ss)
-    end_behind ss z found after =
+    pub following_end : (ss : List Step) (z : CollPieces) → flow_collection doc (stem ++ ss) c ≡ Some z → EndsAfter (length (after_appended w)) z → EndsAsIn z next doc (stem ++ ss)
+    following_end ss z found after =
         end_after c doc steps w at e.gap e.items stem left init h ss z found (λ before. end_after_more (flow_key key) (flow_of v) e.gap w at.rest ss own z at.at.along before after)
 
 -- Append: one more item or entry, where the collection takes it.

@@ -1,7 +1,7 @@
 -- What the code finds in the head of a row, and what of that the text has.
 use Rattle.std.proofs.Common.{rules, ◌≡◌, ℕ, ◌+◌, ◌≤◌, true, List, [], ◌++◌, length, Option, Some, None, option_map, refl, sym, ap, ◌∙◌}
 use Rattle.std.{proofs.Common.arith, proofs.lemmas.Option.{none-some, same_Some}}
-use Rattle.yq_core.{proofs.NodeLaws.behind, specs.Paths.Step, specs.Collections.{CollAt, CollPieces, IsCollAt}}
+use Rattle.yq_core.{proofs.NodeLaws.after, specs.Paths.Step, specs.Collections.{CollAt, CollPieces, IsCollAt}}
 use Rattle.yq_core.{specs.Entries.{EntryPieces, item_at}, specs.Nodes.{Key, FlowNode, coll, node_text, flow_items_text, IsFlowNode}}
 use Rattle.yq_core.{specs.Places.{Placed, locate}, proofs.PathLaws.items_hold}
 use Rattle.yq_flow_edits.specs.FlowEdits.{FlowEdit, appending, replacing}
@@ -9,15 +9,15 @@ use Rattle.yq_flow_edits.{specs.FlowPlaces.{append_place, place_edit, remove_pla
 use Rattle.yq_flow_edits.{proofs.EditLaws.{Around, around_is}, proofs.PlacedEdits.{append_placed, replace_placed}}
 use Rattle.yq_flow_edits.{proofs.RemovePlaces.remove_placed, proofs.RemoveTexts.removed_text}
 use Rattle.yq_places.proofs.FlowNodeLaws.{item_more, entry_more, with_more}
-use Rattle.yq_places.specs.FlowViews.{IsHeadOfSteps, FlowAgrees, behind_anchor, collection_view, placed_collection}
+use Rattle.yq_places.specs.FlowViews.{IsHeadOfSteps, FlowAgrees, following_anchor, collection_view, placed_collection}
 use Rattle.yq_places.specs.declared.places.flow_node.FlowHead.{FlowHead}
 use Rattle.yq_edit_laws.{proofs.FlowLonger.{edit_more, place_moved}, specs.EditPlaces.moved_on}
-use Rattle.yq_edit_laws.proofs.FlowWholeLaws.{StandsBefore, appended_stands, replaced_stands}
+use Rattle.yq_edit_laws.proofs.FlowWholeLaws.{IsPlacedBefore, appended_is_there, replaced_is_there}
 
 -- ---- lengths
 
-stands_within : (t all : List ℕ) → StandsBefore t all → length all ≤ length t
-stands_within t all h = behind t h.before all h.text
+within_text : (t all : List ℕ) → IsPlacedBefore t all → length all ≤ length t
+within_text t all h = after t h.before all h.text
 
 -- ---- a collection in the node of a row alone
 
@@ -39,14 +39,14 @@ module _ (z : CollAt) (is : IsCollAt z) where
   unfolding IsFlowNode
   valid = (around.closes, around.gap, around.items)
 
-  pub appended_within : (key : Key) (m : FlowNode) → length ((appending key m w).old ++ (appending key m w).behind) ≤ length t
-  appended_within key m = stands_within t _ (appended_stands z [] is)
+  pub appended_within : (key : Key) (m : FlowNode) → length ((appending key m w).old ++ (appending key m w).after) ≤ length t
+  appended_within key m = within_text t _ (appended_is_there z [] is)
 
-  pub replaced_within : (s : Step) (y : EntryPieces) (m : FlowNode) → item_at w.close s w.items w.rest ≡ Some y → length ((replacing s y m w).old ++ (replacing s y m w).behind) ≤ length t
-  replaced_within s y m at = stands_within t _ (replaced_stands z [] is s y at)
+  pub replaced_within : (s : Step) (y : EntryPieces) (m : FlowNode) → item_at w.close s w.items w.rest ≡ Some y → length ((replacing s y m w).old ++ (replacing s y m w).after) ≤ length t
+  replaced_within s y m at = within_text t _ (replaced_is_there z [] is s y at)
 
   pub append_found : (key : Key) (m : FlowNode) → append_place (placed_collection (length t) w) ≡ Some (place_edit (length t) (appending key m w))
-  append_found key m = append_placed (length t) (coll w.close w.gap w.items) w.rest w key m (behind t around.before _ whole) refl
+  append_found key m = append_placed (length t) (coll w.close w.gap w.items) w.rest w key m (after t around.before _ whole) refl
 
   pub replace_found : (s : Step) (y : EntryPieces) (m : FlowNode) → item_at w.close s w.items w.rest ≡ Some y → replace_place (locate (length t) y.node y.rest) ≡ place_edit (length t) (replacing s y m w)
   replace_found s y m at = replace_placed true (Some 0) around.inner_depth (length t) s y m w (items_hold around.inner_depth w.close s w.items w.rest y around.items at)
@@ -54,10 +54,10 @@ module _ (z : CollAt) (is : IsCollAt z) where
   pub remove_found : (s : Step) → remove_place t s (placed_collection (length t) w) ≡ option_map (place_edit (length t)) (removing s w)
   remove_found s = remove_placed true (Some 0) _ t around.before (coll w.close w.gap w.items) w.rest w s valid refl whole
 
-  pub removed_within : (s : Step) (e : FlowEdit) → removing s w ≡ Some e → length (e.old ++ e.behind) ≤ length t
+  pub removed_within : (s : Step) (e : FlowEdit) → removing s w ≡ Some e → length (e.old ++ e.after) ≤ length t
   removed_within s e at =
       let h = (removed_text w.close w.rest s w.gap w.items e at).text in
-      omega (arith, behind (w.gap ++ flow_items_text w.close w.items w.rest) h.before (e.old ++ e.behind) h.was, behind t around.before _ around.text)
+      omega (arith, after (w.gap ++ flow_items_text w.close w.items w.rest) h.before (e.old ++ e.after) h.was, after t around.before _ around.text)
 
 -- ---- the collection in the text
 
@@ -69,22 +69,22 @@ module _ (t : List ℕ) (w : CollPieces) (x : FlowHead) (h : IsHeadOfSteps t w x
   abbrev pub own : CollPieces
   own = h.at.coll
 
-  pub whole_is : w ≡ with_more h.behind own
-  whole_is = (λ i. record { close = w.close; gap = w.gap; items = w.items; rest = h.rest_is i }) ∙ ap (with_more h.behind) (sym h.coll_is)
+  pub whole_is : w ≡ with_more h.after own
+  whole_is = (λ i. record { close = w.close; gap = w.gap; items = w.items; rest = h.rest_is i }) ∙ ap (with_more h.after) (sym h.coll_is)
 
   agrees_is : collection_view x ≡ Some (placed_collection (length row) own)
   agrees_is = h.found ∙ ap (λ v. Some (placed_collection (length row) v)) (sym h.coll_is)
 
   -- an edit in the text
-  pub in_text : (e f : FlowEdit) → e ≡ edit_more h.behind f → length (f.old ++ f.behind) ≤ length (node_text h.at.node h.at.rest) → place_edit (length t) e ≡ moved_on x.before (place_edit (length row) f)
+  pub in_text : (e f : FlowEdit) → e ≡ edit_more h.after f → length (f.old ++ f.after) ≤ length (node_text h.at.node h.at.rest) → place_edit (length t) e ≡ moved_on x.before (place_edit (length row) f)
   in_text e f same within = search (rules, place_moved)
 
   -- an item or entry in the row alone, and in the text
-  pub item_whole : (s : Step) → item_at w.close s w.items w.rest ≡ option_map (entry_more h.behind) (item_at own.close s own.items own.rest)
-  item_whole s = ap (λ (v : CollPieces). item_at v.close s v.items v.rest) whole_is ∙ item_more own.close s own.items own.rest h.behind
+  pub item_whole : (s : Step) → item_at w.close s w.items w.rest ≡ option_map (entry_more h.after) (item_at own.close s own.items own.rest)
+  item_whole s = ap (λ (v : CollPieces). item_at v.close s v.items v.rest) whole_is ∙ item_more own.close s own.items own.rest h.after
 
 -- what the code tells with a node is a collection of the text
-pub agrees_there : (t : List ℕ) (o : Option CollPieces) (x : FlowHead) (q : Placed) → FlowAgrees t o (Some x) → Some (behind_anchor q) ≡ collection_view x →
-    (w : CollPieces) × (o ≡ Some w) × (h : IsHeadOfSteps t w x) × (behind_anchor q ≡ placed_collection (length x.text.now) h.at.coll)
+pub agrees_there : (t : List ℕ) (o : Option CollPieces) (x : FlowHead) (q : Placed) → FlowAgrees t o (Some x) → Some (following_anchor q) ≡ collection_view x →
+    (w : CollPieces) × (o ≡ Some w) × (h : IsHeadOfSteps t w x) × (following_anchor q ≡ placed_collection (length x.text.now) h.at.coll)
 agrees_there t None x q agrees node = absurd (none-some _ (sym (node ∙ agrees)))
 agrees_there t (Some w) x q agrees node = (w, refl, agrees, same_Some _ _ (node ∙ agrees_is t w x agrees))

@@ -9,7 +9,7 @@ use Rattle.yq_outline.specs.Outline.{Line, level, Outline, row, flatten, IsEven,
 use Rattle.yq_outline.specs.Places.{lines_before, lines_after, FoundLine, find, in_head, place_inside, content_under}
 use Rattle.yq_outline.{proofs.Decides.flatten-group, proofs.Finding.path_node, proofs.PlaceLaws.placed, proofs.Plug.allows_from}
 use Rattle.yq_outline.specs.Lines.{content_anchor, head_of, lines_of_rows, mark_line}
-use Rattle.yq_row_table.{specs.Exchange.behind_row, specs.Rows.{Content, Nothing, Inline, Block, Row, Part, Cut, cut_text, mark_column}}
+use Rattle.yq_row_table.{specs.Exchange.after_row, specs.Rows.{Content, Nothing, Inline, Block, Row, Part, Cut, cut_text, mark_column}}
 use Rattle.yq_documents.{specs.Documents.document_parts, specs.Reading.{part_outline, read_at, root_of}}
 use Rattle.yq_documents.specs.LinesInRows.{document_row, RowLine, row_line}
 use Rattle.yq_places.specs.FlowNodes.{bare_line, content_flow, find_head, flow_collection, head_line, line_collection, part_collection}
@@ -100,15 +100,15 @@ scalar_holds : (ss : List Step) (a b : Option (List ℕ)) (text : List ℕ) (x :
 scalar_holds [] a b text x h = none-some _ (ap held (same_Some _ _ h.1) ∙ h.2)
 scalar_holds (s ∷ ss) a b text x h = none-some _ h.1
 
-content_holds : (y : Content) (h : tree.Node) (rest : List Step) (x : FlowContent) (behind : List ℕ) → head_of y ≡ Some h → HeldAt rest (anchored (content_anchor y) h) x →
-    (w : CollPieces) × (content_flow rest y behind ≡ Some w) × (coll_held w ≡ x)
-content_holds (Nothing tail) h rest x behind head at = absurd (none-some _ head)
-content_holds (Block space anchor block) h rest x behind head at =
+content_holds : (y : Content) (h : tree.Node) (rest : List Step) (x : FlowContent) (after : List ℕ) → head_of y ≡ Some h → HeldAt rest (anchored (content_anchor y) h) x →
+    (w : CollPieces) × (content_flow rest y after ≡ Some w) × (coll_held w ≡ x)
+content_holds (Nothing tail) h rest x after head at = absurd (none-some _ head)
+content_holds (Block space anchor block) h rest x after head at =
     absurd (scalar_holds rest (content_anchor (Block space anchor block)) None _ x (subst (λ (n : tree.Node). HeldAt rest (anchored (content_anchor (Block space anchor block)) n) x) (sym (same_Some _ _ head)) at))
-content_holds (Inline space node tail) h rest x behind head at =
+content_holds (Inline space node tail) h rest x after head at =
     let n = head_tree node h head in
     let same : held (anchored (content_anchor (Inline space node tail)) h) ≡ held (tree_of node) = held_anchored (content_anchor (Inline space node tail)) h ∙ (sym (held_anchored n.0 h) ∙ ap held (sym n.1)) in
-    coll_there rest node (tail ++ behind) x (same_held rest (anchored (content_anchor (Inline space node tail)) h) (tree_of node) x same at)
+    coll_there rest node (tail ++ after) x (same_held rest (anchored (content_anchor (Inline space node tail)) h) (tree_of node) x same at)
 
 -- Steps lead to a collection in a document of a cut that has a reading, and to its line's head.
 pub record HeadHolds (c : Cut) (doc : ℕ) (steps : List Step) (x : FlowContent) : Type 0 where
@@ -134,10 +134,10 @@ flow_there c doc steps x h =
     let head = head_there f (head_takes n o steps f h.rest known.even h.found) even.2 in
     let own : HeldAt h.rest (content_under f.line f.under) x = line_holds steps o (f, h.rest) x h.found h.at in
     let line : HeldAt h.rest (anchored (content_anchor r.row_line_is.row.content) head.0) x = subst (λ (m : tree.Node). HeldAt h.rest m x) (λ i. anchored (sym r.anchor i) (head_or (head.1 i) (value f.under))) own in
-    let w = content_holds r.row_line_is.row.content head.0 h.rest x (behind_row (document_row doc c + r.row_line_is.before) c) (r.head ∙ head.1) line in (
+    let w = content_holds r.row_line_is.row.content head.0 h.rest x (after_row (document_row doc c + r.row_line_is.before) c) (r.head ∙ head.1) line in (
       w.0,
       ap (λ (y : Option Part). y >>= part_collection (document_row doc c) c steps) h.there
           ∙ (ap (λ (y : Option Reached). y >>= λ z. line_collection (document_row doc c) c p.rows (length (lines_before z.0.place)) z.1) h.found
-          ∙ (ap (λ (y : Option RowLine). y >>= λ s. content_flow h.rest s.row.content (behind_row (document_row doc c + s.before) c)) r.there ∙ w.1)),
+          ∙ (ap (λ (y : Option RowLine). y >>= λ s. content_flow h.rest s.row.content (after_row (document_row doc c + s.before) c)) r.there ∙ w.1)),
       w.2,
     )

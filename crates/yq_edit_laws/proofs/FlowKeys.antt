@@ -7,10 +7,10 @@ use Rattle.yq_core.{specs.Trees.{content_tree, items_tree, placed_tree, tree_col
 use Rattle.yq_outline.{specs.Group.level_or, specs.Outline.{Outline, row, IsEven, anchored, level, head_or, value}}
 use Rattle.yq_outline.{specs.Places.{FoundLine, find, in_head, place_inside, content_under}, proofs.Finding.{FoundNode, path_node}}
 use Rattle.yq_outline.{proofs.Plug.allows_from, specs.Lines.{content_anchor, head_of}}
-use Rattle.yq_row_table.{specs.Exchange.behind_row, specs.Rows.{Content, Nothing, Inline, Block, Cut, cut_text}}
+use Rattle.yq_row_table.{specs.Exchange.after_row, specs.Rows.{Content, Nothing, Inline, Block, Cut, cut_text}}
 use Rattle.yq_documents.{specs.LinesInRows.{RowLine, document_row}, specs.Reading.{cut_of, part_outline, read_at}}
 use Rattle.yq_places.specs.FlowNodes.{bare_line, content_flow, find_head, flow_collection, head_line}
-use Rattle.yq_places.{specs.FlowViews.{FlowAgrees, behind_anchor}, specs.declared.places.flow_node.FlowHead.FlowHead}
+use Rattle.yq_places.{specs.FlowViews.{FlowAgrees, following_anchor}, specs.declared.places.flow_node.FlowHead.FlowHead}
 use Rattle.yq_places.proofs.FlowPieces.{head_tree}
 use Rattle.yq_edit_rules.{proofs.FlowLineLaws.{head_takes, head_whole}, proofs.PartLaws.document_known, proofs.SoundRootLaws.unique_at}
 use Rattle.yq_edit_laws.proofs.FlowHeldNodes.{FlowContent, HeldAt, coll_held, coll_holds, held, held_anchored, held_coll, held_named}
@@ -70,13 +70,13 @@ line_unique (s ∷ ss) o y found unique = go (find s ss o) (path_node s ss o) fo
 
 -- ---- in a cut
 
-content_held : (y : Content) (h : tree.Node) (rest : List Step) (behind : List ℕ) (w : CollPieces) → head_of y ≡ Some h → content_flow rest y behind ≡ Some w → HeldAt rest (anchored (content_anchor y) h) (coll_held w)
-content_held (Nothing tail) h rest behind w head e = absurd (none-some _ e)
-content_held (Block space anchor block) h rest behind w head e = absurd (none-some _ e)
-content_held (Inline space node tail) h rest behind w head e =
+content_held : (y : Content) (h : tree.Node) (rest : List Step) (after : List ℕ) (w : CollPieces) → head_of y ≡ Some h → content_flow rest y after ≡ Some w → HeldAt rest (anchored (content_anchor y) h) (coll_held w)
+content_held (Nothing tail) h rest after w head e = absurd (none-some _ e)
+content_held (Block space anchor block) h rest after w head e = absurd (none-some _ e)
+content_held (Inline space node tail) h rest after w head e =
     let n = head_tree node h head in
     let same : held (anchored (content_anchor (Inline space node tail)) h) ≡ held (tree_of node) = held_anchored (content_anchor (Inline space node tail)) h ∙ (sym (held_anchored n.0 h) ∙ ap held (sym n.1)) in
-    same_held rest (tree_of node) (anchored (content_anchor (Inline space node tail)) h) (coll_held w) (sym same) (coll_holds rest node (tail ++ behind) w e)
+    same_held rest (tree_of node) (anchored (content_anchor (Inline space node tail)) h) (coll_held w) (sym same) (coll_holds rest node (tail ++ after) w e)
 
 pub flow_unique : (c : Cut) (n : ℕ) (steps : List Step) (w : CollPieces) → read_at (cut_text c) ≡ Some c → flow_collection n steps c ≡ Some w → HasUniqueKeys (tree_collection w.close (items_tree w.items))
 flow_unique c n steps w read found =
@@ -89,25 +89,25 @@ flow_unique c n steps w read found =
     let even : IsEven (level f.line) (row f.line f.under f.after) = (allows_from m f.place f.line f.under f.after (subst (IsEven m) (sym (head_whole m o steps f h.line.1 known.even h.found)) known.even)).1 in
     let head = head_there f (head_takes m o steps f h.line.1 known.even h.found) even.2 in
     let same : r.row_line_is ≡ h.row_line_is = same_Some _ _ (sym r.there ∙ h.printed_line) in
-    let flow : content_flow h.line.1 r.row_line_is.row.content (behind_row (document_row n c + h.row_line_is.before) c) ≡ Some w =
-    ap (λ (z : RowLine). content_flow h.line.1 z.row.content (behind_row (document_row n c + h.row_line_is.before) c)) same ∙ h.flow in
+    let flow : content_flow h.line.1 r.row_line_is.row.content (after_row (document_row n c + h.row_line_is.before) c) ≡ Some w =
+    ap (λ (z : RowLine). content_flow h.line.1 z.row.content (after_row (document_row n c + h.row_line_is.before) c)) same ∙ h.flow in
     let at = content_held r.row_line_is.row.content head.0 h.line.1 _ w (r.head ∙ head.1) flow in
     let own : HeldAt h.line.1 (content_under f.line f.under) (coll_held w) = subst (λ (m : tree.Node). HeldAt h.line.1 m (coll_held w)) (λ i. anchored (r.anchor i) (head_or (sym head.1 i) (value f.under))) at in
     same_unique own.0 (tree_collection w.close (items_tree w.items)) (own.2 ∙ sym (held_coll w.close (items_tree w.items))) (line_unique steps o h.line h.found known.document.unique own.0 own.1)
 
 -- ---- as the code finds it
 
-held_behind : (q : Placed) → held (placed_tree (behind_anchor q)) ≡ held (placed_tree q)
-held_behind (placed None s c e f) = refl
-held_behind (placed (Some a) s c e f) = sym (held_named a (content_tree f))
+held_after : (q : Placed) → held (placed_tree (following_anchor q)) ≡ held (placed_tree q)
+held_after (placed None s c e f) = refl
+held_after (placed (Some a) s c e f) = sym (held_named a (content_tree f))
 
 found_unique : (c : Cut) (n : ℕ) (steps : List Step) (x : FlowHead) (q : Placed) → CollFound c n steps x q → HasUniqueKeys (placed_tree q)
 unfolding tree_of
 found_unique c n steps x q f =
     let own : CollPieces = f.agrees.at.coll in
     let unique = subst (λ (v : CollPieces). HasUniqueKeys (tree_collection v.close (items_tree v.items))) (whole_is (cut_text c) f.coll x f.agrees) (flow_unique c n steps f.coll f.read f.found) in
-    let same : placed_tree (behind_anchor q) ≡ tree_of (coll own.close own.gap own.items) = ap placed_tree f.node ∙ node_tree (length x.text.now) (coll own.close own.gap own.items) own.rest in
-    same_unique (placed_tree (behind_anchor q)) (placed_tree q) (held_behind q) (subst HasUniqueKeys (sym same) unique)
+    let same : placed_tree (following_anchor q) ≡ tree_of (coll own.close own.gap own.items) = ap placed_tree f.node ∙ node_tree (length x.text.now) (coll own.close own.gap own.items) own.rest in
+    same_unique (placed_tree (following_anchor q)) (placed_tree q) (held_after q) (subst HasUniqueKeys (sym same) unique)
 
 pub collection_unique : (t : List ℕ) (n : ℕ) (steps : List Step) (x : FlowHead) → read_at t ≡ Some (cut_of t) → FlowAgrees t (flow_collection n steps (cut_of t)) (Some x) → HasUniqueCollection x
 collection_unique t n steps x read agrees q there = found_unique (cut_of t) n steps x q (coll_found t n steps (Some x) x q read agrees refl there)

@@ -7,16 +7,16 @@ use Rattle.yq_core.specs.Trees.{tree_of}
 use Rattle.yq_outline.{specs.Ends.found_line, specs.Group.level_or, specs.Outline.{Outline, IsEven, level, row, anchored, head_or, value}}
 use Rattle.yq_outline.{specs.Places.{FoundLine, lines_before}, proofs.Finding.{FoundNode, node-anchored, path_node}}
 use Rattle.yq_outline.{proofs.Plug.allows_from, specs.Lines.{content_anchor, head_of}}
-use Rattle.yq_row_table.{specs.Exchange.behind_row, specs.Rows.{Content, Nothing, Inline, Block, Part, Cut, cut_text}}
+use Rattle.yq_row_table.{specs.Exchange.after_row, specs.Rows.{Content, Nothing, Inline, Block, Part, Cut, cut_text}}
 use Rattle.yq_documents.{specs.Documents.{Document, document_parts}, specs.Reading.{part_document, part_outline, read_at}}
 use Rattle.yq_documents.specs.LinesInRows.{RowLine, document_row, row_line, row_line_of}
 use Rattle.yq_places.{specs.FlowNodes.{content_flow, find_head}, specs.NodesAt.node_in, specs.PlacedRows.{PlacedPart, placed_document}}
-use Rattle.yq_places.{specs.Standings.{entry_rows_at, entry_standing, last_step, standing_at}, proofs.FlowPieces.head_tree}
+use Rattle.yq_places.{specs.Placements.{entry_rows_at, entry_placement, last_step, placement_at}, proofs.FlowPieces.head_tree}
 use Rattle.yq_places.proofs.PlacedRowLaws.{document_placed, part_of}
 use Rattle.yq_edit_rules.{proofs.FlowLineLaws.{head_takes, head_whole}, proofs.PartLaws.document_known}
 use Rattle.yq_edit_laws.{proofs.EntryLines.found_at, proofs.FlowHeldLines.{head_row, head_there}}
 use Rattle.yq_edit_laws.{proofs.FlowHeldNodes.{entry_tree, inside_child, kids_held}, proofs.FlowSoundLaws.last_is}
-use Rattle.yq_edit_laws.{proofs.FlowStandings.{EntryAt, coll_entry}, proofs.StepsOn.head_on}
+use Rattle.yq_edit_laws.{proofs.FlowPlacements.{EntryAt, coll_entry}, proofs.StepsOn.head_on}
 use Rattle.yq_core.specs.Tree as tree
 
 -- ---- in an inline node
@@ -45,14 +45,14 @@ drop_anchor a [] s n = node-anchored a s [] n
 drop_anchor a (t ∷ ss) s n = node-anchored a t (ss ++ (s ∷ [])) n
 
 -- the same in the content of a row
-content_node : (x : Content) (h : tree.Node) (ss : List Step) (s : Step) (behind : List ℕ) (w : CollPieces) → head_of x ≡ Some h → content_flow ss x behind ≡ Some w →
+content_node : (x : Content) (h : tree.Node) (ss : List Step) (s : Step) (after : List ℕ) (w : CollPieces) → head_of x ≡ Some h → content_flow ss x after ≡ Some w →
     node_at (ss ++ (s ∷ [])) (anchored (content_anchor x) h) ≡ option_map entry_tree (item_at w.close s w.items w.rest)
-content_node (Nothing tail) h ss s behind w head e = absurd (none-some _ e)
-content_node (Block space anchor block) h ss s behind w head e = absurd (none-some _ e)
-content_node (Inline space node tail) h ss s behind w head e =
+content_node (Nothing tail) h ss s after w head e = absurd (none-some _ e)
+content_node (Block space anchor block) h ss s after w head e = absurd (none-some _ e)
+content_node (Inline space node tail) h ss s after w head e =
     let n = head_tree node h head in
     drop_anchor (content_anchor (Inline space node tail)) ss s h
-    ∙ (sym (drop_anchor n.0 ss s h) ∙ (ap (node_at (ss ++ (s ∷ []))) (sym n.1) ∙ coll_node ss s node (tail ++ behind) w e))
+    ∙ (sym (drop_anchor n.0 ss s h) ∙ (ap (node_at (ss ++ (s ∷ []))) (sym n.1) ∙ coll_node ss s node (tail ++ after) w e))
 
 -- ---- in a document
 
@@ -64,7 +64,7 @@ pub record LineAt (c : Cut) (n : ℕ) (steps : List Step) (w : CollPieces) : Typ
   pub found : find_head steps (part_outline part) ≡ Some line
   pub row_line_is : RowLine
   pub printed_line : row_line (length (lines_before line.0.place)) part.rows ≡ Some row_line_is
-  pub flow : content_flow line.1 row_line_is.row.content (behind_row (document_row n c + row_line_is.before) c) ≡ Some w
+  pub flow : content_flow line.1 row_line_is.row.content (after_row (document_row n c + row_line_is.before) c) ≡ Some w
 
 pub line_at : (c : Cut) (n : ℕ) (steps : List Step) (w : CollPieces) → Rattle.yq_places.specs.FlowNodes.flow_collection n steps c ≡ Some w → LineAt c n steps w
 line_at c n steps w e =
@@ -89,8 +89,8 @@ line_node c n steps s w h read =
     let even : IsEven (level f.line) (row f.line f.under f.after) = (allows_from m f.place f.line f.under f.after (subst (IsEven m) (sym (head_whole m o steps f h.line.1 known.even h.found)) known.even)).1 in
     let head = head_there f (head_takes m o steps f h.line.1 known.even h.found) even.2 in
     let same : r.row_line_is ≡ h.row_line_is = same_Some _ _ (sym r.there ∙ h.printed_line) in
-    let flow : content_flow h.line.1 r.row_line_is.row.content (behind_row (document_row n c + h.row_line_is.before) c) ≡ Some w =
-    ap (λ (z : RowLine). content_flow h.line.1 z.row.content (behind_row (document_row n c + h.row_line_is.before) c)) same ∙ h.flow in
+    let flow : content_flow h.line.1 r.row_line_is.row.content (after_row (document_row n c + h.row_line_is.before) c) ≡ Some w =
+    ap (λ (z : RowLine). content_flow h.line.1 z.row.content (after_row (document_row n c + h.row_line_is.before) c)) same ∙ h.flow in
     node_found steps s o
     ∙ (ap FoundNode (head_on steps s o h.line h.found)
     ∙ ((λ i. node_at (h.line.1 ++ (s ∷ [])) (anchored (sym r.anchor i) (head_or (head.1 i) (value f.under))))
@@ -106,11 +106,11 @@ none_seat (t ∷ ts) s p y e = ap (λ (o : Option (FoundLine × List Step)). opt
     go [] = refl
     go (u ∷ ss) = refl
 
-none_standing : (n : ℕ) (path : List Step) (c : Cut) (x : List Step × Step) → last_step path ≡ Some x → ((d : PlacedPart) → placed_document n c ≡ Some d → row_line_of path d.part.rows ≡ None) → standing_at n path c ≡ None
-none_standing n [] c x last h = absurd (none-some _ last)
-none_standing n (t ∷ ts) c x last h = go (placed_document n c) h
+none_placed : (n : ℕ) (path : List Step) (c : Cut) (x : List Step × Step) → last_step path ≡ Some x → ((d : PlacedPart) → placed_document n c ≡ Some d → row_line_of path d.part.rows ≡ None) → placement_at n path c ≡ None
+none_placed n [] c x last h = absurd (none-some _ last)
+none_placed n (t ∷ ts) c x last h = go (placed_document n c) h
   where
-    go : (o : Option PlacedPart) → ((d : PlacedPart) → o ≡ Some d → row_line_of (t ∷ ts) d.part.rows ≡ None) → option_map entry_standing (o >>= λ d. option_map (entry_rows_at d) (row_line_of (t ∷ ts) d.part.rows)) ≡ None
+    go : (o : Option PlacedPart) → ((d : PlacedPart) → o ≡ Some d → row_line_of (t ∷ ts) d.part.rows ≡ None) → option_map entry_placement (o >>= λ d. option_map (entry_rows_at d) (row_line_of (t ∷ ts) d.part.rows)) ≡ None
     go o h = search rules
 
 -- ---- at a path
@@ -129,8 +129,8 @@ module _ (c : Cut) (n : ℕ) (path : List Step) (a : EntryAt c n path) where
       ∙ (ap (λ (ss : List Step). node_at ss (value (part_outline line.part))) path_is ∙ (line_node c n a.init a.step a.coll line read ∙ ap (option_map entry_tree) a.at))
 
   -- nothing is there outside flow collections
-  pub none_there : standing_at n path c ≡ None
-  none_there = none_standing n path c (a.init, a.step) a.last (λ d is.
+  pub none_there : placement_at n path c ≡ None
+  none_there = none_placed n path c (a.init, a.step) a.last (λ d is.
       let same : d.part ≡ line.part = same_Some _ _ (ap part_of (sym is) ∙ (sym (document_placed n c) ∙ line.there)) in
       none_seat path a.step d.part line.line
       (ap (λ (ss : List Step). found_at ss (part_outline d.part)) path_is

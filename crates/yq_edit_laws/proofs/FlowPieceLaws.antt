@@ -35,19 +35,19 @@ front_utf8 t a b n e u at size =
 pub piece_front : (a b : List ℕ) → IsPiece (a ++ b) → IsUtf8 a → Whole a b → IsPiece a
 piece_front a b h u w = search (rules, and_parts, all_text, all_join, and_from, pairs_whole)
 
-pub piece_behind : (a b : List ℕ) → IsPiece (a ++ b) → IsUtf8 a → IsCharBoundary (a ++ b) (length a) → IsPiece b
-piece_behind a b h u at = search (rules, and_parts, all_text, all_join, drop-append_seam, IsUtf8-drop, and_from, pairs_back)
+pub piece_after : (a b : List ℕ) → IsPiece (a ++ b) → IsUtf8 a → IsCharBoundary (a ++ b) (length a) → IsPiece b
+piece_after a b h u at = search (rules, and_parts, all_text, all_join, drop-append_seam, IsUtf8-drop, and_from, pairs_back)
 
 -- Of an edit that begins and ends at whole characters, where no CR comes before an LF, the text before and after it are pieces.
-pub edit_pieces : (t before : List ℕ) (e : FlowEdit) → IsPiece t → t ≡ before ++ (e.old ++ e.behind) → IsCharBoundary t (length t - length (e.old ++ e.behind)) → IsCharBoundary t (length t - length e.behind) →
-    Whole before (e.old ++ e.behind) → IsPiece before × IsPiece e.behind
+pub edit_pieces : (t before : List ℕ) (e : FlowEdit) → IsPiece t → t ≡ before ++ (e.old ++ e.after) → IsCharBoundary t (length t - length (e.old ++ e.after)) → IsCharBoundary t (length t - length e.after) →
+    Whole before (e.old ++ e.after) → IsPiece before × IsPiece e.after
 edit_pieces t before e piece is start ends whole =
-    let u = front_utf8 t before (e.old ++ e.behind) (length t - length (e.old ++ e.behind)) is piece.utf8 start refl in
-    let parts : t ≡ (before ++ e.old) ++ e.behind = is ∙ sym (append_assoc before e.old e.behind) in
-    let v = front_utf8 t (before ++ e.old) e.behind (length t - length e.behind) parts piece.utf8 ends refl in
-    let size : length t - length e.behind ≡ length (before ++ e.old) = omega (arith, ap length parts, length-append (before ++ e.old) e.behind) in (
-      piece_front before (e.old ++ e.behind) (subst IsPiece is piece) u whole,
-      piece_behind (before ++ e.old) e.behind (subst IsPiece parts piece) v (subst (λ (n : ℕ). IsCharBoundary ((before ++ e.old) ++ e.behind) n) size (subst (λ (l : List ℕ). IsCharBoundary l (length t - length e.behind)) parts ends)),
+    let u = front_utf8 t before (e.old ++ e.after) (length t - length (e.old ++ e.after)) is piece.utf8 start refl in
+    let parts : t ≡ (before ++ e.old) ++ e.after = is ∙ sym (append_assoc before e.old e.after) in
+    let v = front_utf8 t (before ++ e.old) e.after (length t - length e.after) parts piece.utf8 ends refl in
+    let size : length t - length e.after ≡ length (before ++ e.old) = omega (arith, ap length parts, length-append (before ++ e.old) e.after) in (
+      piece_front before (e.old ++ e.after) (subst IsPiece is piece) u whole,
+      piece_after (before ++ e.old) e.after (subst IsPiece parts piece) v (subst (λ (n : ℕ). IsCharBoundary ((before ++ e.old) ++ e.after) n) size (subst (λ (l : List ℕ). IsCharBoundary l (length t - length e.after)) parts ends)),
     )
 
 -- ---- what takes the place of an item or entry

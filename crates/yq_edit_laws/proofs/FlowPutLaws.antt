@@ -7,7 +7,7 @@ use Rattle.yq_core.{specs.declared.style.Place.TheVariants.Flow, specs.Collectio
 use Rattle.yq_core.{specs.Entries.EntryPieces, specs.Nodes.{Key, Items, none, item, is_empty_node, node_text, without_anchor}}
 use Rattle.yq_core.{specs.Places.locate, specs.Scalars.scalar_style, specs.Trees.scalar_node, proofs.PathLaws.items_hold}
 use Rattle.yq_text.{specs.Limit.text_limit, specs.Script.new_text}
-use Rattle.yq_flow_edits.specs.FlowEdits.{FlowEdit, IsFlowEdited, behind_appended, put_item, put_value, replacing, space_for, spaced_key}
+use Rattle.yq_flow_edits.specs.FlowEdits.{FlowEdit, IsFlowEdited, after_appended, put_item, put_value, replacing, space_for, spaced_key}
 use Rattle.yq_flow_edits.{specs.Valued.IsValueTree, proofs.EditLaws.around_is, proofs.EditSpans.{EditIsSpan, replace_spans}}
 use Rattle.yq_flow_edits.{proofs.PlacedEdits.replace_placed, proofs.ValueEdits.{change_last, scalar_replaced, value_replaced}}
 use Rattle.yq_flow_edits.{proofs.ValueFits.scalar_block, proofs.ItemPlaces.item_rest}
@@ -15,7 +15,7 @@ use Rattle.yq_row_table.specs.Rows.{Cut, cut_text}
 use Rattle.yq_documents.{specs.Documents.{EachHasFitKeys, HasFitKey, HasFitKeys, lead_of}, specs.TreeEdits.replaced_node}
 use Rattle.yq_documents.specs.Reading.{documents, read_at, root_of}
 use Rattle.yq_places.{specs.FlowNodes.flow_collection, specs.FlowViews.LeadsToHead, proofs.FlowPieces.{named_is, none_anchored}}
-use Rattle.yq_places.specs.Standings.{FlowPart, last_step}
+use Rattle.yq_places.specs.Placements.{FlowPart, last_step}
 use Rattle.yq_edit_rules.{proofs.CommentPieceLaws.nothing, specs.FlowRows.FlowAt, specs.Rooms.is_block_root, specs.SoundRoots.IsSoundRoot}
 use Rattle.yq_edit_rules.{specs.TextPieces.IsPiece, proofs.FlowKeptLaws.flow_keys, proofs.PartLaws.document_known}
 use Rattle.yq_edit_rules.{proofs.SoundRootLaws.replace_keeps, specs.EditLaws.{CarriedOut, FlowValuesArePut, IsEdit}}
@@ -25,14 +25,14 @@ use Rattle.yq_edit_rules.{proofs.ValueTexts.style_line, proofs.StyleLaws.{style_
 use Rattle.yq_edit_rules.proofs.ValueNodes.{flow_piece, scalar_is}
 use Rattle.yq_semantics.{specs.Changes.has_long_key, specs.Fits.Fits, specs.Operations.replace, specs.Rooms.room_of}
 use Rattle.yq_edit_laws.{specs.PartPuts.{EndsAsIn, IsPartOf}, proofs.FlowPieceLaws.{edit_pieces, one_space}, proofs.FlowSoundLaws.last_is}
-use Rattle.yq_edit_laws.proofs.FlowStandings.{EntryAt, entry_found, entry_placed}
+use Rattle.yq_edit_laws.proofs.FlowPlacements.{EntryAt, entry_found, entry_placed}
 use Rattle.yq_edit_laws.proofs.FlowEditLaws.{FlowCarried, before_is, flow_carried, made_cut, made_reads, segments_old}
-use Rattle.yq_edit_laws.{proofs.FlowWholeLaws.{StandsBefore, replaced_stands}, proofs.LaterParts.later_part}
+use Rattle.yq_edit_laws.{proofs.FlowWholeLaws.{IsPlacedBefore, replaced_is_there}, proofs.LaterParts.later_part}
 use Rattle.yq_edit_laws.{proofs.LaterCuts.{end_after, part_after, slot}, proofs.LaterEnds.later_end}
 use Rattle.yq_core.specs.Tree as tree
 use Rattle.yq_core.specs.Nodes as inline
 use Rattle.yq_edit_rules.proofs.FlowStayLaws as stay
-use Rattle.yq_edit_laws.proofs.FlowStandings as standing
+use Rattle.yq_edit_laws.proofs.FlowPlacements as placement
 
 -- ---- what is written of a value
 
@@ -92,10 +92,10 @@ space_there n = cond_both (is_empty_node n) (32 ∷ []) [] IsPiece (λ _. one_sp
 
 module _ (c : Cut) (doc : ℕ) (path : List Step) (v : tree.Node) (read : read_at (cut_text c) ≡ Some c) (a : EntryAt c doc path) where
   abbrev pub at : FlowAt c doc a.init a.coll
-  at = standing.at c doc a.init a.coll read a.found
+  at = placement.at c doc a.init a.coll read a.found
 
   abbrev pub x : CollAt
-  x = standing.x c doc a.init a.coll read a.found
+  x = placement.x c doc a.init a.coll read a.found
 
   abbrev pub m : inline.FlowNode
   m = flow_value (content_written a.item.node) v
@@ -103,17 +103,18 @@ module _ (c : Cut) (doc : ℕ) (path : List Step) (v : tree.Node) (read : read_a
   abbrev pub e : FlowEdit
   e = replacing a.step a.item m a.coll
 
-  pub stands : IsCollAt x
-  stands = standing.stands c doc a.init a.coll read a.found
+  pub is_located : IsCollAt x
+  is_located = placement.is_located c doc a.init a.coll read a.found
 
-  pub there : StandsBefore (cut_text c) (e.old ++ e.behind)
-  there = subst (λ (t : List ℕ). StandsBefore t (e.old ++ e.behind)) (sym (standing.row_text c doc a.init a.coll read a.found).old) (replaced_stands x (standing.row_text c doc a.init a.coll read a.found).before stands a.step a.item a.at)
+  pub there : IsPlacedBefore (cut_text c) (e.old ++ e.after)
+  there = subst (λ (t : List ℕ). IsPlacedBefore t (e.old ++ e.after)) (sym (placement.row_text c doc a.init a.coll read a.found).old)
+      (replaced_is_there x (placement.row_text c doc a.init a.coll read a.found).before is_located a.step a.item a.at)
 
-  pub bounds : IsCharBoundary (cut_text c) (length (cut_text c) - length (e.old ++ e.behind)) × IsCharBoundary (cut_text c) (length (cut_text c) - length e.behind)
+  pub bounds : IsCharBoundary (cut_text c) (length (cut_text c) - length (e.old ++ e.after)) × IsCharBoundary (cut_text c) (length (cut_text c) - length e.after)
   bounds =
-      let p = standing.placed c doc a.init a.coll read a.found in
+      let p = placement.placed c doc a.init a.coll read a.found in
       let spans = entry_placed (cut_text c) a.step p.node p.rest a.coll a.item p.is a.at p.spans in
-      let i = around_is x stands in
+      let i = around_is x is_located in
       let is = items_hold i.inner_depth a.coll.close a.step a.coll.items a.coll.rest a.item i.items a.at in
       subst (EditIsSpan (cut_text c)) (replace_placed true (Some 0) i.inner_depth (length (cut_text c)) a.step a.item m a.coll is) (replace_spans (cut_text c) (locate (length (cut_text c)) a.item.node a.item.rest) spans)
 
@@ -125,36 +126,36 @@ module _ (c : Cut) (doc : ℕ) (path : List Step) (v : tree.Node) (read : read_a
     room : depth v ≤ room_in x
     room =
         let size : length path ≡ length a.init + 1 = ap length (last_is path a.init a.step a.last) ∙ length-append a.init (a.step ∷ []) in
-        omega (arith, standing.fewer c doc a.init a.coll read a.found, fitting.may.value_is.nested, size)
+        omega (arith, placement.fewer c doc a.init a.coll read a.found, fitting.may.value_is.nested, size)
 
     pub edited : IsFlowEdited x e (changed_at at.rest (within (change_child a.step (replaced_node v))))
     edited =
         let same : changed_at (at.rest ++ (a.step ∷ [])) (put_value v) ≡ changed_at at.rest (within (change_child a.step (replaced_node v))) =
         ap (changed_at (at.rest ++ (a.step ∷ []))) (λ i n. put_is v n i) ∙ sym (change_last at.rest a.step (replaced_node v)) in
-        subst (IsFlowEdited x e) same (value_edited x a.step a.item (content_written a.item.node) v stands a.at h room)
+        subst (IsFlowEdited x e) same (value_edited x a.step a.item (content_written a.item.node) v is_located a.at h room)
 
     sound : IsSoundRoot (changed_at a.init (within (change_child a.step (replaced_node v))) (root_of at.part))
     sound =
-        let known = document_known (cut_text c) c doc at.part (standing.old c doc a.init a.coll read a.found) in
+        let known = document_known (cut_text c) c doc at.part (placement.old c doc a.init a.coll read a.found) in
         let old : IsSoundRoot (root_of at.part) = record { unique = known.document.unique; nested = known.document.nested; bound = known.document.bound } in
         subst (λ (f : tree.Node → tree.Node). IsSoundRoot (f (root_of at.part))) (sym (step_change path a.init a.step (replaced_node v) a.last))
         (replace_keeps path (root_of at.part) fitting.node v old fitting.there fitting.may)
 
     done : FlowCarried (replace doc path v) c a.init a.coll at e (change_child a.step (replaced_node v))
     done =
-        let p = standing.piece c doc a.init a.coll read a.found in
+        let p = placement.piece c doc a.init a.coll read a.found in
         let parts = edit_pieces (cut_text c) there.before e p there.text bounds.0 bounds.1 there.whole in
         record {
           edited = edited;
           keys = flow_keys (cut_text c) c doc at.part a.init at.line at.rest at.row a.coll e.gap e.items
-              (standing.old c doc a.init a.coll read a.found) at.at
+              (placement.old c doc a.init a.coll read a.found) at.at
               (put_fit a.step m a.coll.items (value_keys (content_written a.item.node) v fitting.long));
           sound = sound;
           root =
               ap (λ (f : tree.Node → tree.Node). f (root_of at.part)) (step_change path a.init a.step (replaced_node v) a.last)
               ∙ ap (λ n. changed_at path (replaced_node n) (root_of at.part)) (sym (led_same (is_block_root at.part) (lead_of at.part) path v (below_root (is_block_root at.part) path a.init a.step a.last)));
-          pieces = (subst IsPiece (sym (before_is (cut_text c) there.before (e.old ++ e.behind) there.text)) parts.0, (space_there (without_anchor a.item.node), (written_piece (content_written a.item.node) v h, (parts.1, tt))));
-          stays = omega (arith, (around_is x stands).longer, item_rest a.coll.close a.step a.coll.items a.coll.rest a.item a.at);
+          pieces = (subst IsPiece (sym (before_is (cut_text c) there.before (e.old ++ e.after) there.text)) parts.0, (space_there (without_anchor a.item.node), (written_piece (content_written a.item.node) v h, (parts.1, tt))));
+          stays = omega (arith, (around_is x is_located).longer, item_rest a.coll.close a.step a.coll.items a.coll.rest a.item a.at);
         }
 
     pub replaced_carried : length (new_text (flow_segments (cut_text c) e)) ≤ text_limit → CarriedOut (replace doc path v) c (flow_segments (cut_text c) e)
@@ -172,21 +173,21 @@ module _ (c : Cut) (doc : ℕ) (path : List Step) (v : tree.Node) (read : read_a
     abbrev pub next : Cut
     next = made_cut (replace doc path v) c a.init a.coll at e
 
-    pub head_behind : LeadsToHead next doc stem
-    head_behind = stay.head_behind c doc a.init a.coll at a.coll.gap items stem left init h
+    pub head_after : LeadsToHead next doc stem
+    head_after = stay.head_after c doc a.init a.coll at a.coll.gap items stem left init h
 
     abbrev own : EntryPieces
     own = slot c doc a.init a.coll at a.coll.gap items stem left init h
 
-    pub part_behind : (ss : List Step) (r : Step) (z : EntryPieces) → IsPartOf c doc (stem ++ ss) r z → length z.rest < length a.item.rest →
+    pub following_part : (ss : List Step) (r : Step) (z : EntryPieces) → IsPartOf c doc (stem ++ ss) r z → length z.rest < length a.item.rest →
         length (node_text (without_anchor z.node) z.rest) ≤ length a.item.rest → IsPartOf next doc (stem ++ ss) r z
-    part_behind ss r z part less begins =
+    following_part ss r z part less begins =
         part_after c doc a.init a.coll at a.coll.gap items stem left init h ss r z part (λ before. later_part at.rest (ss ++ (r ∷ [])) a.step m own a.coll a.item z at.at.along a.at before less begins)
 
     -- and so are the ends of later collections
-    pub end_behind : (ss : List Step) (z : CollPieces) → flow_collection doc (stem ++ ss) c ≡ Some z → length (behind_appended z) ≤ length a.item.rest → EndsAsIn z next doc (stem ++ ss)
-    end_behind ss z found behind =
-        end_after c doc a.init a.coll at a.coll.gap items stem left init h ss z found (λ before. later_end a.step m a.coll a.item a.at at.rest ss own z at.at.along before behind)
+    pub following_end : (ss : List Step) (z : CollPieces) → flow_collection doc (stem ++ ss) c ≡ Some z → length (after_appended z) ≤ length a.item.rest → EndsAsIn z next doc (stem ++ ss)
+    following_end ss z found after =
+        end_after c doc a.init a.coll at a.coll.gap items stem left init h ss z found (λ before. later_end a.step m a.coll a.item a.at at.rest ss own z at.at.along before after)
 
 -- Replace: a value put in the place of a content of a flow collection.
 pub flow_values_put : FlowValuesArePut

@@ -7,48 +7,48 @@ use Rattle.yq_text.{specs.Limit.text_limit, specs.Script.new_text}
 use Rattle.yq_flow_edits.{specs.FlowEdits.{FlowEdit, IsFlowEdited}, specs.FlowPlaces.place_edit, specs.Removals.removing}
 use Rattle.yq_flow_edits.{proofs.EditLaws.around_is, proofs.EditSpans.remove_spans, proofs.RemoveLaws.{removed, removed_whole}}
 use Rattle.yq_flow_edits.{proofs.RemovePlaces.remove_placed, proofs.RemoveTexts.{RemovedText, option_some, removed_text}}
-use Rattle.yq_flow_edits.proofs.ReturnLaws.{pairs_behind}
+use Rattle.yq_flow_edits.proofs.ReturnLaws.{pairs_after}
 use Rattle.yq_row_table.specs.Rows.{Cut, cut_text}
 use Rattle.yq_documents.{specs.Documents.{Document, document_parts}, specs.Reading.{documents, read_at, root_of}}
 use Rattle.yq_edit_rules.{proofs.CommentPieceLaws.nothing, specs.Changed.put_document}
-use Rattle.yq_edit_rules.{specs.FlowRows.{behind_node, with_node, FlowAt, NodeStands}, specs.SoundRoots.IsSoundRoot}
+use Rattle.yq_edit_rules.{specs.FlowRows.{text_after_node, with_node, FlowAt, NodeIsThere}, specs.SoundRoots.IsSoundRoot}
 use Rattle.yq_edit_rules.{specs.TextPieces.IsPiece, proofs.FlowKeptLaws.{flow_keys, left_keys}, proofs.PartLaws.document_known}
 use Rattle.yq_edit_rules.{specs.EditLaws.{CarriedOut, FlowPartIsRemoved, IsEdit}, specs.FlowParts.flow_segments, proofs.DoneLaws.nth_map}
 use Rattle.yq_semantics.{specs.Fits.Fits, specs.Operations.remove, specs.Rooms.room_of}
-use Rattle.yq_places.{specs.FlowNodes.flow_collection, specs.FlowViews.LeadsToHead, specs.Standings.last_step}
+use Rattle.yq_places.{specs.FlowNodes.flow_collection, specs.FlowViews.LeadsToHead, specs.Placements.last_step}
 use Rattle.yq_edit_laws.{proofs.FlowPieceLaws.{edit_pieces, lead_piece}, proofs.FlowSoundLaws.{remove_root, remove_sound}}
 use Rattle.yq_edit_laws.proofs.FlowEditLaws.{FlowCarried, FlowTexts, before_is, edited_at, flow_carried, flow_texts, made_cut, made_reads}
 use Rattle.yq_edit_laws.{proofs.FlowEditLaws.segments_old, proofs.EarlierCollections.earlier, proofs.LaterCuts.slot}
 use Rattle.yq_edit_rules.proofs.FlowStayLaws as stay
 use Rattle.yq_documents.specs.Reading as reading
-use Rattle.yq_edit_laws.proofs.FlowStandings as standing
+use Rattle.yq_edit_laws.proofs.FlowPlacements as placement
 
 module _ (c : Cut) (doc : ℕ) (path init : List Step) (s : Step) (w : CollPieces) (e : FlowEdit) (read : read_at (cut_text c) ≡ Some c)
     (last : last_step path ≡ Some (init, s)) (found : flow_collection doc init c ≡ Some w) (gone : removing s w ≡ Some e) where
   abbrev at : FlowAt c doc init w
-  at = standing.at c doc init w read found
+  at = placement.at c doc init w read found
 
   abbrev x : CollAt
-  x = standing.x c doc init w read found
+  x = placement.x c doc init w read found
 
-  abbrev row_text : NodeStands c doc at.part at.row
-  row_text = standing.row_text c doc init w read found
+  abbrev row_text : NodeIsThere c doc at.part at.row
+  row_text = placement.row_text c doc init w read found
 
-  stands : IsCollAt x
-  stands = standing.stands c doc init w read found
+  is_located : IsCollAt x
+  is_located = placement.is_located c doc init w read found
 
   pairs : pairs_returns (row_text.before ++ node_text x.node x.rest) ≡ true
-  pairs = standing.pairs c doc init w read found
+  pairs = placement.pairs c doc init w read found
 
   edited : IsFlowEdited x e (changed_at at.rest (within (remove_child s)))
-  edited = removed x s e stands gone (pairs_behind row_text.before (node_text x.node x.rest) pairs)
+  edited = removed x s e is_located gone (pairs_after row_text.before (node_text x.node x.rest) pairs)
 
-  pub texts : FlowTexts c (put_document doc (with_node at.part at.row (edited_at c doc init w at e)) c) e (node_text at.row.node (behind_node c doc at.part at.row))
+  pub texts : FlowTexts c (put_document doc (with_node at.part at.row (edited_at c doc init w at e)) c) e (node_text at.row.node (text_after_node c doc at.part at.row))
   texts = flow_texts c doc init w at e (remove_child s) edited
 
-  pub bounds : IsCharBoundary (cut_text c) (length (cut_text c) - length (e.old ++ e.behind)) × IsCharBoundary (cut_text c) (length (cut_text c) - length e.behind)
+  pub bounds : IsCharBoundary (cut_text c) (length (cut_text c) - length (e.old ++ e.after)) × IsCharBoundary (cut_text c) (length (cut_text c) - length e.after)
   bounds =
-      let cs = standing.placed c doc init w read found in
+      let cs = placement.placed c doc init w read found in
       remove_spans (cut_text c) s (locate (length (cut_text c)) cs.node cs.rest) (place_edit (length (cut_text c)) e) cs.spans
       (remove_placed cs.valid.flow cs.valid.spaces cs.valid.depth (cut_text c) cs.before cs.node cs.rest w s cs.valid.is cs.is cs.text ∙ ap (option_map (place_edit (length (cut_text c)))) gone)
 
@@ -58,25 +58,25 @@ module _ (c : Cut) (doc : ℕ) (path init : List Step) (s : Step) (w : CollPiece
   module _ (fits : Fits (room_of (cut_text c)) (remove doc path) (documents c)) where
     removed_done : FlowCarried (remove doc path) c init w at e (remove_child s)
     removed_done =
-        let old = standing.old c doc init w read found in
+        let old = placement.old c doc init w read found in
         let known = document_known (cut_text c) c doc at.part old in
         let root : fits.0.root ≡ root_of at.part = ap (λ (d : Document). d.root) (same_Some _ _ (sym fits.1 ∙ nth_map doc at.part reading.part_document (document_parts c) at.there)) in
         let n = subst (λ r. (n : Rattle.yq_core.specs.Tree.Node) × (Rattle.yq_core.specs.Paths.node_at path r ≡ Some n)
         × (Rattle.yq_semantics.specs.Changes.is_used_in (Rattle.yq_core.specs.Anchors.names_of r) (Some n) ≡ Rattle.std.proofs.Common.false))
         root fits.2.1 in
         let sound : IsSoundRoot (root_of at.part) = record { unique = known.document.unique; nested = known.document.nested; bound = known.document.bound } in
-        let whole = removed_whole x s e stands gone row_text.before texts.before pairs (sym row_text.old ∙ texts.old) in
-        let parts = edit_pieces (cut_text c) texts.before e (standing.piece c doc init w read found) texts.old bounds.0 bounds.1 whole in
+        let whole = removed_whole x s e is_located gone row_text.before texts.before pairs (sym row_text.old ∙ texts.old) in
+        let parts = edit_pieces (cut_text c) texts.before e (placement.piece c doc init w read found) texts.old bounds.0 bounds.1 whole in
         record {
           edited = edited;
           keys = flow_keys (cut_text c) c doc at.part init at.line at.rest at.row w e.gap e.items old at.at (left_keys s w e gone);
           sound = remove_sound path init s (root_of at.part) n.0 sound last n.1 n.2;
           root = remove_root path init s (root_of at.part) last;
           pieces = (
-            subst IsPiece (sym (before_is (cut_text c) texts.before (e.old ++ e.behind) texts.old)) parts.0,
+            subst IsPiece (sym (before_is (cut_text c) texts.before (e.old ++ e.after) texts.old)) parts.0,
             (lead_piece e.lead bytes.lead, (subst IsPiece (sym bytes.none_written) nothing, (parts.1, tt))),
           );
-          stays = omega (arith, (around_is x stands).longer, bytes.longer);
+          stays = omega (arith, (around_is x is_located).longer, bytes.longer);
         }
 
     removed_carried : length (new_text (flow_segments (cut_text c) e)) ≤ text_limit → CarriedOut (remove doc path) c (flow_segments (cut_text c) e)
@@ -91,13 +91,13 @@ module _ (c : Cut) (doc : ℕ) (path init : List Step) (s : Step) (w : CollPiece
     abbrev pub next : Cut
     next = made_cut (remove doc path) c init w at e
 
-    pub head_behind : LeadsToHead next doc stem
-    head_behind = stay.head_behind c doc init w at e.gap e.items stem left there h
+    pub head_after : LeadsToHead next doc stem
+    head_after = stay.head_after c doc init w at e.gap e.items stem left there h
 
     pub collection_before : (ss : List Step) (z : CollPieces) (mid : List ℕ) → flow_collection doc (stem ++ ss) c ≡ Some z → z.rest ≡ mid
-        ++ (e.old ++ e.behind) → flow_collection doc (stem ++ ss) next ≡ Some (record z { rest = mid ++ ((e.lead ++ e.written) ++ e.behind) })
+        ++ (e.old ++ e.after) → flow_collection doc (stem ++ ss) next ≡ Some (record z { rest = mid ++ ((e.lead ++ e.written) ++ e.after) })
     collection_before ss z mid found is =
-        stay.collection_behind c doc init w at e.gap e.items stem left there h ss
+        stay.collection_after c doc init w at e.gap e.items stem left there h ss
         ∙ earlier s w e gone at.rest ss (slot c doc init w at e.gap e.items stem left there h) z mid at.at.along (sym (stay.collection_before c doc init w at e.gap e.items stem left there h ss) ∙ found) is
 
 -- Remove: an item or entry with the comma and the white space that go with it.

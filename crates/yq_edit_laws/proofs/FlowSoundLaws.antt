@@ -4,7 +4,7 @@ use Rattle.std.{proofs.Common.subst, proofs.lemmas.Bool.or_parts, proofs.lemmas.
 use Rattle.yq_core.{specs.Paths.{Step, changed_at, child_at, node_at, remove_child, within}, specs.Tree.{Node, children_of}}
 use Rattle.yq_core.specs.Anchors.{Name, Anchors, Refers, IsAmong, names_of}
 use Rattle.yq_documents.specs.TreeEdits.{at_end}
-use Rattle.yq_places.specs.Standings.{last_step}
+use Rattle.yq_places.specs.Placements.{last_step}
 use Rattle.yq_edit_rules.{specs.Conditions.{AreSpared, anchors_in, aliases_in}, specs.SoundRoots.IsSoundRoot}
 use Rattle.yq_edit_rules.{proofs.AfterLaws.end_is_change, proofs.SoundRootLess.remove_keeps, proofs.EditsFitLaws.none_refers}
 use Rattle.yq_semantics.specs.Changes.{refers_to, is_used, is_used_in}

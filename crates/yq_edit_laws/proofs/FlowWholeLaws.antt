@@ -6,19 +6,19 @@ use Rattle.yq_core.specs.Entries.{EntryPieces, pieces_text}
 use Rattle.yq_core.specs.Nodes.{bare, FlowNode, anchored, Items, none, item, key_text, node_text, flow_items_text, AreFlowItems, is_close}
 use Rattle.yq_core.specs.Nodes.{is_empty_node, IsFlowNode, opening_bracket, without_anchor}
 use Rattle.yq_core.proofs.NodesWrittenLaws.{key_append, node_then}
-use Rattle.yq_flow_edits.{specs.FlowEdits.{behind_appended, behind_last}, specs.Removals.ends_return, proofs.EditLaws.{Around, around_is}}
-use Rattle.yq_flow_edits.{proofs.ItemLaws.{item_begins, item_some}, proofs.ItemPlaces.{Behind, further_behind, item_behind, last_behind}}
+use Rattle.yq_flow_edits.{specs.FlowEdits.{after_appended, after_last}, specs.Removals.ends_return, proofs.EditLaws.{Around, around_is}}
+use Rattle.yq_flow_edits.{proofs.ItemLaws.{item_begins, item_some}, proofs.ItemPlaces.{IsItemIn, further_after, item_after, following_last}}
 use Rattle.yq_flow_edits.{proofs.LocalLaws.node_no_feed, proofs.ReturnLaws.{Whole, item_return, return_some, whole_by, whole_front}}
 
 -- After a text is another one, and no CR before an LF.
-pub record StandsBefore (t behind : List ℕ) : Type 0 where
+pub record IsPlacedBefore (t after : List ℕ) : Type 0 where
   pub before : List ℕ
-  pub text : t ≡ before ++ behind
-  pub whole : Whole before behind
+  pub text : t ≡ before ++ after
+  pub whole : Whole before after
 
 -- what comes after an item or entry
-rest_stands : (d k : ℕ) (t : List ℕ) (y : EntryPieces) → is_close k ≡ true → Behind d k t y → StandsBefore t y.rest
-rest_stands d k t y c h =
+rest_is_there : (d k : ℕ) (t : List ℕ) (y : EntryPieces) → is_close k ≡ true → IsItemIn d k t y → IsPlacedBefore t y.rest
+rest_is_there d k t y c h =
     let own : List ℕ = key_text y.key (node_text y.node []) in
     let cut : pieces_text y ≡ own ++ y.rest = ap (key_text y.key) (node_then y.node y.rest) ∙ key_append y.key (node_text y.node []) y.rest in
     let ends : ends_return (h.before ++ own) ≡ ends_return own = return_some h.before own (item_some d k y.key y.node y.rest h.fits.key_is h.fits.some h.fits.is) in
@@ -53,28 +53,28 @@ open_return : (k : ℕ) → ends_return (opening_bracket k ∷ []) ≡ false
 open_return k = elim (eqb k 125) as (λ c. ends_return (cond c 123 91 ∷ []) ≡ false) [ true ↦ refl | false ↦ refl ]
 
 -- what comes after the last item or entry, or after the opening bracket
-last_stands : (d k : ℕ) (a gap : List ℕ) (is : Items) (rest : List ℕ) → is_close k ≡ true → AreFlowItems d k is rest → StandsBefore (a ++ (opening_bracket k ∷ (gap ++ flow_items_text k is rest))) (behind_last k gap is rest)
+last_is_there : (d k : ℕ) (a gap : List ℕ) (is : Items) (rest : List ℕ) → is_close k ≡ true → AreFlowItems d k is rest → IsPlacedBefore (a ++ (opening_bracket k ∷ (gap ++ flow_items_text k is rest))) (after_last k gap is rest)
 unfolding flow_items_text
-last_stands d k a gap none rest c h = record {
+last_is_there d k a gap none rest c h = record {
   before = a ++ (opening_bracket k ∷ []);
   text = sym (append_assoc a (opening_bracket k ∷ []) (gap ++ (k ∷ rest)));
   whole = whole_by (a ++ (opening_bracket k ∷ [])) (gap ++ (k ∷ rest)) (return_some a (opening_bracket k ∷ []) (opening_bracket k, ([], refl)) ∙ open_return k);
 }
-last_stands d k a gap (item key n sep is) rest c h =
+last_is_there d k a gap (item key n sep is) rest c h =
     let items : List ℕ = flow_items_text k (item key n sep is) rest in
     let t : List ℕ = a ++ (opening_bracket k ∷ (gap ++ items)) in
-    let y = last_behind d k gap (item key n sep is) rest refl h in
-    subst (StandsBefore t) y.1 (rest_stands d k t y.0 c (further_behind d k t items (a ++ (opening_bracket k ∷ gap)) y.0 (sym (append_assoc a (opening_bracket k ∷ gap) items)) y.2))
+    let y = following_last d k gap (item key n sep is) rest refl h in
+    subst (IsPlacedBefore t) y.1 (rest_is_there d k t y.0 c (further_after d k t items (a ++ (opening_bracket k ∷ gap)) y.0 (sym (append_assoc a (opening_bracket k ∷ gap) items)) y.2))
 
 -- what is from its content on
-content_stands : (d k : ℕ) (t : List ℕ) (y : EntryPieces) → is_close k ≡ true → Behind d k t y → StandsBefore t (node_text (without_anchor y.node) [] ++ y.rest)
-content_stands d k t y c h = go (is_empty_node (without_anchor y.node)) refl
+content_is_there : (d k : ℕ) (t : List ℕ) (y : EntryPieces) → is_close k ≡ true → IsItemIn d k t y → IsPlacedBefore t (node_text (without_anchor y.node) [] ++ y.rest)
+content_is_there d k t y c h = go (is_empty_node (without_anchor y.node)) refl
   where
     content : List ℕ
     content = node_text (without_anchor y.node) [] ++ y.rest
 
-    go : (b : Bool) → is_empty_node (without_anchor y.node) ≡ b → StandsBefore t content
-    go true e = subst (StandsBefore t) (sym (ap (λ (l : List ℕ). l ++ y.rest) (bare_written (without_anchor y.node) e))) (rest_stands d k t y c h)
+    go : (b : Bool) → is_empty_node (without_anchor y.node) ≡ b → IsPlacedBefore t content
+    go true e = subst (IsPlacedBefore t) (sym (ap (λ (l : List ℕ). l ++ y.rest) (bare_written (without_anchor y.node) e))) (rest_is_there d k t y c h)
     go false e =
         let x = content_split y.node y.rest in
         let pieces : pieces_text y ≡ key_text y.key x.0 ++ content = search (rules, node_then, key_append) in
@@ -97,17 +97,17 @@ module _ (x : CollAt) (text : List ℕ) (h : IsCollAt x) where
   split : t ≡ opened ++ flow_items_text x.coll.close x.coll.items x.coll.rest
   split = search (rules, append_assoc)
 
-  in_text : (y : EntryPieces) → Behind around.inner_depth x.coll.close (flow_items_text x.coll.close x.coll.items x.coll.rest) y → Behind around.inner_depth x.coll.close t y
-  in_text y b = further_behind around.inner_depth x.coll.close t (flow_items_text x.coll.close x.coll.items x.coll.rest) opened y split b
+  in_text : (y : EntryPieces) → IsItemIn around.inner_depth x.coll.close (flow_items_text x.coll.close x.coll.items x.coll.rest) y → IsItemIn around.inner_depth x.coll.close t y
+  in_text y b = further_after around.inner_depth x.coll.close t (flow_items_text x.coll.close x.coll.items x.coll.rest) opened y split b
 
   -- the content of an item or entry
-  pub replaced_stands : (s : Step) (y : EntryPieces) → item_in s x ≡ Some y → StandsBefore t (node_text (without_anchor y.node) [] ++ y.rest)
-  replaced_stands s y found = content_stands around.inner_depth x.coll.close t y around.closes (in_text y (item_behind around.inner_depth x.coll.close s x.coll.items x.coll.rest y around.items found))
+  pub replaced_is_there : (s : Step) (y : EntryPieces) → item_in s x ≡ Some y → IsPlacedBefore t (node_text (without_anchor y.node) [] ++ y.rest)
+  replaced_is_there s y found = content_is_there around.inner_depth x.coll.close t y around.closes (in_text y (item_after around.inner_depth x.coll.close s x.coll.items x.coll.rest y around.items found))
 
   -- what comes after one more item or entry
-  pub appended_stands : StandsBefore t (behind_appended x.coll)
-  appended_stands =
+  pub appended_is_there : IsPlacedBefore t (after_appended x.coll)
+  appended_is_there =
       let c = x.coll in
       let all : t ≡ (text ++ around.before) ++ (opening_bracket c.close ∷ (c.gap ++ flow_items_text c.close c.items c.rest)) =
       ap (λ (l : List ℕ). text ++ l) around.text ∙ sym (append_assoc text around.before (opening_bracket c.close ∷ (c.gap ++ flow_items_text c.close c.items c.rest))) in
-      subst (λ (l : List ℕ). StandsBefore l (behind_appended c)) (sym all) (last_stands around.inner_depth c.close (text ++ around.before) c.gap c.items c.rest around.closes around.items)
+      subst (λ (l : List ℕ). IsPlacedBefore l (after_appended c)) (sym all) (last_is_there around.inner_depth c.close (text ++ around.before) c.gap c.items c.rest around.closes around.items)

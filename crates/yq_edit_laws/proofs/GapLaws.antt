@@ -2,10 +2,11 @@
 use Rattle.std.proofs.Common.{rules, ◌≡◌, ℕ, ◌+◌, ◌≤◌, List, [], ◌∷◌, ◌++◌, length, refl, sym, ap, ◌∙◌, append_assoc, arith}
 use Rattle.std.{proofs.lemmas.List.length-append, specs.List.slice_get}
 use Rattle.yq_row_table.{proofs.ItemLaws.rows_items_text, specs.Items.{Item, end_item, rows_items, items_text}}
-use Rattle.yq_row_table.{specs.ItemSplices.first_item, specs.Rows.{Row, print_row, behind_gap, rows_text, Part, part_text, Cut, cut_text}}
-use Rattle.yq_row_table.{specs.Splices.{with_row_gap, first_gap, with_first_gap, end_gap, behind_first}, specs.Touched.item_text}
+use Rattle.yq_row_table.specs.ItemSplices.{first_item}
+use Rattle.yq_row_table.specs.Rows.{Row, print_row, following_gap, rows_text, Part, part_text, Cut, cut_text}
+use Rattle.yq_row_table.{specs.Splices.{with_row_gap, first_gap, with_first_gap, end_gap, after_first}, specs.Touched.item_text}
 use Rattle.yq_row_table.{proofs.KeptLaws.items_apart, proofs.PlaceLaws.row_then}
-use Rattle.yq_edit_rules.{specs.Changed.put_document, specs.DocumentRows.{behind_document, put_rows}, proofs.DocumentItemLaws.rows_before}
+use Rattle.yq_edit_rules.{specs.Changed.put_document, specs.DocumentRows.{after_document, put_rows}, proofs.DocumentItemLaws.rows_before}
 use Rattle.yq_edit_rules.specs.Local.{IsLocal}
 use Rattle.yq_edit_rules.proofs.ItemsLocal.{rows_last, ItemsGiveWay, come_inside, items_local, one_first, one_last, first_within}
 use Rattle.yq_edit_rules.{proofs.ItemsLocal.last_within, proofs.LocalLaws.{h, front_items, around, front_text}}
@@ -26,17 +27,17 @@ later_same : (gap : List ℕ) (back : List Row) (end marker : List ℕ) (below :
 later_same gap back end marker below = search rules
 
 -- what comes after the gap of that first one
-abbrev behind_first_gap : List Row → (marker : List ℕ) → List ℕ
-behind_first_gap [] marker = marker
-behind_first_gap (b ∷ bs) marker = behind_gap b []
+abbrev after_first_gap : List Row → (marker : List ℕ) → List ℕ
+after_first_gap [] marker = marker
+after_first_gap (b ∷ bs) marker = following_gap b []
 
-gap_apart : (back : List Row) (end marker : List ℕ) → item_text (first_item back end marker) ≡ first_gap back end ++ behind_first_gap back marker
+gap_apart : (back : List Row) (end marker : List ℕ) → item_text (first_item back end marker) ≡ first_gap back end ++ after_first_gap back marker
 gap_apart back end marker = search rules
 
-later_text : (back : List Row) (end marker : List ℕ) (below : List Item) → behind_first back end (marker ++ items_text below []) ≡ behind_first_gap back marker ++ items_text (later_items back end marker below) []
+later_text : (back : List Row) (end marker : List ℕ) (below : List Item) → after_first back end (marker ++ items_text below []) ≡ after_first_gap back marker ++ items_text (later_items back end marker below) []
 later_text [] end marker below = refl
 later_text (b ∷ bs) end marker below =
-    row_then (with_row_gap [] b) [] (rows_text bs (end ++ (marker ++ items_text below []))) ∙ ap (λ t. behind_gap b [] ++ t) (sym (rows_items_text bs (end_item end marker ∷ below) []))
+    row_then (with_row_gap [] b) [] (rows_text bs (end ++ (marker ++ items_text below []))) ∙ ap (λ t. following_gap b [] ++ t) (sym (rows_items_text bs (end_item end marker ∷ below) []))
 
 -- bytes that end a gap, and what comes after that
 ends_gap : (text gap u rest : List ℕ) → text ≡ gap ++ rest → length u ≤ length gap → length (u ++ rest) ≤ length text
@@ -49,7 +50,7 @@ items_apart_at rs x more is e = ap (λ js. rows_items rs [] ++ js) e ∙ (sym (r
 pub record RowsGoOut (ss : List Segment) (c : Cut) (k : ℕ) (p : Part) : Type 0 where
   pub there : slice_get (document_parts c) k ≡ Rattle.std.proofs.Common.Some p
   pub start : List ℕ
-  pub put : (x : Part) → cut_text (put_document k x c) ≡ start ++ part_text x (behind_document k c)
+  pub put : (x : Part) → cut_text (put_document k x c) ≡ start ++ part_text x (after_document k c)
   pub front : List Row
   pub first : Row
   pub others : List Row
@@ -59,7 +60,7 @@ pub record RowsGoOut (ss : List Segment) (c : Cut) (k : ℕ) (p : Part) : Type 0
   pub lead : List ℕ
   pub end' : List ℕ
   pub before_is : kept_front ss ≡ (start ++ rows_text front []) ++ lead
-  pub behind_is : kept_back ss ≡ end' ++ behind_first back p.end (behind_document k c)
+  pub following_is : kept_back ss ≡ end' ++ after_first back p.end (after_document k c)
   pub begins : length lead ≤ length (print_row first [])
   pub ends : length end' ≤ length (first_gap back p.end)
   pub puts : are_kept ss ≡ Rattle.std.proofs.Common.false
@@ -81,7 +82,7 @@ module _ (ss : List Segment) (c : Cut) (k : ℕ) (p : Part) (e : RowsGoOut ss c 
   new_next = first_item (with_first_gap e.gap e.back) (end_gap e.gap e.back p.end) (h c k p e.there e.start e.put).marker
 
   abbrev trail : List ℕ
-  trail = e.end' ++ behind_first_gap e.back (h c k p e.there e.start e.put).marker
+  trail = e.end' ++ after_first_gap e.back (h c k p e.there e.start e.put).marker
 
   abbrev way : ItemsGiveWay ss c (put_document k (put_rows e.front [] e.back e.gap p) c)
   way =
@@ -101,9 +102,9 @@ module _ (ss : List Segment) (c : Cut) (k : ℕ) (p : Part) (e : RowsGoOut ss c 
         lead = e.lead;
         trail = trail;
         before_is = e.before_is ∙ sym (front_text c k p e.there e.start e.put e.front e.lead);
-        behind_is = e.behind_is
-            ∙ (ap (λ t. e.end' ++ behind_first e.back p.end t) (h c k p e.there e.start e.put).behind
-            ∙ (ap (λ t. e.end' ++ t) (later_text e.back p.end marker below) ∙ sym (append_assoc e.end' (behind_first_gap e.back marker) (items_text more []))));
+        following_is = e.following_is
+            ∙ (ap (λ t. e.end' ++ after_first e.back p.end t) (h c k p e.there e.start e.put).after
+            ∙ (ap (λ t. e.end' ++ t) (later_text e.back p.end marker below) ∙ sym (append_assoc e.end' (after_first_gap e.back marker) (items_text more []))));
         puts = e.puts;
         old_is = e.old_is;
         new_is = e.new_is;
@@ -126,5 +127,5 @@ module _ (ss : List Segment) (c : Cut) (k : ℕ) (p : Part) (e : RowsGoOut ss c 
         back = back;
         items_are = way.new_are;
         begins = first_within (kept_front ss) (items_text front []) e.lead (way.before_is ∙ items_apart front e.lead);
-        ends = last_within (kept_back ss) trail (items_text back []) way.behind_is;
+        ends = last_within (kept_back ss) trail (items_text back []) way.following_is;
       }

@@ -8,22 +8,22 @@ use Rattle.yq_core.{specs.Text.{front, is_feed, past_white, joined, text_lines},
 use Rattle.yq_core.proofs.Bools.{guard_then}
 use Rattle.yq_text.{specs.Limit.text_limit, specs.Script.{Segment, old_text, new_text}}
 use Rattle.yq_outline.specs.Comments.{head_comment as comment_in}
-use Rattle.yq_row_table.{specs.Exchange.asked_behind, specs.Grammar.{IsRow, unlimited}}
-use Rattle.yq_row_table.{specs.Rows.{Row, behind_gap, behind_indent, print_row, rows_text, Part, Cut, cut_text}, specs.Splices.with_row_gap}
-use Rattle.yq_row_table.{proofs.Fronts.Starts, proofs.PlaceLaws.row_then, proofs.NodePieces.before_ascii, proofs.RowAgain.row_starts}
-use Rattle.yq_row_table.{proofs.NodeExchange.starts_no_feed, proofs.splices.SpliceTexts.{own_gap, own_end}}
+use Rattle.yq_row_table.{specs.Exchange.asked_after, specs.Grammar.{IsRow, unlimited}}
+use Rattle.yq_row_table.specs.Rows.{Row, following_gap, after_indent, print_row, rows_text, Part, Cut, cut_text}
+use Rattle.yq_row_table.{specs.Splices.with_row_gap, proofs.Fronts.Starts, proofs.PlaceLaws.row_then, proofs.NodePieces.before_ascii}
+use Rattle.yq_row_table.{proofs.RowAgain.row_starts, proofs.NodeExchange.starts_no_feed, proofs.splices.SpliceTexts.{own_gap, own_end}}
 use Rattle.yq_places.{specs.FirstBreak.first_break, specs.RowPaths.IsReadable}
-use Rattle.yq_places.specs.Standings.{RowsOfEntry, before_entry, behind_entry, rows_of_entry}
+use Rattle.yq_places.specs.Placements.{RowsOfEntry, before_entry, after_entry, rows_of_entry}
 use Rattle.yq_places.{proofs.CommentEndLaws.{gap_split, run_ascii}, proofs.HeldRowLaws.no_root_rows}
 use Rattle.yq_places.proofs.SeamLaws.{IsSeam, seam_boundary, seam_then, gap_seam, row_seam}
 use Rattle.yq_documents.{specs.Documents.lead_of, specs.Pieces.{before_run, last_run}, specs.Reading.{read_at, root_of}}
 use Rattle.yq_documents.{specs.LinesInRows.row_line_of, specs.TreeEdits.with_head_comment}
 use Rattle.yq_edit_rules.{specs.Appends.inserted, specs.Changed.{IsChanged, put_document}, specs.Heads.{rerun, with_run}}
-use Rattle.yq_edit_rules.{specs.StandingLaws.StandsThere, specs.TextPieces.IsPiece, specs.EditLaws.{CarriedOut, HeadCommentIsPut, IsEdit}}
+use Rattle.yq_edit_rules.{specs.PlacementLaws.HasItsRows, specs.TextPieces.IsPiece, specs.EditLaws.{CarriedOut, HeadCommentIsPut, IsEdit}}
 use Rattle.yq_edit_rules.{proofs.LineFrontLaws.clean_cut, proofs.PartLaws.document_known, proofs.PathLaws.path_head_commented}
 use Rattle.yq_edit_rules.{proofs.TextPieceLaws.text_is_piece, specs.CommentEdits.{above_rows, head_lines, head_comment_segments}}
-use Rattle.yq_edit_rules.{proofs.CommentPieceLaws.{AreParts, head_parts, lines_piece}, proofs.StandingMarks.{row_there, under_there}}
-use Rattle.yq_edit_rules.{proofs.StandingRows.rows_stand, proofs.CommentReadLaws.{lines_agree, lines_gap, lines_stand}}
+use Rattle.yq_edit_rules.{proofs.CommentPieceLaws.{AreParts, head_parts, lines_piece}, proofs.PlacementMarks.{row_there, under_there}}
+use Rattle.yq_edit_rules.{proofs.PlacementRows.rows_located, proofs.CommentReadLaws.{lines_agree, lines_gap, lines_are_in}}
 use Rattle.yq_edit_rules.proofs.CommentRowLaws.{IsEntryRow, cut_spelled, entry_found, row_line_is_block, some_steps}
 use Rattle.yq_edit_rules.specs.RowChanges.{ChangesRow, HeadCommentsChangeRows}
 use Rattle.yq_semantics.{specs.Changes.can_be_comment, specs.Meaning.head_comment_lines, specs.Operations.{Operation, head_comment}}
@@ -56,7 +56,7 @@ module _ (n : ℕ) (s : Step) (ss : List Step) (text : List ℕ) (br : Break) (c
   r = e.row
 
   abbrev u : List ℕ
-  u = rows_text e.under (behind_entry e)
+  u = rows_text e.under (after_entry e)
 
   abbrev us : List Segment
   us = head_comment_segments (break_text br) text (above_rows e)
@@ -68,15 +68,15 @@ module _ (n : ℕ) (s : Step) (ss : List Step) (text : List ℕ) (br : Break) (c
   old_run = joined (last_run (text_lines e.row.gap))
 
   abbrev z : List ℕ
-  z = behind_gap e.row (rows_text e.under (behind_entry e))
+  z = following_gap e.row (rows_text e.under (after_entry e))
 
-  there : StandsThere n s ss c e
-  there = rows_stand n s ss c e read is
+  there : HasItsRows n s ss c e
+  there = rows_located n s ss c e read is
 
   found : IsEntryRow n (s ∷ ss) c e
   found = entry_found n (s ∷ ss) c e is
 
-  own : IsRow (asked_behind unlimited e.front) e.row (rows_text e.under (behind_entry e))
+  own : IsRow (asked_after unlimited e.front) e.row (rows_text e.under (after_entry e))
   own = row_there n s ss c e there
 
   -- the text of the cut, at the end of the gap, and at its comment
@@ -94,9 +94,9 @@ module _ (n : ℕ) (s : Step) (ss : List Step) (text : List ℕ) (br : Break) (c
   pieces_there =
       let parts = (document_known (cut_text c) c n there.part there.old).cut.parts in
       let seam : IsSeam (before_entry e ++ e.row.gap) z = seam_then (before_entry e) e.row.gap z
-      (subst (λ (q : List ℕ × List ℕ). IsSeam q.0 (print_row e.row q.1)) (λ j. (found.at.before_is j, found.at.behind_is j)) (row_seam c found.index true e.row parts found.at.there)) (gap_seam e.row.gap z own.gap) in
+      (subst (λ (q : List ℕ × List ℕ). IsSeam q.0 (print_row e.row q.1)) (λ j. (found.at.before_is j, found.at.following_is j)) (row_seam c found.index true e.row parts found.at.there)) (gap_seam e.row.gap z own.gap) in
       let all : IsPiece ((before_entry e ++ e.row.gap) ++ z) = subst IsPiece gap_text (text_is_piece c read) in
-      let feed : front is_feed z ≡ false = row_no_feed e.row.column (behind_indent e.row u) (row_starts (asked_behind unlimited e.front) e.row u own) in
+      let feed : front is_feed z ≡ false = row_no_feed e.row.column (after_indent e.row u) (row_starts (asked_after unlimited e.front) e.row u own) in
       let first = clean_cut (before_entry e ++ e.row.gap) z all (front_utf8 (before_entry e ++ e.row.gap) z all.utf8 (seam_boundary (before_entry e ++ e.row.gap) z all.utf8 seam)) (λ f. absurd (false≢true (sym feed ∙ f))) in
       let inner : IsPiece ((before_entry e ++ kept) ++ old_run) = subst IsPiece run_text first.0 in
       let none : front is_feed old_run ≡ false = ap (front is_feed) (sym (append-nil old_run)) ∙ run_no_feed (text_lines e.row.gap) [] refl in
@@ -118,8 +118,8 @@ module _ (n : ℕ) (s : Step) (ss : List Step) (text : List ℕ) (br : Break) (c
     parts : AreParts (head_comment_lines text)
     parts = head_parts text utf8 fit
 
-    behind_gap_is : z ≡ behind_gap e.row [] ++ u
-    behind_gap_is = row_then (with_row_gap [] e.row) [] u
+    following_gap_is : z ≡ following_gap e.row [] ++ u
+    following_gap_is = row_then (with_row_gap [] e.row) [] u
 
     puts : PutsRow op c (first_row n s ss c e there) new us
     puts = record {
@@ -129,7 +129,7 @@ module _ (n : ℕ) (s : Step) (ss : List Step) (text : List ℕ) (br : Break) (c
           ∙ sym (text_now op c (first_row n s ss c e there) new ∙ ap (λ l. before_entry e ++ print_row new l) (under_there n s ss c e there)));
       puts = refl;
       front = omega (arith, length-append (before_entry e ++ kept) [], length-append (before_entry e) kept);
-      behind = omega (arith, ap length (under_there n s ss c e there), length-append z [], ap length behind_gap_is, length-append (behind_gap e.row []) u);
+      after = omega (arith, ap length (under_there n s ss c e there), length-append z [], ap length following_gap_is, length-append (following_gap e.row []) u);
       pieces = (pieces_there.0, (lines_piece e.row.column br (head_comment_lines text) parts, (pieces_there.1, tt)));
     }
 
@@ -152,7 +152,7 @@ module _ (n : ℕ) (s : Step) (ss : List Step) (text : List ℕ) (br : Break) (c
           (path_head_commented (cut_text c) c n there.part steps_are.0 steps_are.1 (record { before = length e.front; row = e.row; line = e.line }) e.front back run there.old
           (ap (λ (l : List Step). row_line_of l there.part.rows) (sym steps_are.2) ∙ found.line_is there.part there.old.there) first (record {
             rows_are = there.rows_are;
-            run_is = record { gap = lines_gap e.row.column br (head_comment_lines text) _ parts; stands = lines_stand e.row.column (break_text br) (head_comment_lines text) };
+            run_is = record { gap = lines_gap e.row.column br (head_comment_lines text) _ parts; is_located = lines_are_in e.row.column (break_text br) (head_comment_lines text) };
           })
           refl);
       root = ap (λ o. changed_at steps_are.0 (within (relabel_child steps_are.1 (with_head_comment o))) (root_of there.part)) (lines_agree e.row.column br (head_comment_lines text) parts)

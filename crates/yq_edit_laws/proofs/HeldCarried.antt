@@ -6,9 +6,9 @@ use Rattle.yq_text.{specs.Limit.text_limit, specs.Script.{Segment, old_text, new
 use Rattle.yq_outline.{specs.Places.content_under, proofs.Finding.{FoundNode, path_node}}
 use Rattle.yq_row_table.{specs.Items.rows_items, specs.Rows.{Row, print_row, rows_text, Cut, cut_text}}
 use Rattle.yq_documents.specs.Reading.{part_outline, read_at, root_of}
-use Rattle.yq_places.specs.Standings.{Held, RowsOfEntry, behind_entry, held}
+use Rattle.yq_places.specs.Placements.{Held, RowsOfEntry, after_entry, held}
 use Rattle.yq_edit_rules.{specs.Appends.inserted, specs.Changed.put_document, specs.SoundRoots.MayReplace}
-use Rattle.yq_edit_rules.{specs.StandingLaws.{StandsThere, held_text}, specs.TextPieces.IsPiece, specs.Done.ArePieces}
+use Rattle.yq_edit_rules.{specs.PlacementLaws.{HasItsRows, held_text}, specs.TextPieces.IsPiece, specs.Done.ArePieces}
 use Rattle.yq_edit_rules.{specs.EditLaws.CarriedOut, specs.Local.InFirst, specs.ReplaceEdits.{spaced_text, held_put}}
 use Rattle.yq_edit_rules.specs.WrittenValues.{Written, inline, compact_text, lines}
 use Rattle.yq_edit_rules.{proofs.CommentPieceLaws.{nothing, byte_then, break_piece}, proofs.EditsFitLaws.FitsReplace}
@@ -16,14 +16,14 @@ use Rattle.yq_edit_rules.{proofs.OneLines.{break_line, is_one_line}, proofs.Segm
 use Rattle.yq_edit_rules.proofs.TextPieceLaws.{pieces_joined}
 use Rattle.yq_semantics.specs.Operations.{replace}
 use Rattle.yq_edit_laws.{proofs.HeldKnown.KnowsHeld, proofs.NodeCarriedLaws.{KeepsNode, node_carried, node_made}, proofs.NodeRowLaws.rest}
-use Rattle.yq_edit_laws.{proofs.NodeTaken.{TakesNode, q_text}, proofs.StandingNodes.{behind_is, mark_node}}
+use Rattle.yq_edit_laws.{proofs.NodeTaken.{TakesNode, q_text}, proofs.PlacementNodes.{following_is, mark_node}}
 
 -- ---- the segments
 
 pub held_old : (br : List ℕ) (h : Held) (w : Written) → old_text (held_put br h w) ≡ held_text h
 held_old br h w = search (rules, append-nil, append_assoc)
 
-held_back : (br : List ℕ) (h : Held) (w : Written) → kept_back (held_put br h w) ≡ h.last ++ h.behind
+held_back : (br : List ℕ) (h : Held) (w : Written) → kept_back (held_put br h w) ≡ h.last ++ h.after
 held_back br h w = search (rules, append-nil)
 
 held_puts : (br : List ℕ) (h : Held) (w : Written) → are_kept (held_put br h w) ≡ false
@@ -35,7 +35,7 @@ text_of (inline t) = t
 text_of (compact_text t) = t
 text_of (lines t) = t
 
-module _ (n : ℕ) (s : Step) (ss : List Step) (c : Cut) (e : RowsOfEntry) (there : StandsThere n s ss c e) (last : e.line ≡ length e.row.dashes) (k : KnowsHeld n s ss c e there last) where
+module _ (n : ℕ) (s : Step) (ss : List Step) (c : Cut) (e : RowsOfEntry) (there : HasItsRows n s ss c e) (last : e.line ≡ length e.row.dashes) (k : KnowsHeld n s ss c e there last) where
   abbrev h : Held
   h = held e
 
@@ -66,11 +66,11 @@ module _ (n : ℕ) (s : Step) (ss : List Step) (c : Cut) (e : RowsOfEntry) (ther
     may = subst (λ q. MayReplace v q (root_of there.part) (length (s ∷ ss))) node_is f.may
 
     -- Segments of the text that keep it from the end of the line that ends the rows carry out the replacement.
-    pub put_carried : (us : List Segment) (new : List Row) → Spells v us new → (trail : List ℕ) → kept_back us ≡ trail ++ behind_entry e → is_one_line trail ≡ true → are_kept us ≡ false → old_text us ≡ cut_text c →
+    pub put_carried : (us : List Segment) (new : List Row) → Spells v us new → (trail : List ℕ) → kept_back us ≡ trail ++ after_entry e → is_one_line trail ≡ true → are_kept us ≡ false → old_text us ≡ cut_text c →
         ArePieces us → length (new_text us) ≤ text_limit → CarriedOut (replace n (s ∷ ss) v) c us
     put_carried us new x trail back one puts old pieces size =
         let node = mark_node n s ss c e there last in
-        let keeps : KeepsNode n s ss c node us = search (rules, behind_is) in
+        let keeps : KeepsNode n s ss c node us = search (rules, following_is) in
         node_carried n s ss c node v new x.takes us keeps may (segments_readable us pieces size) (q_text n s ss c node v new x.takes ∙ x.text) x.begins
 
     pub held_carried : (br : Break) (w : Written) (new : List Row) → Spells v (held_put (break_text br) h w) new → IsPiece (text_of w) → length (new_text (held_put (break_text br) h w)) ≤ text_limit →

@@ -7,21 +7,21 @@ use Rattle.yq_flow_edits.specs.Valued.{IsValueTree}
 use Rattle.yq_outline.{specs.Comments.line_comment, specs.Places.content_under, specs.Lines.tail_of}
 use Rattle.yq_row_table.{specs.Exchange.row_front, specs.Rows.{Row, mark_column, rows_text, Cut}, specs.View.slices}
 use Rattle.yq_documents.proofs.RowLineLaws.{tail_is}
-use Rattle.yq_places.{specs.RowPieces.anchor_before, specs.Standings.{Held, RowsOfEntry, held}}
-use Rattle.yq_edit_rules.{specs.StandingLaws.StandsThere, proofs.StandingMarks.entry_there, specs.declared.layout.Layout.Layout}
+use Rattle.yq_places.{specs.RowPieces.anchor_before, specs.Placements.{Held, RowsOfEntry, held}}
+use Rattle.yq_edit_rules.{specs.PlacementLaws.HasItsRows, proofs.PlacementMarks.entry_there, specs.declared.layout.Layout.Layout}
 use Rattle.yq_edit_rules.{specs.BlockReading.is_filled, specs.BlockRows.item_column, specs.BlockText.block_value}
 use Rattle.yq_edit_rules.{specs.BlockValues.{IsEnd, IsFilledValue}, specs.EditLaws.CarriedOut, specs.Layouts.layout_of}
 use Rattle.yq_edit_rules.{specs.ReplaceEdits.held_put, specs.WrittenValues.{compact_text, takes_compact}, proofs.EditsFitLaws.FitsReplace}
 use Rattle.yq_edit_rules.proofs.LayoutLaws.{mapping_least}
 use Rattle.yq_semantics.specs.Operations.{replace}
-use Rattle.yq_edit_laws.proofs.DashValueLaws.{behind_first, behind_rows, behind_spelled, takes_behind}
+use Rattle.yq_edit_laws.proofs.DashValueLaws.{after_first, after_rows, after_spelled, takes_after}
 use Rattle.yq_edit_laws.{proofs.HeldCarried.{Spells, held_carried}, proofs.HeldKnown.KnowsHeld, proofs.HeldLines.block_piece}
 use Rattle.yq_edit_laws.{proofs.MarkContentLaws.unnamed, proofs.MarkKinds.{dash_is, filled_is}, proofs.NodeLeads.upto_long}
 use Rattle.yq_edit_laws.{proofs.NodeRowLaws.{NodeRows, rest, rows_there}, proofs.NodeValueLaws.end_is}
-use Rattle.yq_edit_laws.proofs.StandingNodes.{behind_is, mark_node}
+use Rattle.yq_edit_laws.proofs.PlacementNodes.{following_is, mark_node}
 use Rattle.yq_row_table.specs.Rows as rows
 
-module _ (n : ℕ) (s : Step) (ss : List Step) (c : Cut) (e : RowsOfEntry) (there : StandsThere n s ss c e) (last : e.line ≡ length e.row.dashes) (k : KnowsHeld n s ss c e there last)
+module _ (n : ℕ) (s : Step) (ss : List Step) (c : Cut) (e : RowsOfEntry) (there : HasItsRows n s ss c e) (last : e.line ≡ length e.row.dashes) (k : KnowsHeld n s ss c e there last)
     (v : Node) (tree : IsValueTree v) (f : FitsReplace n (s ∷ ss) v c there.part) (full : is_filled v ≡ true) (free : takes_compact (held e).mark ≡ true) where
   abbrev l : Layout
   l = layout_of n c
@@ -70,7 +70,7 @@ module _ (n : ℕ) (s : Step) (ss : List Step) (c : Cut) (e : RowsOfEntry) (ther
   uncommented = k.ended_comment ∙ (k.uncommented (not-false (is_empty w.comment) notes.1))
 
   abbrev new : List Row
-  new = behind_rows n s ss c h l (mapping_least n c) v filled f.near tail dash ends uncommented none no_name
+  new = after_rows n s ss c h l (mapping_least n c) v filled f.near tail dash ends uncommented none no_name
 
   nothing_before : anchor_before (slices e.row) ≡ []
   nothing_before = ap (λ b. cond b [] ((slices e.row).space ++ (slices e.row).anchor)) (not-false (is_empty (slices e.row).anchor) notes.0)
@@ -84,19 +84,19 @@ module _ (n : ℕ) (s : Step) (ss : List Step) (c : Cut) (e : RowsOfEntry) (ther
       let b : List ℕ = rows_text e.front [] in
       let d : List ℕ = row_front e.row in
       let x : List ℕ = block_value l column v in
-      let parts : a ++ (b ++ (d ++ (32 ∷ (x ++ ((w.white ++ (w.comment ++ w.last)) ++ w.behind))))) ≡ ((a ++ b) ++ d) ++ ((32 ∷ x) ++ (w.white ++ (w.comment ++ (w.last ++ (w.behind ++ []))))) = simp (append_assoc, append-nil) refl in
-      ap (λ u. a ++ (b ++ u)) (behind_spelled n s ss c h l (mapping_least n c) v filled f.near tail dash ends uncommented none no_name)
-      ∙ (ap (λ u. a ++ (b ++ (d ++ (32 ∷ (x ++ (tail ++ u)))))) (sym (behind_is n s ss c e there last))
-      ∙ (parts ∙ ap (λ u. u ++ ((32 ∷ x) ++ (w.white ++ (w.comment ++ (w.last ++ (w.behind ++ [])))))) (sym before_is)))
+      let parts : a ++ (b ++ (d ++ (32 ∷ (x ++ ((w.white ++ (w.comment ++ w.last)) ++ w.after))))) ≡ ((a ++ b) ++ d) ++ ((32 ∷ x) ++ (w.white ++ (w.comment ++ (w.last ++ (w.after ++ []))))) = simp (append_assoc, append-nil) refl in
+      ap (λ u. a ++ (b ++ u)) (after_spelled n s ss c h l (mapping_least n c) v filled f.near tail dash ends uncommented none no_name)
+      ∙ (ap (λ u. a ++ (b ++ (d ++ (32 ∷ (x ++ (tail ++ u)))))) (sym (following_is n s ss c e there last))
+      ∙ (parts ∙ ap (λ u. u ++ ((32 ∷ x) ++ (w.white ++ (w.comment ++ (w.last ++ (w.after ++ [])))))) (sym before_is)))
 
   spells : Spells n s ss c e there last k v us new
   spells = record {
-    takes = takes_behind n s ss c h l (mapping_least n c) v filled f.near tail dash ends uncommented none no_name;
+    takes = takes_after n s ss c h l (mapping_least n c) v filled f.near tail dash ends uncommented none no_name;
     text = text;
     lead = row_front e.row;
     before_is = append-nil w.before ∙ before_is;
     within = upto_long h.upto;
-    begins = behind_first n s ss c h l (mapping_least n c) v filled f.near tail dash ends uncommented none no_name;
+    begins = after_first n s ss c h l (mapping_least n c) v filled f.near tail dash ends uncommented none no_name;
   }
 
   pub held_compact : length (new_text us) ≤ text_limit → CarriedOut (replace n (s ∷ ss) v) c us

@@ -5,8 +5,8 @@ use Rattle.yq_core.specs.declared.style.Place.TheVariants.{Block as InBlock}
 use Rattle.yq_text.{specs.Limit.text_limit, specs.Script.{Segment, new_text}}
 use Rattle.yq_flow_edits.specs.Valued.{IsValueTree}
 use Rattle.yq_row_table.{specs.Rows.Cut, specs.Seams.is_block}
-use Rattle.yq_places.specs.Standings.{Held, RowsOfEntry, held}
-use Rattle.yq_edit_rules.{specs.StandingLaws.StandsThere, specs.declared.layout.Layout.Layout, specs.BlockReading.is_filled}
+use Rattle.yq_places.specs.Placements.{Held, RowsOfEntry, held}
+use Rattle.yq_edit_rules.{specs.PlacementLaws.HasItsRows, specs.declared.layout.Layout.Layout, specs.BlockReading.is_filled}
 use Rattle.yq_edit_rules.{specs.BlockRows.item_column, specs.BlockText.block_value, specs.EditLaws.{CarriedOut, IsEdit}}
 use Rattle.yq_edit_rules.{specs.Layouts.layout_of, specs.ReplaceEdits.held_put}
 use Rattle.yq_edit_rules.specs.WrittenValues.{Written, inline, compact_text, lines, collection_at, column_under, lines_in, takes_compact}
@@ -16,7 +16,7 @@ use Rattle.yq_semantics.specs.Operations.{Operation, replace}
 use Rattle.yq_edit_laws.{proofs.HeldCarried.held_old, proofs.HeldCompact.held_compact, proofs.HeldInline.held_inline}
 use Rattle.yq_edit_laws.{proofs.HeldKnown.KnowsHeld, proofs.HeldLines.held_lines}
 
-module _ (n : ℕ) (s : Step) (ss : List Step) (c : Cut) (e : RowsOfEntry) (there : StandsThere n s ss c e) (last : e.line ≡ length e.row.dashes) (k : KnowsHeld n s ss c e there last) (v : Node) (block : is_block e.row.content ≡ false) where
+module _ (n : ℕ) (s : Step) (ss : List Step) (c : Cut) (e : RowsOfEntry) (there : HasItsRows n s ss c e) (last : e.line ≡ length e.row.dashes) (k : KnowsHeld n s ss c e there last) (v : Node) (block : is_block e.row.content ≡ false) where
   abbrev w : Held
   w = held e
 

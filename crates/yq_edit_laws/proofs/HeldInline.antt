@@ -9,15 +9,15 @@ use Rattle.yq_row_table.{specs.Rows.{Content, Part, content_text, parent_indent,
 use Rattle.yq_row_table.proofs.PlaceLaws.{row_front-append}
 use Rattle.yq_outline.specs.Lines.{head_of}
 use Rattle.yq_documents.specs.Reading.{read_at}
-use Rattle.yq_places.specs.Standings.{Held, RowsOfEntry, before_entry, held}
-use Rattle.yq_edit_rules.{specs.Appends.inserted, specs.Changed.put_document, specs.StandingLaws.StandsThere, proofs.CoreLaws.put_core}
+use Rattle.yq_places.specs.Placements.{Held, RowsOfEntry, before_entry, held}
+use Rattle.yq_edit_rules.{specs.Appends.inserted, specs.Changed.put_document, specs.PlacementLaws.HasItsRows, proofs.CoreLaws.put_core}
 use Rattle.yq_edit_rules.{specs.EditLaws.CarriedOut, specs.ReplaceEdits.{spaced_text, held_put}, specs.WrittenValues.inline}
 use Rattle.yq_edit_rules.{proofs.CommentRowLaws.end_parts, proofs.EditsFitLaws.FitsReplace, proofs.ValueTexts.IsWrittenFor}
 use Rattle.yq_semantics.specs.Operations.{replace}
 use Rattle.yq_edit_laws.{proofs.ContentRows.IsContentFor, proofs.HeadPuts.{apart_there, content_there, head_carried, head_made}}
 use Rattle.yq_edit_laws.{proofs.HeldKnown.KnowsHeld, proofs.HeldTexts.{holding, regroup, text_beside}, proofs.MarkContentLaws.anchor_left}
 use Rattle.yq_edit_laws.{proofs.MarkHeads.{core_text, no_raw, none_written}, proofs.NodeRowLaws.{NodeRows, rest, rows_there}}
-use Rattle.yq_edit_laws.{proofs.NodeValueLaws.{IsHolding, content_beside, content_for}, proofs.StandingNodes.mark_node}
+use Rattle.yq_edit_laws.{proofs.NodeValueLaws.{IsHolding, content_beside, content_for}, proofs.PlacementNodes.mark_node}
 
 -- Segments make a text in whose cut the row of an item or entry has another content, with a head.
 pub record RowMade (n : ℕ) (c : Cut) (e : RowsOfEntry) (p : Part) (us : List Segment) (v : Node) : Type 0 where
@@ -25,7 +25,7 @@ pub record RowMade (n : ℕ) (c : Cut) (e : RowsOfEntry) (p : Part) (us : List S
   pub headed : head_of content ≡ Some v
   pub read : read_at (new_text us) ≡ Some (put_document n (inserted e.front (with_content content e.row ∷ []) e.back p) c)
 
-module _ (n : ℕ) (s : Step) (ss : List Step) (c : Cut) (e : RowsOfEntry) (there : StandsThere n s ss c e) (last : e.line ≡ length e.row.dashes) (k : KnowsHeld n s ss c e there last)
+module _ (n : ℕ) (s : Step) (ss : List Step) (c : Cut) (e : RowsOfEntry) (there : HasItsRows n s ss c e) (last : e.line ≡ length e.row.dashes) (k : KnowsHeld n s ss c e there last)
     (br : Break) (v : Node) (f : FitsReplace n (s ∷ ss) v c there.part) (t : List ℕ) (for : IsWrittenFor v t) where
   abbrev w : Held
   w = held e
@@ -69,11 +69,11 @@ module _ (n : ℕ) (s : Step) (ss : List Step) (c : Cut) (e : RowsOfEntry) (ther
     abbrev x : Content
     x = e.row.content
 
-    stands : IsContent (parent_indent e.row) e.row.content z
-    stands = content_there n s ss c e there last k some
+    is_located : IsContent (parent_indent e.row) e.row.content z
+    is_located = content_there n s ss c e there last k some
 
     is_for : IsContentFor n s ss c h v (put_core for.node e.row.content)
-    is_for = content_for n s ss c h v for.node for.is e.row.content block stands (apart_there n s ss c e there last k some) refl (sym k.named)
+    is_for = content_for n s ss c h v for.node for.is e.row.content block is_located (apart_there n s ss c e there last k some) refl (sym k.named)
 
     -- no other lines are there, so that the end of its line is what was held
     tail_is : (slices e.row).tail ≡ w.white ++ (w.comment ++ w.last)
@@ -84,7 +84,7 @@ module _ (n : ℕ) (s : Step) (ss : List Step) (c : Cut) (e : RowsOfEntry) (ther
     text_there u =
         ap (λ r. e.start ++ (front ++ r)) (row_front-append (with_content (put_core for.node x) e.row) u)
         ∙ (regroup e.start front (row_front e.row) (content_text (put_core for.node x) u)
-        ∙ (core_text (before_entry e ++ row_front e.row) for.node (parent_indent e.row) x z u stands block some
+        ∙ (core_text (before_entry e ++ row_front e.row) for.node (parent_indent e.row) x z u is_located block some
         ∙ (λ i. w.before ++ (w.space ++ cond (sym some i) (32 ∷ node_text for.node (tail_is i ++ u)) (node_text for.node (tail_is i ++ u))))))
 
     node_there : length (new_text us) ≤ text_limit → CarriedOut (replace n (s ∷ ss) v) c us

@@ -6,9 +6,9 @@ use Rattle.yq_flow_edits.specs.Valued.{IsValueTree}
 use Rattle.yq_outline.specs.Comments.{line_comment}
 use Rattle.yq_row_table.{specs.Exchange.{row_front, with_content}, specs.Gap.IsBreak, specs.Grammar.IsTail}
 use Rattle.yq_row_table.{specs.Rows.{Content, Row, mark_column, print_row, rows_text, Cut}, specs.View.slices}
-use Rattle.yq_places.{specs.RowPieces.anchor_before, specs.Standings.{Held, RowsOfEntry, held}}
-use Rattle.yq_edit_rules.{specs.StandingLaws.StandsThere, specs.TextPieces.IsPiece, proofs.RemovalPieceLaws.spaces_piece}
-use Rattle.yq_edit_rules.{proofs.TextPieceLaws.pieces_joined, proofs.StandingMarks.entry_there, specs.declared.layout.Layout.Layout}
+use Rattle.yq_places.{specs.RowPieces.anchor_before, specs.Placements.{Held, RowsOfEntry, held}}
+use Rattle.yq_edit_rules.{specs.PlacementLaws.HasItsRows, specs.TextPieces.IsPiece, proofs.RemovalPieceLaws.spaces_piece}
+use Rattle.yq_edit_rules.{proofs.TextPieceLaws.pieces_joined, proofs.PlacementMarks.entry_there, specs.declared.layout.Layout.Layout}
 use Rattle.yq_edit_rules.{specs.BlockReading.is_filled, specs.BlockRows.{column_below, node_rows}, specs.BlockText.block_value}
 use Rattle.yq_edit_rules.{specs.BlockValues.{IsEnd, IsFilledValue}, proofs.CharacterLaws.value_sound, proofs.TextLaws.value_spelled}
 use Rattle.yq_edit_rules.{specs.EditLaws.CarriedOut, specs.Layouts.layout_of, specs.ReplaceEdits.held_put}
@@ -19,7 +19,7 @@ use Rattle.yq_edit_laws.{proofs.HeldCarried.{Spells, held_carried}, proofs.HeldK
 use Rattle.yq_edit_laws.{proofs.MarkContentLaws.anchor_left, proofs.MarkKinds.{column_is, filled_is}}
 use Rattle.yq_edit_laws.{proofs.NodeLeads.{first_lead, own_lead}, proofs.NodeRowLaws.{NodeRows, rest, rows_there}}
 use Rattle.yq_edit_laws.proofs.NodeValueLaws.{IsHolding, end_is, mark_key, rows_under, takes_under}
-use Rattle.yq_edit_laws.proofs.StandingNodes.{behind_is, mark_node}
+use Rattle.yq_edit_laws.proofs.PlacementNodes.{following_is, mark_node}
 
 -- a value in block style is a piece of a text
 pub block_piece : (l : Layout) (column : ℕ) (v : Node) → IsValueTree v → IsPiece (block_value l column v)
@@ -32,7 +32,7 @@ lines_piece l column v tree = pieces_joined (replicate column 32) (block_value l
 abbrev pub break_tail : (b more : List ℕ) → IsBreak b more → IsTail b more
 break_tail b more ends = record { white = []; comment = []; line = record { break = b; spelled = refl; blank = tt; as_comment = tt; ends = ends }; apart = refl }
 
-module _ (n : ℕ) (s : Step) (ss : List Step) (c : Cut) (e : RowsOfEntry) (there : StandsThere n s ss c e) (last : e.line ≡ length e.row.dashes) (k : KnowsHeld n s ss c e there last)
+module _ (n : ℕ) (s : Step) (ss : List Step) (c : Cut) (e : RowsOfEntry) (there : HasItsRows n s ss c e) (last : e.line ≡ length e.row.dashes) (k : KnowsHeld n s ss c e there last)
     (v : Node) (tree : IsValueTree v) (f : FitsReplace n (s ∷ ss) v c there.part) (full : is_filled v ≡ true) where
   abbrev l : Layout
   l = layout_of n c
@@ -75,16 +75,16 @@ module _ (n : ℕ) (s : Step) (ss : List Step) (c : Cut) (e : RowsOfEntry) (ther
     abbrev pub rows_put : List Row
     rows_put = rows_under n s ss c h l (mapping_least n c) v filled f.near left final held_is final_ends uncommented
 
-    text : e.start ++ (rows_text e.front [] ++ rows_text rows_put z) ≡ w.before ++ (tail ++ (lines_in l (column_under l w.mark v) v ++ (final ++ w.behind)))
+    text : e.start ++ (rows_text e.front [] ++ rows_text rows_put z) ≡ w.before ++ (tail ++ (lines_in l (column_under l w.mark v) v ++ (final ++ w.after)))
     text =
         text_left n s ss c e there last k tail value_rows z
         ∙ (ap (λ r. w.before ++ (tail ++ r)) (value_spelled v l under final z filled.filled filled.value ∙ sym (append_assoc (replicate under 32) (block_value l under v) (final ++ z)))
-        ∙ (λ i. w.before ++ (tail ++ (lines_in l (sym column i) v ++ (final ++ sym (behind_is n s ss c e there last) i)))))
+        ∙ (λ i. w.before ++ (tail ++ (lines_in l (sym column i) v ++ (final ++ sym (following_is n s ss c e there last) i)))))
 
     before_is : w.before ≡ (e.start ++ rows_text e.front []) ++ (row_front e.row ++ anchor_before (slices e.row))
     before_is = append_assoc (e.start ++ rows_text e.front []) (row_front e.row) (anchor_before (slices e.row))
 
-    pub rows_spell : (us : List Segment) → kept_front us ≡ w.before → w.before ++ (tail ++ (lines_in l (column_under l w.mark v) v ++ (final ++ w.behind))) ≡ new_text us → Spells n s ss c e there last k v us rows_put
+    pub rows_spell : (us : List Segment) → kept_front us ≡ w.before → w.before ++ (tail ++ (lines_in l (column_under l w.mark v) v ++ (final ++ w.after))) ≡ new_text us → Spells n s ss c e there last k v us rows_put
     rows_spell us kept new = record {
       takes = takes_under n s ss c h l (mapping_least n c) v filled f.near left final held_is final_ends uncommented;
       text = text ∙ new;
@@ -102,6 +102,6 @@ module _ (n : ℕ) (s : Step) (ss : List Step) (c : Cut) (e : RowsOfEntry) (ther
   held_lines =
       let br : List ℕ = break_text l.br in
       let tail : List ℕ = w.white ++ (w.comment ++ br) in
-      let new : w.before ++ (tail ++ (lines_in l (column_under l w.mark v) v ++ (w.last ++ w.behind))) ≡ new_text us = simp (append_assoc, append-nil) refl in
+      let new : w.before ++ (tail ++ (lines_in l (column_under l w.mark v) v ++ (w.last ++ w.after))) ≡ new_text us = simp (append_assoc, append-nil) refl in
       held_carried n s ss c e there last k v f l.br (lines (lines_in l (column_under l w.mark v) v)) (rows_put tail w.last (k.broken l.br) (k.broken_comment l.br) k.ends)
       (rows_spell tail w.last (k.broken l.br) (k.broken_comment l.br) k.ends us (append-nil w.before) new) (lines_piece l (column_under l w.mark v) v tree)

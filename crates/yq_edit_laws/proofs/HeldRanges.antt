@@ -2,12 +2,12 @@
 use Rattle.std.proofs.Common.{rules, ◌≡◌, ◌⊎◌, ℕ, Bool, true, false, cond, ◌&&◌, List, [], ◌∷◌, ◌++◌, Some, refl, sym, ap, ◌∙◌, subst}
 use Rattle.std.{proofs.Common.{append_assoc, append-nil}, proofs.lemmas.Bool.or_parts}
 use Rattle.yq_core.{specs.Paths.Step, specs.Text.{NoneIn, ends_line, front, is_empty, is_feed, is_return, is_white}, proofs.Bools.at_byte}
-use Rattle.yq_row_table.{specs.Exchange.asked_behind, specs.Gap.{IsComment, IsWhite}, specs.Grammar.{IsRow, IsTail, unlimited}}
+use Rattle.yq_row_table.{specs.Exchange.asked_after, specs.Gap.{IsComment, IsWhite}, specs.Grammar.{IsRow, IsTail, unlimited}}
 use Rattle.yq_row_table.{specs.Rows.{Cut, cut_text, parent_indent, rows_text}, specs.View.slices}
 use Rattle.yq_documents.specs.Reading.{read_at}
 use Rattle.yq_places.{specs.CommentPlaces.{LineEnd, end_in_line}, specs.PrintedLines.last_break}
-use Rattle.yq_places.{specs.Standings.{Held, RowsOfEntry, behind_entry, held, rows_of_entry}, proofs.LineEndLaws.line_tail}
-use Rattle.yq_edit_rules.{specs.StandingLaws.StandsThere, proofs.StandingMarks.row_there, proofs.StandingRows.rows_stand}
+use Rattle.yq_places.{specs.Placements.{Held, RowsOfEntry, after_entry, held, rows_of_entry}, proofs.LineEndLaws.line_tail}
+use Rattle.yq_edit_rules.{specs.PlacementLaws.HasItsRows, proofs.PlacementMarks.row_there, proofs.PlacementRows.rows_located}
 use Rattle.yq_edit_rules.{specs.ReplaceEdits.line_break, proofs.BreakLaws.{IsLfOrCrLf, last_is}}
 use Rattle.yq_edit_rules.proofs.HeldPieces.{break_cases, end_agrees}
 use Rattle.yq_edit_laws.specs.TouchedRanges.{is_one_line}
@@ -51,10 +51,10 @@ break_there x b l h k = search rules
 
 pub held_in_line : (n : ℕ) (s : Step) (ss : List Step) (c : Cut) (e : RowsOfEntry) → read_at (cut_text c) ≡ Some c → rows_of_entry n (s ∷ ss) c ≡ Some e → IsInLine (held e)
 held_in_line n s ss c e read at =
-    let there : StandsThere n s ss c e = rows_stand n s ss c e read at in
-    let row : IsRow (asked_behind unlimited e.front) e.row (rows_text e.under (behind_entry e)) = row_there n s ss c e there in
-    let tail : IsTail (slices e.row).tail ((slices e.row).raw ++ rows_text e.under (behind_entry e)) = line_tail (parent_indent e.row) e.row.content (rows_text e.under (behind_entry e)) row.content in
-    let agrees : end_in_line [] (slices e.row).tail ≡ record { before = []; white = tail.white; comment = tail.comment; behind = tail.line.break } = end_agrees (slices e.row).tail _ tail in
+    let there : HasItsRows n s ss c e = rows_located n s ss c e read at in
+    let row : IsRow (asked_after unlimited e.front) e.row (rows_text e.under (after_entry e)) = row_there n s ss c e there in
+    let tail : IsTail (slices e.row).tail ((slices e.row).raw ++ rows_text e.under (after_entry e)) = line_tail (parent_indent e.row) e.row.content (rows_text e.under (after_entry e)) row.content in
+    let agrees : end_in_line [] (slices e.row).tail ≡ record { before = []; white = tail.white; comment = tail.comment; after = tail.line.break } = end_agrees (slices e.row).tail _ tail in
     let below : List ℕ = (slices e.row).raw ++ rows_text e.under [] in
     let last : List ℕ = last_break below in
     let own : is_one_line tail.line.break ≡ true = break_line tail.line.break (break_cases tail.line.break _ tail.line.ends) in

@@ -6,19 +6,19 @@ use Rattle.yq_row_table.{specs.Exchange.{row_front, with_content}, specs.Grammar
 use Rattle.yq_row_table.{specs.Rows.{Row, content_text, parent_indent, rows_text, Cut}, specs.View.{content_cut, slices}}
 use Rattle.yq_row_table.{proofs.NodeExchange.mark_apart, proofs.PlaceLaws.row_front-append}
 use Rattle.yq_documents.proofs.RowLineLaws.{tail_is}
-use Rattle.yq_places.specs.Standings.{RowsOfEntry, before_entry, held}
-use Rattle.yq_edit_rules.{specs.DocumentRows.behind_document, specs.StandingLaws.StandsThere, proofs.CoreLaws.put_core}
-use Rattle.yq_edit_rules.proofs.StandingMarks.{entry_there}
+use Rattle.yq_places.specs.Placements.{RowsOfEntry, before_entry, held}
+use Rattle.yq_edit_rules.{specs.DocumentRows.after_document, specs.PlacementLaws.HasItsRows, proofs.CoreLaws.put_core}
+use Rattle.yq_edit_rules.proofs.PlacementMarks.{entry_there}
 use Rattle.yq_edit_laws.proofs.HeldKnown.{KnowsHeld}
 use Rattle.yq_edit_laws.proofs.MarkContentLaws.{anchor_left, content_named, left_anchor, left_apart, left_content, left_core_text}
 use Rattle.yq_edit_laws.{proofs.MarkContentLaws.{left_nothing, left_tail, left_text}, proofs.NodeRowLaws.{limit, rows_there}}
-use Rattle.yq_edit_laws.{proofs.NodeValueLaws.IsHolding, proofs.StandingNodes.mark_node}
+use Rattle.yq_edit_laws.{proofs.NodeValueLaws.IsHolding, proofs.PlacementNodes.mark_node}
 use Rattle.yq_core.specs.Nodes as inline
 
 pub regroup : (a b d r : List ℕ) → a ++ (b ++ (d ++ r)) ≡ ((a ++ b) ++ d) ++ r
 regroup a b d r = simp append_assoc refl
 
-module _ (n : ℕ) (s : Step) (ss : List Step) (c : Cut) (e : RowsOfEntry) (there : StandsThere n s ss c e) (last : e.line ≡ length e.row.dashes) (k : KnowsHeld n s ss c e there last) where
+module _ (n : ℕ) (s : Step) (ss : List Step) (c : Cut) (e : RowsOfEntry) (there : HasItsRows n s ss c e) (last : e.line ≡ length e.row.dashes) (k : KnowsHeld n s ss c e there last) where
   abbrev lead : List ℕ
   lead = before_entry e ++ row_front e.row
 
@@ -26,12 +26,12 @@ module _ (n : ℕ) (s : Step) (ss : List Step) (c : Cut) (e : RowsOfEntry) (ther
   pub holding : (tail more : List ℕ) → IsTail tail more → line_comment tail ≡ line_comment (slices e.row).tail → IsHolding n s ss c (mark_node n s ss c e there last) (anchor_left e.row.content tail) more
   holding tail more is same =
       let x = e.row.content in
-      let old : List ℕ = rows_text (e.under ++ e.back) (there.part.end ++ behind_document n c) in
+      let old : List ℕ = rows_text (e.under ++ e.back) (there.part.end ++ after_document n c) in
       let was : IsRow (limit n s ss c (mark_node n s ss c e there last)) e.row old = (rows_there n s ss c (mark_node n s ss c e there last)).0 in
       let named = content_named (parent_indent e.row) x old was.content in
       record {
         holds = left_nothing (content_cut x).0 (content_anchor x) tail;
-        stands = left_content (parent_indent e.row) (content_cut x).0 (content_anchor x) (content_text x old) tail more named is;
+        is_located = left_content (parent_indent e.row) (content_cut x).0 (content_anchor x) (content_text x old) tail more named is;
         apart = left_apart (content_cut x).0 (content_anchor x) (content_text x old) tail more named (mark_apart e.row.mark x old (entry_there n s ss c e there last) was.mark) is;
         comment = ap line_comment (left_tail (content_cut x).0 (content_anchor x) tail) ∙ (same ∙ ap line_comment (tail_is x));
         anchor = left_anchor (content_cut x).0 (content_anchor x) tail ∙ sym k.named;

@@ -2,15 +2,15 @@
 use Rattle.std.proofs.Common.{◌≡◌, List, [], ◌∷◌, ◌++◌, is_some, sym, ap, ◌∙◌, refl}
 use Rattle.yq_core.specs.declared.style.Place.TheVariants.{Block as InBlock}
 use Rattle.yq_row_table.{specs.Exchange.with_content, specs.Rows.{Row, parent_indent}}
-use Rattle.yq_places.specs.Standings.{held}
-use Rattle.yq_edit_rules.{proofs.StandingRows.rows_stand, specs.Layouts.layout_of, specs.RowChanges.InlineValuesChangeRows}
+use Rattle.yq_places.specs.Placements.{held}
+use Rattle.yq_edit_rules.{proofs.PlacementRows.rows_located, specs.Layouts.layout_of, specs.RowChanges.InlineValuesChangeRows}
 use Rattle.yq_edit_rules.{specs.WrittenValues.value_text, proofs.EditsFitLaws.fits_replace, proofs.ValueTexts.value_for}
 use Rattle.yq_edit_laws.{proofs.HeadPuts.content_there, proofs.HeldInline.{RowMade, node_made}, proofs.HeldKnown.{KnowsHeld, first_alone}}
-use Rattle.yq_edit_laws.{proofs.HeldRows.{head_there, headless_there, held_known}, proofs.NodeRowLaws.rest, proofs.StandingNodes.mark_node}
+use Rattle.yq_edit_laws.{proofs.HeldRows.{head_there, headless_there, held_known}, proofs.NodeRowLaws.rest, proofs.PlacementNodes.mark_node}
 
 pub inline_values_change_rows : InlineValuesChangeRows
 inline_values_change_rows n s ss v c e read at inline plain operand fits size =
-    let there = rows_stand n s ss c e read at in
+    let there = rows_located n s ss c e read at in
     let none : e.under ≡ [] = headless_there n s ss c e there inline.last inline.some in
     let k : KnowsHeld n s ss c e there inline.last = held_known n s ss c e there inline.last read at (ap first_alone none) in
     let f = fits_replace n (s ∷ ss) v c there.part there.old.there operand fits in

@@ -5,8 +5,8 @@ use Rattle.std.proofs.lemmas.List.{length-append}
 use mathlib.Core.List.{tail-eq_of_cons-eq}
 use Rattle.yq_core.{specs.Text.is_empty, proofs.BlockPieceLaws.{IsLf, append_lf, line_lf}}
 use Rattle.yq_row_table.specs.Items.{Item, row_item, end_item, items_text, Asked, asked_by, IsItem, AreRowItems}
-use Rattle.yq_row_table.{specs.Touched.{item_text, in_back, in_front}, proofs.ItemLaws.items_text-append, proofs.KeptLaws.items_apart}
-use Rattle.yq_row_table.{proofs.NothingLaws.some_behind, proofs.seams.MarkerSeams.marker_line_is}
+use Rattle.yq_row_table.{specs.Touched.{item_text, in_back, before_offset}, proofs.ItemLaws.items_text-append, proofs.KeptLaws.items_apart}
+use Rattle.yq_row_table.{proofs.NothingLaws.some_after, proofs.seams.MarkerSeams.marker_line_is}
 use Rattle.yq_places.proofs.CommentPieceLaws.{Ended}
 use Rattle.yq_edit_rules.{proofs.EndedRowLaws.row_ended, proofs.ItemsLocal.item_apart}
 use Rattle.yq_edit_laws.proofs.TouchLaws.{size_one}
@@ -26,11 +26,11 @@ pub items_ended : (asked : Asked) (xs ys : List Item) → AreRowItems asked (xs 
 items_ended asked [] ys h some = inl refl
 items_ended asked (x ∷ xs) ys h some = inr (subst IsLf (sym (item_apart x xs [])) (go (items_ended (asked_by asked x) xs ys h.1 some)))
   where
-    behind : is_empty (items_text (xs ++ ys) []) ≡ false
-    behind = ap is_empty (items_text-append xs ys [] ∙ items_apart xs (items_text ys [])) ∙ some_behind (items_text xs []) (items_text ys []) some
+    after : is_empty (items_text (xs ++ ys) []) ≡ false
+    after = ap is_empty (items_text-append xs ys [] ∙ items_apart xs (items_text ys [])) ∙ some_after (items_text xs []) (items_text ys []) some
 
     own : IsLf (item_text x)
-    own = item_ended asked x (xs ++ ys) h.0 behind
+    own = item_ended asked x (xs ++ ys) h.0 after
 
     go : (xs ≡ []) ⊎ IsLf (items_text xs []) → IsLf (item_text x ++ items_text xs [])
     go (inl none) = subst (λ (l : List Item). IsLf (item_text x ++ items_text l [])) (sym none) (subst IsLf (sym (append-nil (item_text x))) own)
@@ -39,7 +39,7 @@ items_ended asked (x ∷ xs) ys h some = inr (subst IsLf (sym (item_apart x xs [
 -- ---- which of them are before and after
 
 -- the first item that isn't in front of an offset reaches it
-pub front_stop : (n : ℕ) (is : List Item) (y : Item) (ys : List Item) → is ≡ in_front n is ++ (y ∷ ys) → n ≤ length (items_text (in_front n is) []) + length (item_text y)
+pub front_stop : (n : ℕ) (is : List Item) (y : Item) (ys : List Item) → is ≡ before_offset n is ++ (y ∷ ys) → n ≤ length (items_text (before_offset n is) []) + length (item_text y)
 front_stop n [] y ys e = absurd (let no : [] ≡ y ∷ ys = e in cc)
 front_stop n (i ∷ is) y ys e = search (rules, arith, size_one, ltb-false, front_stop (n - length (item_text i)) is y ys)
 

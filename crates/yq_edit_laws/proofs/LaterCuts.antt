@@ -4,7 +4,7 @@ use Rattle.yq_core.{specs.Answers.◌>>=◌, specs.Paths.Step, specs.Collections
 use Rattle.yq_core.{specs.Entries.{EntryPieces, entry_pieces_at, item_at}, specs.Nodes.{Items, bare}}
 use Rattle.yq_row_table.specs.Rows.{Cut}
 use Rattle.yq_places.{specs.FlowNodes.flow_collection, specs.FlowViews.LeadsToHead}
-use Rattle.yq_edit_rules.{specs.Changed.put_document, specs.FlowRows.{FlowAt, behind_node, with_node}}
+use Rattle.yq_edit_rules.{specs.Changed.put_document, specs.FlowRows.{FlowAt, text_after_node, with_node}}
 use Rattle.yq_edit_laws.{specs.PartPuts.{EndsAsIn, IsCollBefore, IsPartBefore, IsPartOf}, proofs.EarlierParts.ComesBefore}
 use Rattle.yq_edit_laws.proofs.LaterEnds.{EndsThere}
 use Rattle.yq_lookup.proofs.RowParts.{parts_along}
@@ -16,7 +16,7 @@ module _ (c : Cut) (doc : ℕ) (steps : List Step) (w : CollPieces) (at : FlowAt
   next = put_document doc (with_node at.part at.row (collection_put at.rest gap is at.row.node)) c
 
   abbrev pub slot : EntryPieces
-  slot = record { key = bare; node = at.row.node; rest = behind_node c doc at.part at.row }
+  slot = record { key = bare; node = at.row.node; rest = text_after_node c doc at.part at.row }
 
   abbrev new_slot : EntryPieces
   new_slot = record slot { node = collection_put at.rest gap is at.row.node }
@@ -29,7 +29,7 @@ module _ (c : Cut) (doc : ℕ) (steps : List Step) (w : CollPieces) (at : FlowAt
       (entry_pieces_at (ss ++ (r ∷ [])) slot ≡ Some z → entry_pieces_at (ss ++ (r ∷ [])) new_slot ≡ Some z2) → IsPartOf next doc (stem ++ ss) r z2
   part_then ss r z z2 part then =
       let before = sym (parts_along ss r slot) ∙ (sym (ap (part_in r) (stay.collection_before c doc steps w at gap is stem left init h ss)) ∙ part) in
-      ap (part_in r) (stay.collection_behind c doc steps w at gap is stem left init h ss) ∙ (parts_along ss r new_slot ∙ then before)
+      ap (part_in r) (stay.collection_after c doc steps w at gap is stem left init h ss) ∙ (parts_along ss r new_slot ∙ then before)
 
   -- one that stays
   pub part_after : (ss : List Step) (r : Step) (z : EntryPieces) → IsPartOf c doc (stem ++ ss) r z → (entry_pieces_at (ss ++ (r ∷ [])) slot ≡ Some z → entry_pieces_at (ss ++ (r ∷ [])) new_slot ≡ Some z) → IsPartOf next doc (stem ++ ss) r z
@@ -49,10 +49,10 @@ module _ (c : Cut) (doc : ℕ) (steps : List Step) (w : CollPieces) (at : FlowAt
       (coll_along ss slot.node slot.rest ≡ Some z → (m : List ℕ) × (z.rest ≡ m ++ t) × (coll_along ss new_slot.node slot.rest ≡ Some (record z { rest = m ++ t2 }))) → IsCollBefore next doc (stem ++ ss) z t t2
   coll_turned ss z t t2 found turned =
       let b = turned (sym (stay.collection_before c doc steps w at gap is stem left init h ss) ∙ found) in
-      (b.0, b.1, stay.collection_behind c doc steps w at gap is stem left init h ss ∙ b.2)
+      (b.0, b.1, stay.collection_after c doc steps w at gap is stem left init h ss ∙ b.2)
 
   -- the end of a collection that stays there
   pub end_after : (ss : List Step) (z : CollPieces) → flow_collection doc (stem ++ ss) c ≡ Some z → (coll_along ss slot.node slot.rest ≡ Some z → EndsThere z ss new_slot.node slot.rest) → EndsAsIn z next doc (stem ++ ss)
   end_after ss z found stays =
       let e = stays (sym (stay.collection_before c doc steps w at gap is stem left init h ss) ∙ found) in
-      (e.0, stay.collection_behind c doc steps w at gap is stem left init h ss ∙ e.1, e.2)
+      (e.0, stay.collection_after c doc steps w at gap is stem left init h ss ∙ e.1, e.2)

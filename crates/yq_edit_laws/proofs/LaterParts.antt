@@ -8,7 +8,7 @@ use Rattle.yq_core.specs.Nodes.{Key, FlowNode, empty, alias, scalar, coll, ancho
 use Rattle.yq_core.{specs.Nodes.{sep_text, without_anchor}, specs.Trees.key_content, specs.Tree.key_label}
 use Rattle.yq_core.{proofs.NodeAgain.{key_longer, node_longer, sep_longer}, proofs.PathLaws.then_some}
 use Rattle.yq_flow_edits.{specs.FlowEdits.{put_content, put_item, spaced_key}, proofs.ItemPlaces.item_rest}
-use Rattle.yq_edit_laws.proofs.FlowStandings.{coll_entry}
+use Rattle.yq_edit_laws.proofs.FlowPlacements.{coll_entry}
 
 -- ---- where parts are
 

@@ -4,7 +4,7 @@ pub mod DocumentParts
 pub mod FlowEditLaws
 pub mod FlowSoundLaws
 pub mod FlowPieceLaws
-pub mod FlowStandings
+pub mod FlowPlacements
 pub mod FlowWholeLaws
 pub mod LaterParts
 pub mod LaterEnds
@@ -38,10 +38,10 @@ pub mod FlowPartNodes
 pub mod FlowKeys
 pub mod EntryIndexes
 pub mod NearCollections
-pub mod StandingExists
+pub mod PlacementExists
 pub mod MoreExists
 pub mod MarkContentLaws
-pub mod BehindDashLaws
+pub mod AfterDashLaws
 pub mod RowLines
 pub mod NodeRowLaws
 pub mod NodeTaken
@@ -57,7 +57,7 @@ pub mod NodeValueLaws
 pub mod DashValueLaws
 pub mod NodeCarriedLaws
 pub mod NodeLeads
-pub mod StandingNodes
+pub mod PlacementNodes
 pub mod HeldKnown
 pub mod MarkKinds
 pub mod HeldTexts
@@ -82,7 +82,7 @@ pub mod RootReadLaws
 pub mod RootFits
 pub mod SameDocuments
 pub mod ClosedTexts
-pub mod StandingRoots
+pub mod PlacementRoots
 pub mod FirstRows
 pub mod BlockRootLaws
 pub mod UnwrittenRootLaws
@@ -100,12 +100,12 @@ pub mod RemovingFirstLaws
 pub mod AppendInside
 pub mod MorePuts
 pub mod MoreLaws
-pub mod HeadStandings
+pub mod HeadPlacements
 pub mod GapLaws
 pub mod TouchLaws
 pub mod FinalBreaks
 pub mod CollectionRows
-pub mod CollectionStands
+pub mod CollectionIsThere
 pub mod ItemEnds
 pub mod RangeLaws
 pub mod TouchedLaws

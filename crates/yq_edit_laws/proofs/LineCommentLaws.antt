@@ -9,17 +9,17 @@ use Rattle.yq_row_table.{specs.Exchange.row_front, specs.Grammar.IsTail}
 use Rattle.yq_row_table.{specs.Rows.{Row, parent_indent, print_row, rows_text, Cut, cut_text}, specs.View.{Slices, slices}}
 use Rattle.yq_places.{specs.CommentPlaces.{LineEnd, end_in_line}, proofs.LineEndLaws.line_tail, proofs.HeldRowLaws.no_root_rows}
 use Rattle.yq_places.{proofs.RunSpans.rows_then, specs.RowPieces.anchor_before}
-use Rattle.yq_places.specs.Standings.{Held, RowsOfEntry, before_entry, behind_entry, held, held_by, rows_of_entry}
+use Rattle.yq_places.specs.Placements.{Held, RowsOfEntry, before_entry, after_entry, held, held_by, rows_of_entry}
 use Rattle.yq_documents.{specs.Documents.lead_of, specs.LinesInRows.row_line_of, specs.Reading.{read_at, root_of}}
 use Rattle.yq_documents.specs.TreeEdits.{with_line_comment}
 use Rattle.yq_edit_rules.{specs.Done.ArePieces, specs.PathTails.{IsLineTail, tailed}}
-use Rattle.yq_edit_rules.{specs.StandingLaws.{HoldsPieces, StandsThere, held_text}, specs.CommentEdits.{comment_put, comment_written}}
+use Rattle.yq_edit_rules.{specs.PlacementLaws.{HoldsPieces, HasItsRows, held_text}, specs.CommentEdits.{comment_put, comment_written}}
 use Rattle.yq_edit_rules.{specs.EditLaws.{CarriedOut, IsEdit, LineCommentIsPut}, specs.RowChanges.{ChangesRow, LineCommentsChangeRows}}
 use Rattle.yq_edit_rules.{specs.TextPieces.IsPiece, proofs.PathTailLaws.path_tail_put}
 use Rattle.yq_edit_rules.proofs.CommentPieceLaws.{nothing, byte_then, line_text_is}
 use Rattle.yq_edit_rules.proofs.CommentRowLaws.{IsEntryRow, entry_found, row_line_is_block, some_steps}
 use Rattle.yq_edit_rules.{proofs.HeldLaws.{below_is, held_spelled, held_there}, proofs.HeldPieces.{end_agrees, held_spells}}
-use Rattle.yq_edit_rules.{proofs.StandingMarks.{row_there, under_there}, proofs.StandingRows.rows_stand, proofs.TailPieces.white_piece}
+use Rattle.yq_edit_rules.{proofs.PlacementMarks.{row_there, under_there}, proofs.PlacementRows.rows_located, proofs.TailPieces.white_piece}
 use Rattle.yq_semantics.{specs.Changes.can_be_comment, specs.Meaning.line_comment_text, specs.Operations.{Operation, line_comment}}
 use Rattle.yq_edit_laws.proofs.LineTails.{written, new_white, new_comment, tail_then, new_tail, new_comment_is, line_tail_is, shape_same}
 use Rattle.yq_edit_laws.proofs.LineTails.{slices_tailed}
@@ -34,17 +34,17 @@ record IsCommentPut (h : Held) (white comment : List ℕ) (us : List Segment) : 
   new : new_text us ≡ held_text (record h { white = white; comment = comment })
   puts : are_kept us ≡ false
   front : (more : List ℕ) × (kept_front us ≡ h.before ++ more)
-  behind : kept_back us ≡ h.break ++ (h.lines ++ (h.last ++ h.behind))
+  after : kept_back us ≡ h.break ++ (h.lines ++ (h.last ++ h.after))
 
 comment_segments : (text : List ℕ) (h : Held) → IsCommentPut h (new_white text h.white h.comment) (new_comment text) (comment_put text h)
 comment_segments text h = go (is_empty text) (is_empty h.comment)
   where
     go : (a b : Bool) → IsCommentPut h (cond a (cond b h.white []) (cond b (h.white ++ 32 ∷ []) h.white)) (cond a [] (written text)) (keep h.before ∷ (keep h.space ∷ (keep h.head ∷ (cond (a && not b) (put h.white []) (keep h.white)
-        ∷ (put h.comment (cond a [] (cond b (32 ∷ (35 ∷ (32 ∷ text))) (35 ∷ (32 ∷ text)))) ∷ (keep h.break ∷ (keep h.lines ∷ (keep h.last ∷ (keep h.behind ∷ [])))))))))
-    go true true = record { old = simp append-nil refl; new = simp append-nil refl; puts = refl; front = (_, refl); behind = simp append-nil refl }
-    go true false = record { old = simp append-nil refl; new = simp append-nil refl; puts = refl; front = (_, refl); behind = simp append-nil refl }
-    go false true = record { old = simp append-nil refl; new = simp (append_assoc, append-nil) refl; puts = refl; front = (_, refl); behind = simp append-nil refl }
-    go false false = record { old = simp append-nil refl; new = simp append-nil refl; puts = refl; front = (_, refl); behind = simp append-nil refl }
+        ∷ (put h.comment (cond a [] (cond b (32 ∷ (35 ∷ (32 ∷ text))) (35 ∷ (32 ∷ text)))) ∷ (keep h.break ∷ (keep h.lines ∷ (keep h.last ∷ (keep h.after ∷ [])))))))))
+    go true true = record { old = simp append-nil refl; new = simp append-nil refl; puts = refl; front = (_, refl); after = simp append-nil refl }
+    go true false = record { old = simp append-nil refl; new = simp append-nil refl; puts = refl; front = (_, refl); after = simp append-nil refl }
+    go false true = record { old = simp append-nil refl; new = simp (append_assoc, append-nil) refl; puts = refl; front = (_, refl); after = simp append-nil refl }
+    go false false = record { old = simp append-nil refl; new = simp append-nil refl; puts = refl; front = (_, refl); after = simp append-nil refl }
 
 comment_piece : (text old : List ℕ) → IsPiece text → IsPiece (comment_written text old)
 comment_piece text old t = go (is_empty text) (is_empty old)
@@ -68,13 +68,13 @@ module _ (n : ℕ) (s : Step) (ss : List Step) (text : List ℕ) (c : Cut) (e : 
   sl = slices e.row
 
   abbrev u : List ℕ
-  u = rows_text e.under (behind_entry e)
+  u = rows_text e.under (after_entry e)
 
   abbrev us : List Segment
   us = comment_put text w
 
-  there : StandsThere n s ss c e
-  there = rows_stand n s ss c e read is
+  there : HasItsRows n s ss c e
+  there = rows_located n s ss c e read is
 
   found : IsEntryRow n (s ∷ ss) c e
   found = entry_found n (s ∷ ss) c e is
@@ -82,10 +82,10 @@ module _ (n : ℕ) (s : Step) (ss : List Step) (text : List ℕ) (c : Cut) (e : 
   no_breaks : Rattle.yq_core.proofs.Bytes.Each Rattle.yq_core.proofs.WrittenText.no_break text × IsPiece text
   no_breaks = line_text_is text utf8 fit
 
-  h : IsTail (slices e.row).tail ((slices e.row).raw ++ rows_text e.under (behind_entry e))
+  h : IsTail (slices e.row).tail ((slices e.row).raw ++ rows_text e.under (after_entry e))
   h = line_tail (parent_indent e.row) e.row.content u (row_there n s ss c e there).content
 
-  ends : end_in_line [] (slices e.row).tail ≡ record { before = []; white = h.white; comment = h.comment; behind = h.line.break }
+  ends : end_in_line [] (slices e.row).tail ≡ record { before = []; white = h.white; comment = h.comment; after = h.line.break }
   ends = end_agrees sl.tail _ h
 
   abbrev tail : List ℕ
@@ -98,10 +98,10 @@ module _ (n : ℕ) (s : Step) (ss : List Step) (text : List ℕ) (c : Cut) (e : 
   k = comment_segments text w
 
   -- what the key or dash holds then
-  text_is : new_text (comment_put text (held e)) ≡ before_entry e ++ print_row new (rows_text e.under (behind_entry e))
+  text_is : new_text (comment_put text (held e)) ≡ before_entry e ++ print_row new (rows_text e.under (after_entry e))
   text_is =
       let below : List ℕ = sl.raw ++ rows_text e.under [] in
-      let end_then : LineEnd → LineEnd = λ a. record { before = []; white = new_white text a.white a.comment; comment = new_comment text; behind = a.behind } in
+      let end_then : LineEnd → LineEnd = λ a. record { before = []; white = new_white text a.white a.comment; comment = new_comment text; after = a.after } in
       k.new
       ∙ sym (held_spelled (record e { row = new })
       ∙ ((λ i. held_text (held_by e (slices_tailed e.row tail i) (end_in_line [] (slices_tailed e.row tail i).tail) ((slices_tailed e.row tail i).raw ++ rows_text e.under [])))
@@ -113,21 +113,21 @@ module _ (n : ℕ) (s : Step) (ss : List Step) (text : List ℕ) (c : Cut) (e : 
       p : HoldsPieces (held e)
       p = (held_spells n s ss c e read is last).1
 
-      more : IsPiece (comment_written text (held e).comment) × ArePieces (keep w.break ∷ (keep w.lines ∷ (keep w.last ∷ (keep w.behind ∷ []))))
-      more = (comment_piece text w.comment no_breaks.1, (p.break, (p.lines, (p.last, (p.behind, tt)))))
+      more : IsPiece (comment_written text (held e).comment) × ArePieces (keep w.break ∷ (keep w.lines ∷ (keep w.last ∷ (keep w.after ∷ []))))
+      more = (comment_piece text w.comment no_breaks.1, (p.break, (p.lines, (p.last, (p.after, tt)))))
 
       go : (b : Bool) → ArePieces
           (keep w.before ∷ (keep w.space
           ∷ (keep w.head ∷ (cond b (put w.white []) (keep w.white)
-          ∷ (put w.comment (comment_written text w.comment) ∷ (keep w.break ∷ (keep w.lines ∷ (keep w.last ∷ (keep w.behind ∷ [])))))))))
+          ∷ (put w.comment (comment_written text w.comment) ∷ (keep w.break ∷ (keep w.lines ∷ (keep w.last ∷ (keep w.after ∷ [])))))))))
       go true = (p.before, (p.space, (p.head, (nothing, more))))
       go false = (p.before, (p.space, (p.head, (subst (λ (a : LineEnd). IsPiece a.white) (sym ends) (white_piece h.white h.line.blank), more))))
 
   puts : PutsRow op c (first_row n s ss c e there) new (comment_put text (held e))
   puts =
-      let z : List ℕ = behind_entry e in
+      let z : List ℕ = after_entry e in
       let below : List ℕ = sl.raw ++ rows_text e.under [] in
-      let line : List ℕ = (end_in_line [] sl.tail).behind in
+      let line : List ℕ = (end_in_line [] sl.tail).after in
       record {
         old = k.old ∙ sym (held_there n (s ∷ ss) c e is);
         text = text_is ∙ sym (text_now op c (first_row n s ss c e there) new ∙ ap (λ l. before_entry e ++ print_row new l) (under_there n s ss c e there));
@@ -139,10 +139,10 @@ module _ (n : ℕ) (s : Step) (ss : List Step) (text : List ℕ) (c : Cut) (e : 
           length-append (before_entry e ++ row_front e.row) (anchor_before sl),
           length-append (before_entry e) (row_front e.row),
         );
-        behind = omega (
+        after = omega (
           arith,
           ap length (under_there n s ss c e there),
-          ap length (k.behind ∙ sym (below_is below line z)),
+          ap length (k.after ∙ sym (below_is below line z)),
           length-append line (below ++ z),
           length-append below z,
           length-append sl.raw (rows_text e.under []),

@@ -7,9 +7,9 @@ use Rattle.yq_core.specs.Text.{front, is_white, is_line, is_empty, ends_line, no
 use Rattle.yq_outline.specs.Comments.{line_comment as comment_in}
 use Rattle.yq_row_table.{specs.Gap.{IsWhite, IsBreak, IsComment}, specs.Grammar.{IsTail, IsContent}}
 use Rattle.yq_row_table.{specs.Rows.{Content, Nothing, Inline, Block, Row}, specs.View.{content_cut, slices}}
-use Rattle.yq_row_table.proofs.LineEnds.{white_none, text_line, white_again, behind_comment}
+use Rattle.yq_row_table.proofs.LineEnds.{white_none, text_line, white_again, after_comment}
 use Rattle.yq_edit_rules.{specs.PathTails.{IsLineTail, tailed}, specs.Rooms.row_shape}
-use Rattle.yq_edit_rules.proofs.CommentReadLaws.{no_breaks_none, comment_behind, comment_is}
+use Rattle.yq_edit_rules.proofs.CommentReadLaws.{no_breaks_none, comment_after, comment_is}
 use Rattle.yq_semantics.specs.Meaning.{line_comment_text}
 
 -- ---- what is there then
@@ -66,7 +66,7 @@ module _ (text tail more : List ℕ) (h : IsTail tail more) (no_breaks : Rattle.
 
   no_comment : (w : List ℕ) → IsWhite w → comment_in (w ++ h.line.break) ≡ None
   no_comment w b =
-      let parts = behind_comment [] h.line.break [] tt (alone h.line.ends) in
+      let parts = after_comment [] h.line.break [] tt (alone h.line.ends) in
       let front_white : no_white h.line.break ≡ true = ap no_white (sym (append-nil h.line.break)) ∙ parts.0 in
       let front_end : ends_line h.line.break ≡ true = ap ends_line (sym (append-nil h.line.break)) ∙ parts.2 in
       let past : past_white (w ++ h.line.break) ≡ h.line.break = ap (λ (x : List ℕ × List ℕ). x.1) (white_again w h.line.break b front_white) in
@@ -79,10 +79,10 @@ module _ (text tail more : List ℕ) (h : IsTail tail more) (no_breaks : Rattle.
       go : (u : List ℕ) → text ≡ u → comment_in (new_white text h.white h.comment ++ (new_comment text ++ h.line.break)) ≡ line_comment_text u
       go [] e = ap (λ t. comment_in (new_white text h.white h.comment ++ (new_comment t ++ h.line.break))) e ∙ no_comment (new_white text h.white h.comment) blank
       go (b ∷ u) e =
-          let parts = behind_comment [] h.line.break [] tt (alone h.line.ends) in
+          let parts = after_comment [] h.line.break [] tt (alone h.line.ends) in
           let front_end : ends_line h.line.break ≡ true = ap ends_line (sym (append-nil h.line.break)) ∙ parts.2 in
           ap (λ t. comment_in (new_white text h.white h.comment ++ (new_comment t ++ h.line.break))) e
-          ∙ (comment_behind (new_white text h.white h.comment) h.line.break (32 ∷ (b ∷ u)) blank
+          ∙ (comment_after (new_white text h.white h.comment) h.line.break (32 ∷ (b ∷ u)) blank
           ∙ comment_is (32 ∷ (b ∷ u)) h.line.break (refl, no_breaks_none (b ∷ u) h.line.break (subst (Rattle.yq_core.proofs.Bytes.Each Rattle.yq_core.proofs.WrittenText.no_break) e no_breaks)) front_end)
 
   -- it may end a header
@@ -102,7 +102,7 @@ module _ (text tail more : List ℕ) (h : IsTail tail more) (no_breaks : Rattle.
       ∙ (text_line (new_white text h.white h.comment ++ new_comment text) h.line.break
       (white_none (new_white text h.white h.comment) (new_comment text) h.line.break blank
       (Rattle.yq_row_table.proofs.LineEnds.comment_none (new_comment text) h.line.break as_comment)) ∙ break_line) in
-      let parts = behind_comment (new_comment text) h.line.break [] as_comment (alone h.line.ends) in
+      let parts = after_comment (new_comment text) h.line.break [] as_comment (alone h.line.ends) in
       let no_front : no_white (new_comment text ++ h.line.break) ≡ true = ap (λ x. no_white (new_comment text ++ x)) (sym (append-nil h.line.break)) ∙ parts.0 in
       let past : past_white tail_then ≡ new_comment text ++ h.line.break = ap (λ (x : List ℕ × List ℕ). x.1) (white_again (new_white text h.white h.comment) (new_comment text ++ h.line.break) blank no_front) in
       search (rules, append-nil, ⊎_elim, not-true, apart, white_front, blank, hash_front, as_comment, cases_Bool)

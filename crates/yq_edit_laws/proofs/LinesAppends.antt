@@ -5,19 +5,19 @@ use Rattle.std.specs.Option.{option_or}
 use Rattle.yq_text.specs.Script.{Segment}
 use Rattle.yq_core.{specs.Answers.◌>>=◌, specs.Paths.Step, specs.Text.is_empty, specs.Tree.Node}
 use Rattle.yq_outline.specs.Outline.{null_node}
-use Rattle.yq_row_table.{specs.Exchange.row_front, specs.Rows.{Cut, Row, behind_indent, cut_text, print_row, rows_text}}
+use Rattle.yq_row_table.{specs.Exchange.row_front, specs.Rows.{Cut, Row, after_indent, cut_text, print_row, rows_text}}
 use Rattle.yq_documents.specs.Reading.{read_at}
 use Rattle.yq_semantics.specs.Operations.{append}
 use Rattle.yq_places.{specs.CollectionEnds.CollectionEnd, specs.FlowNodes.flow_collection, specs.PlacedRows.{PlacedPart, placed_document}}
 use Rattle.yq_places.specs.RowPieces.{upto_dash}
-use Rattle.yq_places.specs.Standings.{LinesIn, RowsOfEntry, Standing, alone, before_entry, behind_entry, behind_mark, compact_in}
-use Rattle.yq_places.specs.Standings.{compact_lines, dash_text, entry_standing, is_alone, lone, root, root_lines, root_standing}
-use Rattle.yq_places.specs.Standings.{rows_of_entry, standing_at}
+use Rattle.yq_places.specs.Placements.{LinesIn, RowsOfEntry, Placement, alone, before_entry, after_entry, past_mark, compact_in}
+use Rattle.yq_places.specs.Placements.{compact_lines, dash_text, entry_placement, is_alone, lone, root, root_lines, root_placement}
+use Rattle.yq_places.specs.Placements.{rows_of_entry, placement_at}
 use Rattle.yq_edit_rules.{specs.declared.layout.Layout.Layout, specs.CollectionPlaces.IsCollectionEnd, specs.Edits.op_edits}
 use Rattle.yq_edit_rules.{specs.EntryEdits.{block_more, more_lines}, specs.FlowParts.flow_more, specs.Layouts.layout_of}
-use Rattle.yq_edit_rules.{specs.PiecePuts.behind_lines, specs.RowChanges.PutsOne, specs.StandingLaws.StandsThere}
+use Rattle.yq_edit_rules.{specs.PiecePuts.after_lines, specs.RowChanges.PutsOne, specs.PlacementLaws.HasItsRows}
 use Rattle.yq_edit_rules.proofs.AppendPlaces.{IsAppendPlace}
-use Rattle.yq_edit_laws.{proofs.CollectionStands.{end_at, front_there, headless_dash, root_rows_there}, proofs.EntryAdds.AddsEntry}
+use Rattle.yq_edit_laws.{proofs.CollectionIsThere.{end_at, front_there, headless_dash, root_rows_there}, proofs.EntryAdds.AddsEntry}
 use Rattle.yq_edit_laws.proofs.FinalBreaks.{feed_last, last_feed}
 use Rattle.yq_edit_laws.proofs.MoreLaws.{compact_column, compact_end, compact_some, compact_spelled, compact_text, root_end, root_place}
 use Rattle.yq_edit_laws.{proofs.MoreLaws.{root_some, root_spelled, there}, proofs.OnePutLaws.lines_put_after}
@@ -25,8 +25,8 @@ use Rattle.yq_edit_laws.{proofs.MoreLaws.{root_some, root_spelled, there}, proof
 -- lines of a collection, which ends there
 module _ (m : ℕ) (steps : List Step) (key : List ℕ) (v : Node) (d : Cut) (w : LinesIn) (x : CollectionEnd) (place : IsAppendPlace m steps d x) (front back : List Row)
     (rows : (y : IsCollectionEnd d m place.part steps x) → (y.front ≡ front) × (y.back ≡ back)) (broken : is_empty w.last ≡ false) (ends : x.broken ≡ not (is_empty w.last))
-    (spelled : w.before ++ (w.lines ++ w.last) ≡ x.before) (behind : w.behind ≡ x.behind)
-    (more : (standing_at m steps d >>= block_more (layout_of m d) (Some key) v) ≡ Some (behind_lines w (more_lines (layout_of m d) (Some key) v x.column w.last))) where
+    (spelled : w.before ++ (w.lines ++ w.last) ≡ x.before) (after : w.after ≡ x.after)
+    (more : (placement_at m steps d >>= block_more (layout_of m d) (Some key) v) ≡ Some (after_lines w (more_lines (layout_of m d) (Some key) v x.column w.last))) where
   abbrev l : Layout
   l = layout_of m d
 
@@ -36,12 +36,12 @@ module _ (m : ℕ) (steps : List Step) (key : List ℕ) (v : Node) (d : Cut) (w 
   more_is : more_lines l (Some key) v x.column w.last ≡ lines
   more_is = search rules
 
-  edited : op_edits (append m steps (Some key) v) d ≡ Some (behind_lines w lines)
+  edited : op_edits (append m steps (Some key) v) d ≡ Some (after_lines w lines)
   edited =
       ap (λ (o : Option (List Segment)). option_or o (flow_collection m steps d >>= flow_more (cut_text d) (Some key) v)) more
-      ∙ ap (λ (t : List ℕ). Some (behind_lines w t)) more_is
+      ∙ ap (λ (t : List ℕ). Some (after_lines w t)) more_is
 
-  pub lines_adds : AddsEntry m steps key v d place.part front back x.column x.before x.behind
+  pub lines_adds : AddsEntry m steps key v d place.part front back x.column x.before x.after
   lines_adds = record {
     x = x;
     place = place;
@@ -49,12 +49,12 @@ module _ (m : ℕ) (steps : List Step) (key : List ℕ) (v : Node) (d : Cut) (w 
     rows = rows;
     column_is = refl;
     before = refl;
-    behind = refl;
+    after = refl;
     broken = ends ∙ ap not broken;
-    segments = behind_lines w lines;
+    segments = after_lines w lines;
     edited = edited;
-    puts = subst (λ (t : List ℕ). PutsOne (behind_lines w lines) x.before [] lines t) behind
-        (subst (λ (t : List ℕ). PutsOne (behind_lines w lines) t [] lines w.behind) spelled (lines_put_after w lines));
+    puts = subst (λ (t : List ℕ). PutsOne (after_lines w lines) x.before [] lines t) after
+        (subst (λ (t : List ℕ). PutsOne (after_lines w lines) t [] lines w.after) spelled (lines_put_after w lines));
   }
 
 -- ---- a root
@@ -64,7 +64,7 @@ module _ (m : ℕ) (d : Cut) (q : PlacedPart) (read : read_at (cut_text d) ≡ S
   root_w = root_lines q r rs
 
   abbrev own : List ℕ
-  own = behind_indent r (rows_text rs [])
+  own = after_indent r (rows_text rs [])
 
   abbrev upto : List ℕ
   upto = q.before ++ rows_text q.part.rows []
@@ -84,15 +84,15 @@ module _ (m : ℕ) (d : Cut) (q : PlacedPart) (read : read_at (cut_text d) ≡ S
       let lf = feed_last own broken in
       (root_w.before ++ lf.0, parts ∙ (ap (λ (t : List ℕ). root_w.before ++ t) lf.1 ∙ sym (append_assoc root_w.before lf.0 (10 ∷ []))))
 
-  pub root_adds : (key : List ℕ) (v : Node) → is_empty root_w.last ≡ false → AddsEntry m [] key v d q.part q.part.rows [] r.column upto (q.part.end ++ q.behind)
+  pub root_adds : (key : List ℕ) (v : Node) → is_empty root_w.last ≡ false → AddsEntry m [] key v d q.part q.part.rows [] r.column upto (q.part.end ++ q.after)
   root_adds key v broken =
       let x : CollectionEnd = root_end m d q read at r rs are single in
       let place : IsAppendPlace m [] d x = root_place m d q read at r rs are single in
-      let stands : standing_at m [] d ≡ Some (root r.column root_w) =
-      ap (option_map (λ (p : PlacedPart). root_standing p p.part.rows)) at
-      ∙ (ap (λ (us : List Row). Some (root_standing q us)) are ∙ ap (λ (b : Bool). Some (cond b (alone (lone q.before r (rows_text rs (q.part.end ++ q.behind)))) (root r.column root_w))) single) in
+      let is_located : placement_at m [] d ≡ Some (root r.column root_w) =
+      ap (option_map (λ (p : PlacedPart). root_placement p p.part.rows)) at
+      ∙ (ap (λ (us : List Row). Some (root_placement q us)) are ∙ ap (λ (b : Bool). Some (cond b (alone (lone q.before r (rows_text rs (q.part.end ++ q.after)))) (root r.column root_w))) single) in
       lines_adds m [] key v d root_w x place q.part.rows [] (λ y. root_rows_there m d q.part x y) broken refl (root_spelled m d q read at r rs are single) refl
-      (ap (λ (o : Option Standing). o >>= block_more (layout_of m d) (Some key) v) stands)
+      (ap (λ (o : Option Placement). o >>= block_more (layout_of m d) (Some key) v) is_located)
 
 -- ---- after a dash
 
@@ -100,8 +100,8 @@ module _ (m : ℕ) (s : Step) (ss : List Step) (d : Cut) (e : RowsOfEntry) (read
   abbrev compact_w : LinesIn
   compact_w = compact_lines e
 
-  abbrev pub dash_stands : StandsThere m s ss d e
-  dash_stands = there m s ss None null_node d e read found
+  abbrev pub dash_is_there : HasItsRows m s ss d e
+  dash_is_there = there m s ss None null_node d e read found
 
   abbrev dash_upto : List ℕ
   dash_upto = before_entry e ++ print_row e.row (rows_text e.under [])
@@ -119,18 +119,18 @@ module _ (m : ℕ) (s : Step) (ss : List Step) (d : Cut) (e : RowsOfEntry) (read
       let lf = feed_last (dash_text e) broken in
       (compact_w.before ++ lf.0, dash_parts ∙ (ap (λ (t : List ℕ). compact_w.before ++ t) lf.1 ∙ sym (append_assoc compact_w.before lf.0 (10 ∷ []))))
 
-  dash_standing : entry_standing e ≡ compact_in e
-  dash_standing = go (eqb e.line (length e.row.dashes)) refl
+  dash_placement : entry_placement e ≡ compact_in e
+  dash_placement = go (eqb e.line (length e.row.dashes)) refl
     where
-      go : (b : Bool) → eqb e.line (length e.row.dashes) ≡ b → cond b (behind_mark e e.row.content) (compact_in e) ≡ compact_in e
+      go : (b : Bool) → eqb e.line (length e.row.dashes) ≡ b → cond b (past_mark e e.row.content) (compact_in e) ≡ compact_in e
       go true is = absurd (omega (arith, less, eqb-true e.line (length e.row.dashes) is))
       go false is = refl
 
   pub compact_adds : (key : List ℕ) (v : Node) → is_empty compact_w.last ≡ false →
-      AddsEntry m (s ∷ ss) key v d dash_stands.part (e.front ++ (e.row ∷ e.under)) e.back (compact_column m s ss None null_node d e read found less) dash_upto (behind_entry e)
+      AddsEntry m (s ∷ ss) key v d dash_is_there.part (e.front ++ (e.row ∷ e.under)) e.back (compact_column m s ss None null_node d e read found less) dash_upto (after_entry e)
   compact_adds key v broken =
-      let x : CollectionEnd = end_at m s ss d e dash_stands (compact_column m s ss None null_node d e read found less) (not (is_empty compact_w.last)) in
-      let place : IsAppendPlace m (s ∷ ss) d x = record { part = dash_stands.part; there = dash_stands.old.there; end = compact_end m s ss None null_node d e read found less } in
-      lines_adds m (s ∷ ss) key v d compact_w x place (e.front ++ (e.row ∷ e.under)) e.back (λ y. front_there m s ss d e dash_stands x y (headless_dash m s ss d e dash_stands less)) broken refl
+      let x : CollectionEnd = end_at m s ss d e dash_is_there (compact_column m s ss None null_node d e read found less) (not (is_empty compact_w.last)) in
+      let place : IsAppendPlace m (s ∷ ss) d x = record { part = dash_is_there.part; there = dash_is_there.old.there; end = compact_end m s ss None null_node d e read found less } in
+      lines_adds m (s ∷ ss) key v d compact_w x place (e.front ++ (e.row ∷ e.under)) e.back (λ y. front_there m s ss d e dash_is_there x y (headless_dash m s ss d e dash_is_there less)) broken refl
       (compact_spelled m s ss None null_node d e read found less) refl
-      (ap (λ (o : Option Standing). o >>= block_more (layout_of m d) (Some key) v) (ap (option_map entry_standing) found ∙ ap Some dash_standing))
+      (ap (λ (o : Option Placement). o >>= block_more (layout_of m d) (Some key) v) (ap (option_map entry_placement) found ∙ ap Some dash_placement))

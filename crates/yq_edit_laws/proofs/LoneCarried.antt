@@ -5,20 +5,20 @@ use Rattle.yq_text.{specs.Limit.text_limit, specs.Script.{Segment, new_text, old
 use Rattle.yq_core.{specs.Paths.{Step, changed_at}, specs.Tree.Node, specs.declared.style.Place.TheVariants.Block as InBlock}
 use Rattle.yq_core.{specs.Nodes.node_text, proofs.NodesWrittenLaws.node_then}
 use Rattle.yq_flow_edits.specs.Valued.{IsValueTree}
-use Rattle.yq_row_table.{specs.Exchange.{asked_behind, row_front, with_content}, specs.Grammar.{IsMark, IsRow, IsTail, unlimited}}
-use Rattle.yq_row_table.specs.Rows.{Bare, Row, behind_gap, parent_indent, print_row, rows_text, Cut, cut_text, Part, part_text}
-use Rattle.yq_row_table.{specs.View.slices, proofs.CharacterLaws.ends_after, proofs.NodePieces.ends_behind}
+use Rattle.yq_row_table.{specs.Exchange.{asked_after, row_front, with_content}, specs.Grammar.{IsMark, IsRow, IsTail, unlimited}}
+use Rattle.yq_row_table.specs.Rows.{Bare, Row, following_gap, parent_indent, print_row, rows_text, Cut, cut_text, Part, part_text}
+use Rattle.yq_row_table.{specs.View.slices, proofs.CharacterLaws.ends_after, proofs.NodePieces.following_ends}
 use Rattle.yq_row_table.proofs.seams.SeamLaws.{rows_text-append}
 use Rattle.yq_documents.{specs.Documents.lead_of, specs.Reading.{documents, read_at, root_of}, specs.TreeEdits.replaced_node}
 use Rattle.yq_documents.specs.Pieces.{TextPiece}
-use Rattle.yq_places.{specs.PlacedRows.{PlacedPart, PlacedRow, placed_document}, specs.Standings.lone, proofs.CommentEndLaws.row_text_parts}
-use Rattle.yq_places.{proofs.CommentPieceLaws.gap_end, proofs.LineEndLaws.line_tail}
+use Rattle.yq_places.{specs.PlacedRows.{PlacedPart, PlacedRow, placed_document}, specs.Placements.lone}
+use Rattle.yq_places.{proofs.CommentEndLaws.row_text_parts, proofs.CommentPieceLaws.gap_end, proofs.LineEndLaws.line_tail}
 use Rattle.yq_places.{proofs.RemovalLines.{LiesIn, LineSeam, lies_in, seam_join}, proofs.RunSpans.rows_then}
-use Rattle.yq_edit_rules.{specs.DocumentRows.{IsDocumentPart, behind_document}, specs.InlineRows.LeadsToLone, specs.PlacedParts.StandsAt}
+use Rattle.yq_edit_rules.{specs.DocumentRows.{IsDocumentPart, after_document}, specs.InlineRows.LeadsToLone, specs.PlacedParts.IsDocumentAt}
 use Rattle.yq_edit_rules.{specs.Rooms.is_block_root, specs.TextPieces.IsPiece, proofs.CoreLaws.put_core, proofs.InlineReplaceLaws.own_rows}
-use Rattle.yq_edit_rules.{proofs.LeadLaws.same_lead_goes, proofs.PartLaws.document_known, proofs.PlacedPartLaws.document_stands_at}
+use Rattle.yq_edit_rules.{proofs.LeadLaws.same_lead_goes, proofs.PartLaws.document_known, proofs.PlacedPartLaws.document_is_there_at}
 use Rattle.yq_edit_rules.proofs.RemovalPieceLaws.{seam_pieces, spaces_piece}
-use Rattle.yq_edit_rules.{proofs.TextPieceLaws.{cut_behind, pieces_joined, text_is_piece}, specs.EditLaws.{CarriedOut, IsEdit}}
+use Rattle.yq_edit_rules.{proofs.TextPieceLaws.{cut_after, pieces_joined, text_is_piece}, specs.EditLaws.{CarriedOut, IsEdit}}
 use Rattle.yq_edit_rules.{specs.ReplaceEdits.{spaced_text, lone_put}, specs.WrittenValues.value_text}
 use Rattle.yq_edit_rules.{proofs.EditsFitLaws.{FitsReplace, fits_replace}, proofs.KeptLaws.led_same}
 use Rattle.yq_edit_rules.{proofs.TailPieces.{HasTailPieces, pieces}, proofs.ValueTexts.{IsWrittenFor, value_for}}
@@ -30,15 +30,15 @@ use Rattle.yq_edit_laws.proofs.LoneContents as contents
 -- A row that is alone on its line, among the rows of a document, to whose content steps lead; the rows before it end in an LF.
 module _ (n : ℕ) (steps : List Step) (v : Node) (c : Cut) (read : read_at (cut_text c) ≡ Some c) (d : PlacedPart)
     (placed : placed_document n c ≡ Some d) (front : List Row) (r : Row) (back : List Row) (rows_are : d.part.rows ≡ front ++ (r ∷ back))
-    (mark : r.mark ≡ Bare) (no_dashes : r.dashes ≡ []) (leads : LeadsToLone d.part steps front r) (ended : LineSeam (rows_text front []) (rows_text (r ∷ back) (d.part.end ++ d.behind))) where
+    (mark : r.mark ≡ Bare) (no_dashes : r.dashes ≡ []) (leads : LeadsToLone d.part steps front r) (ended : LineSeam (rows_text front []) (rows_text (r ∷ back) (d.part.end ++ d.after))) where
   abbrev z : List ℕ
-  z = rows_text back (d.part.end ++ d.behind)
+  z = rows_text back (d.part.end ++ d.after)
 
   abbrev base : List ℕ
   base = d.before ++ rows_text front []
 
   abbrev w : TextPiece
-  w = lone (d.before ++ rows_text front []) r (rows_text back (d.part.end ++ d.behind))
+  w = lone (d.before ++ rows_text front []) r (rows_text back (d.part.end ++ d.after))
 
   abbrev us : List Segment
   us = lone_put w v
@@ -46,14 +46,14 @@ module _ (n : ℕ) (steps : List Step) (v : Node) (c : Cut) (read : read_at (cut
   abbrev t : List ℕ
   t = value_text InBlock (slices r).head v
 
-  stands : StandsAt c n d
-  stands = document_stands_at c n d placed
+  is_located : IsDocumentAt c n d
+  is_located = document_is_there_at c n d placed
 
   old : IsDocumentPart (cut_text c) c n d.part
-  old = record { read = read; there = stands.there }
+  old = record { read = read; there = is_located.there }
 
-  row : IsRow (asked_behind unlimited front) r z
-  row = subst (λ u. IsRow (asked_behind unlimited front) r (rows_text back (d.part.end ++ u))) stands.behind (own_rows (cut_text c) c n d.part front r back old rows_are).0
+  row : IsRow (asked_after unlimited front) r z
+  row = subst (λ u. IsRow (asked_after unlimited front) r (rows_text back (d.part.end ++ u))) is_located.after (own_rows (cut_text c) c n d.part front r back old rows_are).0
 
   place : IsLoneHead r.content
   place = lone_head (parent_indent r) r.content z row.content (subst (λ m. IsMark m r.content z) mark row.mark)
@@ -63,17 +63,17 @@ module _ (n : ℕ) (steps : List Step) (v : Node) (c : Cut) (read : read_at (cut
 
   -- ---- the text
 
-  rows_there : part_text d.part d.behind ≡ rows_text front [] ++ print_row r z
-  rows_there = ap (λ xs. rows_text xs (d.part.end ++ d.behind)) rows_are ∙ (rows_text-append front (r ∷ back) (d.part.end ++ d.behind) ∙ rows_then front (print_row r z))
+  rows_there : part_text d.part d.after ≡ rows_text front [] ++ print_row r z
+  rows_there = ap (λ xs. rows_text xs (d.part.end ++ d.after)) rows_are ∙ (rows_text-append front (r ∷ back) (d.part.end ++ d.after) ∙ rows_then front (print_row r z))
 
   text : cut_text c ≡ base ++ print_row r z
-  text = stands.text ∙ (ap (λ u. d.before ++ u) rows_there ∙ sym (append_assoc d.before (rows_text front []) (print_row r z)))
+  text = is_located.text ∙ (ap (λ u. d.before ++ u) rows_there ∙ sym (append_assoc d.before (rows_text front []) (print_row r z)))
 
-  whole : cut_text c ≡ w.before ++ (w.text ++ w.behind)
+  whole : cut_text c ≡ w.before ++ (w.text ++ w.after)
   whole = simp (append_assoc, text, row_text_parts, raw)
 
   old_is : old_text us ≡ cut_text c
-  old_is = ap (λ u. w.before ++ (w.text ++ u)) (append-nil w.behind) ∙ sym whole
+  old_is = ap (λ u. w.before ++ (w.text ++ u)) (append-nil w.after) ∙ sym whole
 
   -- ---- its pieces
 
@@ -83,15 +83,15 @@ module _ (n : ℕ) (steps : List Step) (v : Node) (c : Cut) (read : read_at (cut
   abbrev indent : List ℕ
   indent = (base ++ r.gap) ++ replicate r.column 32
 
-  seam : LineSeam (base ++ r.gap) (behind_gap r z)
+  seam : LineSeam (base ++ r.gap) (following_gap r z)
   seam =
-      seam_join base r.gap (behind_gap r z) (seam_join d.before (rows_text front []) (print_row r z) (subst (LineSeam d.before) rows_there lies.seam) ended)
-      (gap_end r.gap (behind_gap r z) row.gap)
+      seam_join base r.gap (following_gap r z) (seam_join d.before (rows_text front []) (print_row r z) (subst (LineSeam d.before) rows_there lies.seam) ended)
+      (gap_end r.gap (following_gap r z) row.gap)
 
   indent_piece : IsPiece indent
   indent_piece =
       pieces_joined (base ++ r.gap) (replicate r.column 32)
-      (seam_pieces (base ++ r.gap) (behind_gap r z) seam (subst IsPiece (text ∙ sym (append_assoc base r.gap (behind_gap r z))) (text_is_piece c read))).0
+      (seam_pieces (base ++ r.gap) (following_gap r z) seam (subst IsPiece (text ∙ sym (append_assoc base r.gap (following_gap r z))) (text_is_piece c read))).0
       (spaces_piece r.column)
 
   before_is : w.before ≡ indent ++ before_head r.content
@@ -103,48 +103,48 @@ module _ (n : ℕ) (steps : List Step) (v : Node) (c : Cut) (read : read_at (cut
       go : (before_head r.content ≡ []) ⊎ EndsLow (before_head r.content) → IsPiece (indent ++ before_head r.content)
       go (inl e) = subst IsPiece (sym (ap (λ u. indent ++ u) e ∙ append-nil indent)) indent_piece
       go (inr e) =
-          (cut_behind (indent ++ before_head r.content) (w.text ++ w.behind) (subst IsPiece (whole ∙ ap (λ u. u ++ (w.text ++ w.behind)) before_is) (text_is_piece c read)) (ends_behind indent (before_head r.content) e.0)
+          (cut_after (indent ++ before_head r.content) (w.text ++ w.after) (subst IsPiece (whole ∙ ap (λ u. u ++ (w.text ++ w.after)) before_is) (text_is_piece c read)) (following_ends indent (before_head r.content) e.0)
           (ends_after indent (before_head r.content) e.1)).0
 
   tail : IsTail (slices r).tail ((slices r).raw ++ z)
   tail = line_tail (parent_indent r) r.content z row.content
 
-  behind_piece : IsPiece w.behind
-  behind_piece =
-      let at : PlacedRow = record { before = base; row = r; line = 0; behind = z } in
-      let k : HasTailPieces at (slices r).tail ((slices r).raw ++ z) tail = pieces at (asked_behind unlimited front) row (subst IsPiece text (text_is_piece c read)) tail in
+  after_piece : IsPiece w.after
+  after_piece =
+      let at : PlacedRow = record { before = base; row = r; line = 0; after = z } in
+      let k : HasTailPieces at (slices r).tail ((slices r).raw ++ z) tail = pieces at (asked_after unlimited front) row (subst IsPiece text (text_is_piece c read)) tail in
       let parts : (tail.white ++ tail.comment) ++ (tail.line.break ++ ((slices r).raw ++ z)) ≡ (tail.white ++ (tail.comment ++ tail.line.break)) ++ ((slices r).raw ++ z) = simp append_assoc refl in
       subst IsPiece (parts ∙ (ap (λ u. u ++ ((slices r).raw ++ z)) (sym tail.line.spelled) ∙ ap (λ u. (slices r).tail ++ (u ++ z)) raw))
-      (pieces_joined (tail.white ++ tail.comment) (tail.line.break ++ ((slices r).raw ++ z)) k.line k.behind)
+      (pieces_joined (tail.white ++ tail.comment) (tail.line.break ++ ((slices r).raw ++ z)) k.line k.after)
 
   -- ---- the new text
 
   some_head : spaced_text w.text t ≡ t
   some_head = ap (λ b. cond b (32 ∷ t) t) place.some
 
-  new_is : new_text us ≡ w.before ++ (t ++ w.behind)
-  new_is = λ i. w.before ++ (some_head i ++ append-nil w.behind i)
+  new_is : new_text us ≡ w.before ++ (t ++ w.after)
+  new_is = λ i. w.before ++ (some_head i ++ append-nil w.after i)
 
   abbrev here : RowIn n c
-  here = record { part = d.part; old = old; start = d.before; put = λ x. stands.put x ∙ ap (λ u. d.before ++ part_text x u) (sym stands.behind); front = front; row = r; back = back; rows_are = rows_are }
+  here = record { part = d.part; old = old; start = d.before; put = λ x. is_located.put x ∙ ap (λ u. d.before ++ part_text x u) (sym is_located.after); front = front; row = r; back = back; rows_are = rows_are }
 
   carried : IsValueTree v → Fits (room_of (cut_text c)) (replace n steps v) (documents c) → length (new_text us) ≤ text_limit → CarriedOut (replace n steps v) c us
   carried tree fits =
       let p : Part = d.part in
       let op : Operation = replace n steps v in
-      let f : FitsReplace n steps v c p = fits_replace n steps v c p stands.there tree fits in
+      let f : FitsReplace n steps v c p = fits_replace n steps v c p is_located.there tree fits in
       let x : IsWrittenFor v t = value_for (slices r).head v tree f.deep f.long in
       let new : Row = with_content (put_core x.node r.content) r in
       let q : Part = contents.q c n p old front r back rows_are mark no_dashes steps leads v x.node x.is in
-      let spelled : node_text x.node ((slices r).tail ++ rows_text back (p.end ++ behind_document n c)) ≡ t ++ w.behind = search (rules, node_then, x, p) in
+      let spelled : node_text x.node ((slices r).tail ++ rows_text back (p.end ++ after_document n c)) ≡ t ++ w.after = search (rules, node_then, x, p) in
       let block : is_block_root q ≡ is_block_root p = contents.same_block c n p old front r back rows_are mark no_dashes steps leads v x.node x.is in
       let puts : PutsRow op c here new us = record {
         old = old_is;
         text = new_is ∙ sym (contents.text c n p old front r back rows_are mark no_dashes steps leads v x.node x.is d.before here.put ∙ ap (λ u. w.before ++ u) spelled);
         puts = refl;
         front = omega (arith, length-append w.before [], length-append base (row_front r ++ before_head r.content));
-        behind = omega (arith, ap (λ u. length (rows_text back (d.part.end ++ u))) stands.behind, length-append w.behind [], length-append (slices r).tail z);
-        pieces = (before_piece, (subst IsPiece (sym some_head) x.piece, (behind_piece, tt)));
+        after = omega (arith, ap (λ u. length (rows_text back (d.part.end ++ u))) is_located.after, length-append w.after [], length-append (slices r).tail z);
+        pieces = (before_piece, (subst IsPiece (sym some_head) x.piece, (after_piece, tt)));
       } in
       row_carried op c here new us puts (changed_at steps (replaced_node v)) (record {
         lead = lead_of p;

@@ -6,11 +6,11 @@ use Rattle.yq_core.{proofs.Bools.guard_then, specs.Nodes.node_text}
 use Rattle.yq_outline.{specs.Comments.head_comment, specs.Group.{group, is_fine}, specs.Outline.Line}
 use Rattle.yq_outline.{specs.Places.{FoundLine, content_under}, specs.Sound.is_entry_line, proofs.Finding.{FoundNode, path_node}}
 use Rattle.yq_outline.specs.Lines.{lines_of_rows, mark_line, line_mark}
-use Rattle.yq_row_table.specs.Exchange.{allows_first, asked_behind, row_front, with_content}
+use Rattle.yq_row_table.specs.Exchange.{allows_first, asked_after, row_front, with_content}
 use Rattle.yq_row_table.specs.Grammar.{Limit, unlimited, AreRows, IsContent, IsMark, IsRow, limit_after, may_be_alone, no_rows}
-use Rattle.yq_row_table.specs.Rows.{Bare, Content, Row, behind_gap, content_text, dashes_text, mark_column, mark_text, parent_indent}
+use Rattle.yq_row_table.specs.Rows.{Bare, Content, Row, following_gap, content_text, dashes_text, mark_column, mark_text, parent_indent}
 use Rattle.yq_row_table.{specs.Rows.{rows_text, Part, part_text, Cut, cut_text}, specs.View.content_cut, proofs.NothingLaws.gap_other}
-use Rattle.yq_row_table.{proofs.PlaceLaws.row_front-append, proofs.seams.FrontSeams.behind_row_some, proofs.seams.SeamLaws.rows_text-append}
+use Rattle.yq_row_table.{proofs.PlaceLaws.row_front-append, proofs.seams.FrontSeams.after_row_some, proofs.seams.SeamLaws.rows_text-append}
 use Rattle.yq_row_table.{proofs.splices.PartPlaces.part_ends, proofs.splices.SpliceTexts.{own_gap, own_end}}
 use Rattle.yq_documents.{specs.Documents.{document_parts, lead_of}, specs.Reading.{part_outline, read_at, root_of}}
 use Rattle.yq_documents.{specs.Ready.begins_no_node, specs.TreeEdits.replaced_node, proofs.PartRows.each, proofs.ReadLaws.text_takes}
@@ -18,10 +18,10 @@ use Rattle.yq_documents.specs.PartNumbers.{part_number}
 use Rattle.yq_places.{specs.RowPaths.IsReadable, proofs.RemovalLines.front_some, proofs.RowPathLaws.document_fine}
 use Rattle.yq_places.{proofs.RunSpans.rows_then, proofs.HeadSpanLaws.may_follow}
 use Rattle.yq_edit_rules.{specs.Changed.{IsChanged, put_document}, specs.Contents.{TakesContent, recontent}}
-use Rattle.yq_edit_rules.{specs.DocumentRows.{IsDocumentPart, behind_document}, specs.InlineRows.{IsValueNode, LeadsToLone}}
+use Rattle.yq_edit_rules.{specs.DocumentRows.{IsDocumentPart, after_document}, specs.InlineRows.{IsValueNode, LeadsToLone}}
 use Rattle.yq_edit_rules.{specs.Moved.dash_lines, specs.Rooms.is_block_root, specs.SoundRoots.MayReplace}
 use Rattle.yq_edit_rules.{proofs.ContentLaws.{lower_content_replaced, root_content_replaced}, proofs.CoreLaws.{put_core, recore}}
-use Rattle.yq_edit_rules.{proofs.InlineReplaceLaws.{next_stands, own_rows, tail_ends_plain}, proofs.LineLaws.above_mark}
+use Rattle.yq_edit_rules.{proofs.InlineReplaceLaws.{next_is_there, own_rows, tail_ends_plain}, proofs.LineLaws.above_mark}
 use Rattle.yq_edit_rules.{proofs.MarkFirst.no_node_first, proofs.PartLaws.document_known, proofs.CommentPutLaws.last_lines}
 use Rattle.yq_edit_rules.proofs.RowCommentLaws.{lead_content}
 use Rattle.yq_edit_rules.proofs.ValueContentLaws.{content_alone, content_head, content_is, content_keys, content_named, content_short}
@@ -32,10 +32,10 @@ use Rattle.yq_core.specs.Nodes as inline
 module _ (c : Cut) (n : ℕ) (p : Part) (old : IsDocumentPart (cut_text c) c n p) (front : List Row) (r : Row) (back : List Row) (rows_are : p.rows ≡ front ++ (r ∷ back)) (mark : r.mark ≡ Bare) (no_dashes : r.dashes ≡ [])
     (steps : List Step) (leads : LeadsToLone p steps front r) (v : Node) (node : inline.FlowNode) (is : IsValueNode v node) where
   abbrev rest : List ℕ
-  rest = rows_text back (p.end ++ behind_document n c)
+  rest = rows_text back (p.end ++ after_document n c)
 
   abbrev limit : Limit
-  limit = asked_behind unlimited front
+  limit = asked_after unlimited front
 
   abbrev new : Content
   new = put_core node r.content
@@ -43,7 +43,7 @@ module _ (c : Cut) (n : ℕ) (p : Part) (old : IsDocumentPart (cut_text c) c n p
   abbrev pub q : Part
   q = recontent front r back (put_core node r.content) p
 
-  own : AreRows limit (r ∷ back) p.end (behind_document n c)
+  own : AreRows limit (r ∷ back) p.end (after_document n c)
   own = own_rows (cut_text c) c n p front r back old rows_are
 
   alone : may_be_alone r.content ≡ true
@@ -57,18 +57,18 @@ module _ (c : Cut) (n : ℕ) (p : Part) (old : IsDocumentPart (cut_text c) c n p
   fine = document_fine p (each (document_parts c) (text_takes (cut_text c) c (guard_then (is_utf8 (cut_text c)) old.read).1).1 n p old.there)
 
   near : allows_first (record { column = Some (deeper (parent_indent r)) }) back ≡ true
-  near = next_stands p front r back rows_are (document_known (cut_text c) c n p old).even fine steps leads
+  near = next_is_there p front r back rows_are (document_known (cut_text c) c n p old).even fine steps leads
 
   -- ---- the row
 
   content_new : IsContent (parent_indent r) new rest
   content_new =
       content_is v node is (parent_indent r) r.content rest head.block own.0.content
-      (λ tail end. tail_ends_plain (parent_indent r) tail (limit_after r) back p.end (behind_document n c) end own.1 near (part_ends c (part_number n c) true (document_known (cut_text c) c n p old).cut.parts))
+      (λ tail end. tail_ends_plain (parent_indent r) tail (limit_after r) back p.end (after_document n c) end own.1 near (part_ends c (part_number n c) true (document_known (cut_text c) c n p old).cut.parts))
 
   row_new : IsRow limit (with_content new r) rest
   row_new = record {
-    gap = gap_other r.gap (behind_gap r rest) (behind_gap (with_content new r) rest) (behind_row_some limit r rest own.0) own.0.gap;
+    gap = gap_other r.gap (following_gap r rest) (following_gap (with_content new r) rest) (after_row_some limit r rest own.0) own.0.gap;
     allowed = own.0.allowed;
     unmarked = and_right (eqb r.column 0) _
         (ap is_marker (λ i. dashes_text (no_dashes i) (mark_text (mark i) (content_text new rest))) ∙ content_unmarked v node is (parent_indent r) r.content rest alone own.0.content);
@@ -85,7 +85,7 @@ module _ (c : Cut) (n : ℕ) (p : Part) (old : IsDocumentPart (cut_text c) c n p
 
   -- ---- the text
 
-  pub text : (start : List ℕ) → ((x : Part) → cut_text (put_document n x c) ≡ start ++ part_text x (behind_document n c)) →
+  pub text : (start : List ℕ) → ((x : Part) → cut_text (put_document n x c) ≡ start ++ part_text x (after_document n c)) →
       cut_text (put_document n q c) ≡ ((start ++ rows_text front []) ++ (row_front r ++ before_head r.content)) ++ node_text node ((content_cut r.content).4 ++ rest)
   text start put = search (rules, append_assoc, there, same_end, rows_text-append, rows_then, row_front-append, head, before_head)
 

@@ -11,14 +11,14 @@ use Rattle.yq_row_table.{specs.Grammar.{AreRows, unlimited}, specs.Rows.{Row, ro
 use Rattle.yq_row_table.proofs.seams.SeamLaws.{rows_text-append}
 use Rattle.yq_documents.{specs.Reading.{part_outline, read_at}, specs.LinesInRows.{RowLine, row_line_of}}
 use Rattle.yq_places.specs.PlacedRows.{PlacedPart, placed_document}
-use Rattle.yq_places.specs.Standings.{RowsOfEntry, before_entry, behind_entry, entry_rows_at, is_alone, lone, rows_of_entry}
+use Rattle.yq_places.specs.Placements.{RowsOfEntry, before_entry, after_entry, entry_rows_at, is_alone, lone, rows_of_entry}
 use Rattle.yq_places.{proofs.CommentPieceLaws.Ended, proofs.PrintedTexts.map_some, proofs.RemovalLines.LineSeam, proofs.RunSpans.rows_then}
 use Rattle.yq_places.proofs.UnderExchange.{lines_append}
-use Rattle.yq_edit_rules.{specs.DocumentRows.{IsDocumentPart, behind_document}, specs.InlineRows.{LeadsBelow, IsRootRow}}
-use Rattle.yq_edit_rules.{specs.PlacedParts.StandsAt, specs.StandingLaws.StandsThere, proofs.EndedRowLaws.rows_ended}
+use Rattle.yq_edit_rules.{specs.DocumentRows.{IsDocumentPart, after_document}, specs.InlineRows.{LeadsBelow, IsRootRow}}
+use Rattle.yq_edit_rules.{specs.PlacedParts.IsDocumentAt, specs.PlacementLaws.HasItsRows, proofs.EndedRowLaws.rows_ended}
 use Rattle.yq_edit_rules.{proofs.LineLaws.row_count, proofs.NodeLineLaws.under_even, proofs.PartLaws.{document_known, part_rows}}
-use Rattle.yq_edit_rules.{proofs.PlacedPartLaws.document_stands_at, proofs.StandingRows.rows_stand, proofs.UnderLaws.under_is}
-use Rattle.yq_edit_rules.{specs.EditLaws.IsEdit, specs.ReplaceEdits.lone_put, proofs.StandingMarks.under_it}
+use Rattle.yq_edit_rules.{proofs.PlacedPartLaws.document_is_there_at, proofs.PlacementRows.rows_located, proofs.UnderLaws.under_is}
+use Rattle.yq_edit_rules.{specs.EditLaws.IsEdit, specs.ReplaceEdits.lone_put, proofs.PlacementMarks.under_it}
 use Rattle.yq_semantics.specs.Operations.{replace}
 use Rattle.yq_edit_laws.proofs.LoneCarried.{lone_carried}
 use Rattle.yq_outline.specs.Outline as outline
@@ -57,14 +57,14 @@ module _ (n : ℕ) (s : Step) (ss : List Step) (v : Node) (c : Cut) (read : read
   at : rows_of_entry n (s ∷ ss) c ≡ Some e
   at = ap (λ (o : Option PlacedPart). o >>= λ q. option_map (entry_rows_at q) (row_line_of (s ∷ ss) q.part.rows)) placed ∙ ap (option_map (entry_rows_at d)) printed_line
 
-  there : StandsThere n s ss c e
-  there = rows_stand n s ss c e read at
+  there : HasItsRows n s ss c e
+  there = rows_located n s ss c e read at
 
-  stands : StandsAt c n d
-  stands = document_stands_at c n d placed
+  is_located : IsDocumentAt c n d
+  is_located = document_is_there_at c n d placed
 
   same : there.part ≡ d.part
-  same = same_Some _ _ (sym there.old.there ∙ stands.there)
+  same = same_Some _ _ (sym there.old.there ∙ is_located.there)
 
   even : IsEven (level_or 0 (part_outline there.part)) (part_outline there.part)
   even = (document_known (cut_text c) c n there.part there.old).even
@@ -101,44 +101,44 @@ module _ (n : ℕ) (s : Step) (ss : List Step) (v : Node) (c : Cut) (read : read
   rows_are : d.part.rows ≡ front ++ (r ∷ (rs ++ e.back))
   rows_are = search (rules, same, append_assoc)
 
-  ended : LineSeam (rows_text front []) (rows_text (r ∷ (rs ++ e.back)) (d.part.end ++ d.behind))
+  ended : LineSeam (rows_text front []) (rows_text (r ∷ (rs ++ e.back)) (d.part.end ++ d.after))
   ended =
-      let all : AreRows unlimited (e.front ++ (e.row ∷ (r ∷ (rs ++ e.back)))) d.part.end (behind_document n c) =
-      subst (λ (us : List Row). AreRows unlimited us d.part.end (behind_document n c)) (rows_are ∙ append_assoc e.front (e.row ∷ []) (r ∷ (rs ++ e.back)))
-      (part_rows (cut_text c) c n d.part (record { read = read; there = stands.there }) (document_known (cut_text c) c n d.part (record { read = read; there = stands.there })).cut) in
-      inr (subst (λ u. Ended (rows_text front []) (rows_text (r ∷ (rs ++ e.back)) (d.part.end ++ u))) stands.behind (rows_ended unlimited e.front e.row (r ∷ (rs ++ e.back)) d.part.end (behind_document n c) all))
+      let all : AreRows unlimited (e.front ++ (e.row ∷ (r ∷ (rs ++ e.back)))) d.part.end (after_document n c) =
+      subst (λ (us : List Row). AreRows unlimited us d.part.end (after_document n c)) (rows_are ∙ append_assoc e.front (e.row ∷ []) (r ∷ (rs ++ e.back)))
+      (part_rows (cut_text c) c n d.part (record { read = read; there = is_located.there }) (document_known (cut_text c) c n d.part (record { read = read; there = is_located.there })).cut) in
+      inr (subst (λ u. Ended (rows_text front []) (rows_text (r ∷ (rs ++ e.back)) (d.part.end ++ u))) is_located.after (rows_ended unlimited e.front e.row (r ∷ (rs ++ e.back)) d.part.end (after_document n c) all))
 
   -- the texts round it
   before_is : d.before ++ rows_text front [] ≡ before_entry e ++ print_row e.row []
   before_is = ap (λ t. d.before ++ t) (rows_text-append e.front (e.row ∷ []) [] ∙ rows_then e.front (print_row e.row [])) ∙ sym (append_assoc d.before (rows_text e.front []) (print_row e.row []))
 
-  behind_is : rows_text (rs ++ e.back) (d.part.end ++ d.behind) ≡ rows_text rs (behind_entry e)
-  behind_is = rows_text-append rs e.back (d.part.end ++ d.behind)
+  following_is : rows_text (rs ++ e.back) (d.part.end ++ d.after) ≡ rows_text rs (after_entry e)
+  following_is = rows_text-append rs e.back (d.part.end ++ d.after)
 
-  edit_there : IsEdit (replace n (s ∷ ss) v) c (lone_put (lone (before_entry e ++ print_row e.row []) r (rows_text rs (behind_entry e))) v)
+  edit_there : IsEdit (replace n (s ∷ ss) v) c (lone_put (lone (before_entry e ++ print_row e.row []) r (rows_text rs (after_entry e))) v)
   edit_there =
-      subst (λ (b : List ℕ). IsEdit (replace n (s ∷ ss) v) c (lone_put (lone b r (rows_text rs (behind_entry e))) v)) before_is
-      (subst (λ (z : List ℕ). IsEdit (replace n (s ∷ ss) v) c (lone_put (lone (d.before ++ rows_text front []) r z) v)) behind_is
+      subst (λ (b : List ℕ). IsEdit (replace n (s ∷ ss) v) c (lone_put (lone b r (rows_text rs (after_entry e))) v)) before_is
+      (subst (λ (z : List ℕ). IsEdit (replace n (s ∷ ss) v) c (lone_put (lone (d.before ++ rows_text front []) r z) v)) following_is
       (lone_carried n (s ∷ ss) v c read d placed front r (rs ++ e.back) rows_are (alone_row r alone).0 (alone_row r alone).1 leads ended))
 
 pub lone_edit : (n : ℕ) (s : Step) (ss : List Step) (v : Node) (c : Cut) (e : RowsOfEntry) (r : Row) (rs : List Row) → read_at (cut_text c) ≡ Some c → rows_of_entry n (s ∷ ss) c ≡ Some e → e.line ≡ length e.row.dashes →
-    e.under ≡ r ∷ rs → is_alone r ≡ true → IsEdit (replace n (s ∷ ss) v) c (lone_put (lone (before_entry e ++ print_row e.row []) r (rows_text rs (behind_entry e))) v)
+    e.under ≡ r ∷ rs → is_alone r ≡ true → IsEdit (replace n (s ∷ ss) v) c (lone_put (lone (before_entry e ++ print_row e.row []) r (rows_text rs (after_entry e))) v)
 lone_edit n s ss v c e r rs read at last under alone =
     let d = bind_some (placed_document n c) at in
     let x = map_some (row_line_of (s ∷ ss) d.0.part.rows) d.2 in
-    subst (λ (y : RowsOfEntry). y.line ≡ length y.row.dashes → y.under ≡ r ∷ rs → IsEdit (replace n (s ∷ ss) v) c (lone_put (lone (before_entry y ++ print_row y.row []) r (rows_text rs (behind_entry y))) v)) x.2
+    subst (λ (y : RowsOfEntry). y.line ≡ length y.row.dashes → y.under ≡ r ∷ rs → IsEdit (replace n (s ∷ ss) v) c (lone_put (lone (before_entry y ++ print_row y.row []) r (rows_text rs (after_entry y))) v)) x.2
     (λ own below. edit_there n s ss v c read d.0 d.1 x.0 x.1 r rs own below alone) last under
 
 -- ---- a root
 
 pub lone_root_edit : (n : ℕ) (v : Node) (c : Cut) (d : PlacedPart) (r : Row) (rs : List Row) → read_at (cut_text c) ≡ Some c → placed_document n c ≡ Some d → d.part.rows ≡ r ∷ rs → is_alone r ≡ true →
-    IsEdit (replace n [] v) c (lone_put (lone d.before r (rows_text rs (d.part.end ++ d.behind))) v)
+    IsEdit (replace n [] v) c (lone_put (lone d.before r (rows_text rs (d.part.end ++ d.after))) v)
 lone_root_edit n v c d r rs read placed are alone =
-    subst (λ (b : List ℕ). IsEdit (replace n [] v) c (lone_put (lone b r (rows_text rs (d.part.end ++ d.behind))) v)) (append-nil d.before)
+    subst (λ (b : List ℕ). IsEdit (replace n [] v) c (lone_put (lone b r (rows_text rs (d.part.end ++ d.after))) v)) (append-nil d.before)
     (lone_carried n [] v c read d placed [] r rs are (alone_row r alone).0 (alone_row r alone).1 root (inl refl))
   where
     old : IsDocumentPart (cut_text c) c n d.part
-    old = record { read = read; there = (document_stands_at c n d placed).there }
+    old = record { read = read; there = (document_is_there_at c n d placed).there }
 
     root : IsRootRow d.part r
     root =

@@ -5,7 +5,7 @@ use Rattle.std.{proofs.lemmas.Bool.false≢true, specs.Prelude.option_and_then}
 use Rattle.yq_core.{specs.Answers.◌>>=◌, specs.Entries.{PlacedEntry, flow_part_at, parts_of, placed_entry_at, tree_step}}
 use Rattle.yq_core.{specs.Keys.{EachHasUniqueKeys, HasUniqueKeys}, specs.Paths.{Step, further, is_here}, specs.Tree.key_label}
 use Rattle.yq_core.{specs.Places.{Parts, Placed, end, part}, specs.Trees.{parts_tree, placed_tree, unplaced_key}}
-use Rattle.yq_places.specs.FlowViews.{behind_anchor, collection_along, collection_of}
+use Rattle.yq_places.specs.FlowViews.{following_anchor, collection_along, collection_of}
 use Rattle.yq_edit_laws.specs.NearParts.{IsUniqueNode, is_collection}
 use Rattle.yq_core.specs.declared.path.Step as declared
 
@@ -61,13 +61,13 @@ coll_or_none o = o >>= λ e. collection_of e.1
 pub none_along : (steps : List Step) (p : Placed) → None ≡ placed_entry_at steps (None, p) → None ≡ collection_along steps p
 none_along steps p e = ap coll_or_none e
 
-is_own : (p : Placed) → is_collection p ≡ true → collection_of p ≡ Some (behind_anchor p)
+is_own : (p : Placed) → is_collection p ≡ true → collection_of p ≡ Some (following_anchor p)
 is_own p h = search (rules, false≢true)
 
 is_no_own : (p : Placed) → is_collection p ≡ false → collection_of p ≡ None
 is_no_own p h = search (rules, false≢true)
 
-pub own_along : (steps : List Step) (p : Placed) (e : PlacedEntry) → Some e ≡ placed_entry_at steps (None, p) → is_collection e.1 ≡ true → Some (behind_anchor e.1) ≡ collection_along steps p
+pub own_along : (steps : List Step) (p : Placed) (e : PlacedEntry) → Some e ≡ placed_entry_at steps (None, p) → is_collection e.1 ≡ true → Some (following_anchor e.1) ≡ collection_along steps p
 own_along steps p e at is = sym (is_own e.1 is) ∙ ap coll_or_none at
 
 pub no_own_along : (steps : List Step) (p : Placed) (e : PlacedEntry) → Some e ≡ placed_entry_at steps (None, p) → is_collection e.1 ≡ false → None ≡ collection_along steps p

@@ -12,8 +12,8 @@ use Rattle.yq_documents.specs.Reading.{documents, read_at}
 use Rattle.yq_flow_edits.{specs.FlowEdits.{FlowEdit, appending}, specs.Removals.removing, proofs.RemoveTexts.either}
 use Rattle.yq_places.{specs.FirstPlaces.first_removal, specs.FlowNodes.flow_collection, specs.NodesAt.node_in}
 use Rattle.yq_places.{specs.PlacedRows.{PlacedPart, placed_document}, specs.RemovalPlaces.{has_others_at, removal_place}}
-use Rattle.yq_places.specs.Standings.{Held, RowsOfEntry, Standing, alone, below, beside, block, compact, entry_standing, flow_standing}
-use Rattle.yq_places.specs.Standings.{held, last_step, no_rows, rows_of_entry, root, root_standing, standing_at, under}
+use Rattle.yq_places.specs.Placements.{Held, RowsOfEntry, Placement, alone, below, beside, block, compact, entry_placement, flow_placement}
+use Rattle.yq_places.specs.Placements.{held, last_step, no_rows, rows_of_entry, root, root_placement, placement_at, under}
 use Rattle.yq_places.proofs.PrintedTexts.{map_some}
 use Rattle.yq_semantics.{specs.Fits.Fits, specs.Operations.{replace, append, remove, line_comment, head_comment}, specs.Rooms.room_of}
 use Rattle.yq_edit_rules.{specs.declared.layout.Layout.Layout, specs.CommentEdits.{comment_put, head_comment_put, line_comment_put}}
@@ -53,30 +53,30 @@ scalar_near : (text : Bool) (br : List ℕ) (h : Held) (indent : ℕ) (w : Writt
 scalar_near text br h indent w s k = search (rules, block_near, string_near)
 
 -- what is somewhere, if it is after a key or dash, has its line
-abbrev StandsInLine : Standing → Type 0
-StandsInLine (alone w) = ⊤
-StandsInLine (beside h) = IsInLine h
-StandsInLine (under h column) = IsInLine h
-StandsInLine (compact m column w) = ⊤
-StandsInLine (block h indent) = IsInLine h
-StandsInLine (root column w) = ⊤
-StandsInLine (no_rows w) = ⊤
+abbrev HasItsLine : Placement → Type 0
+HasItsLine (alone w) = ⊤
+HasItsLine (beside h) = IsInLine h
+HasItsLine (under h column) = IsInLine h
+HasItsLine (compact m column w) = ⊤
+HasItsLine (block h indent) = IsInLine h
+HasItsLine (root column w) = ⊤
+HasItsLine (no_rows w) = ⊤
 
-value_near : (text : Bool) (l : Layout) (v : Node) (t : Standing) → StandsInLine t → InLines (value_put text l v t)
+value_near : (text : Bool) (l : Layout) (v : Node) (t : Placement) → HasItsLine t → InLines (value_put text l v t)
 value_near text l v t k = search (rules, nothing_line, held_near, scalar_near)
 
-below_in_line : (e : RowsOfEntry) → IsInLine (held e) → (rs : List Row) → StandsInLine (below e rs)
+below_in_line : (e : RowsOfEntry) → IsInLine (held e) → (rs : List Row) → HasItsLine (below e rs)
 below_in_line e k rs = search rules
 
-entry_in_line : (e : RowsOfEntry) → IsInLine (held e) → StandsInLine (entry_standing e)
+entry_in_line : (e : RowsOfEntry) → IsInLine (held e) → HasItsLine (entry_placement e)
 entry_in_line e k = search (rules, below_in_line)
 
-root_in_line : (d : PlacedPart) (rs : List Row) → StandsInLine (root_standing d rs)
+root_in_line : (d : PlacedPart) (rs : List Row) → HasItsLine (root_placement d rs)
 root_in_line d rs = search rules
 
-stands_in_line : (n : ℕ) (steps : List Step) (c : Cut) (t : Standing) → read_at (cut_text c) ≡ Some c → standing_at n steps c ≡ Some t → StandsInLine t
-stands_in_line n [] c t read at = let d = map_some (placed_document n c) at in subst StandsInLine d.2 (root_in_line d.0 d.0.part.rows)
-stands_in_line n (s ∷ ss) c t read at = let e = map_some (rows_of_entry n (s ∷ ss) c) at in subst StandsInLine e.2 (entry_in_line e.0 (held_in_line n s ss c e.0 read e.1))
+occurs_in_line : (n : ℕ) (steps : List Step) (c : Cut) (t : Placement) → read_at (cut_text c) ≡ Some c → placement_at n steps c ≡ Some t → HasItsLine t
+occurs_in_line n [] c t read at = let d = map_some (placed_document n c) at in subst HasItsLine d.2 (root_in_line d.0 d.0.part.rows)
+occurs_in_line n (s ∷ ss) c t read at = let e = map_some (rows_of_entry n (s ∷ ss) c) at in subst HasItsLine e.2 (entry_in_line e.0 (held_in_line n s ss c e.0 read e.1))
 
 -- ---- flow collections, Append and comments: one range, or two that touch
 
@@ -93,7 +93,7 @@ flow_more_near t key v w ss = go (appending (flow_key key) (flow_of v) w) (takes
     go e true is = subst InLines (same_Some _ _ is) (flow_near t e)
     go e false is = absurd (none-some _ is)
 
-more_near : (l : Layout) (key : Option (List ℕ)) (v : Node) (t : Standing) (ss : List Segment) → block_more l key v t ≡ Some ss → InLines ss
+more_near : (l : Layout) (key : Option (List ℕ)) (v : Node) (t : Placement) (ss : List Segment) → block_more l key v t ≡ Some ss → InLines ss
 more_near l key v t ss is = search (rules, none-some, same_Some, nothing_line)
 
 line_near : (text : List ℕ) (e : RowsOfEntry) (ss : List Segment) → line_comment_put text e ≡ Some ss → InLines ss
@@ -111,20 +111,20 @@ head_near br text e ss = search (rules, same_Some, nothing_line, none-some)
 replaced_near : (n : ℕ) (steps : List Step) (v : Node) (c : Cut) (ss : List Segment) → read_at (cut_text c) ≡ Some c → replace_segments n steps v c ≡ Some ss → InLines ss
 replaced_near n steps v c ss read is = go (keeps_scalar (node_in n steps c) v) is
   where
-    there : (option_map (value_put (has_text (node_in n steps c)) (layout_of n c) v) (standing_at n steps c) ≡ Some ss) ⊎ (option_map (flow_put (cut_text c) v) (flow_standing n c (last_step steps)) ≡ Some ss) → InLines ss
-    there (inl e) = let t = map_some (standing_at n steps c) e in subst InLines t.2 (value_near (has_text (node_in n steps c)) (layout_of n c) v t.0 (stands_in_line n steps c t.0 read t.1))
-    there (inr e) = let x = map_some (flow_standing n c (last_step steps)) e in subst InLines x.2 ((nothing_line, (nothing_line, tt)))
+    there : (option_map (value_put (has_text (node_in n steps c)) (layout_of n c) v) (placement_at n steps c) ≡ Some ss) ⊎ (option_map (flow_put (cut_text c) v) (flow_placement n c (last_step steps)) ≡ Some ss) → InLines ss
+    there (inl e) = let t = map_some (placement_at n steps c) e in subst InLines t.2 (value_near (has_text (node_in n steps c)) (layout_of n c) v t.0 (occurs_in_line n steps c t.0 read t.1))
+    there (inr e) = let x = map_some (flow_placement n c (last_step steps)) e in subst InLines x.2 ((nothing_line, (nothing_line, tt)))
 
     go : (b : Bool) → cond b (Some (keep (cut_text c) ∷ []))
-        (option_or (option_map (value_put (has_text (node_in n steps c)) (layout_of n c) v) (standing_at n steps c))
-        (option_map (flow_put (cut_text c) v) (flow_standing n c (last_step steps)))) ≡ Some ss →
+        (option_or (option_map (value_put (has_text (node_in n steps c)) (layout_of n c) v) (placement_at n steps c))
+        (option_map (flow_put (cut_text c) v) (flow_placement n c (last_step steps)))) ≡ Some ss →
         InLines ss
     go true e = subst InLines (same_Some _ _ e) tt
     go false e = there (either _ _ e)
 
 appended_near : (n : ℕ) (steps : List Step) (key : Option (List ℕ)) (v : Node) (c : Cut) (ss : List Segment) →
-    ((standing_at n steps c >>= block_more (layout_of n c) key v) ≡ Some ss) ⊎ ((flow_collection n steps c >>= flow_more (cut_text c) key v) ≡ Some ss) → InLines ss
-appended_near n steps key v c ss (inl e) = let t = bind_some (standing_at n steps c) e in more_near (layout_of n c) key v t.0 ss t.2
+    ((placement_at n steps c >>= block_more (layout_of n c) key v) ≡ Some ss) ⊎ ((flow_collection n steps c >>= flow_more (cut_text c) key v) ≡ Some ss) → InLines ss
+appended_near n steps key v c ss (inl e) = let t = bind_some (placement_at n steps c) e in more_near (layout_of n c) key v t.0 ss t.2
 appended_near n steps key v c ss (inr e) = let w = bind_some (flow_collection n steps c) e in flow_more_near (cut_text c) key v w.0 ss w.2
 
 module _ (n : ℕ) (steps : List Step) (c : Cut) (ss : List Segment) (read : read_at (cut_text c) ≡ Some c) (fits : Fits (room_of (cut_text c)) (remove n steps) (documents c)) (size : length (new_text ss) ≤ text_limit) where

@@ -7,7 +7,7 @@ use Rattle.yq_core.{specs.Paths.{Step, further, is_here}, specs.Places.{Parts, k
 use Rattle.yq_core.{specs.Trees.key_content, proofs.EditPlaces.{end_placed, entry_placed}, proofs.TreeLaws.key_tree}
 use Rattle.yq_inline.specs.Neighbours.{PartTexts, PartsAround, around_part, coll_around, coll_end, first_ends, first_text, last_ends}
 use Rattle.yq_inline.specs.Neighbours.{past_last}
-use Rattle.yq_flow_edits.specs.FlowEdits.{appending, behind_last}
+use Rattle.yq_flow_edits.specs.FlowEdits.{appending, after_last}
 use Rattle.yq_flow_edits.specs.FlowPlaces.{PlacedEdit, first_start, only_end, place_edit, remove_before, remove_between, remove_end}
 use Rattle.yq_flow_edits.{specs.FlowPlaces.{remove_part, remove_place}, specs.Removals.removing, proofs.RemovePlaces.coll_parts}
 use Rattle.yq_places.specs.FlowViews.{placed_collection}
@@ -43,12 +43,12 @@ module _ (t : List ℕ) (k : ℕ) where
       (option_or (last_gone (further s) (first_ends k key n sep is rest) (locate_items total k is rest)) (remove_part t (further s) (locate_items total k is rest)))
   unfolding locate_items
   at_first s key n sep is rest =
-      let behind : List ℕ = sep_text sep (flow_items_text k is rest) in
-      let own : List ℕ = key_text key (node_text n behind) in
+      let after : List ℕ = sep_text sep (flow_items_text k is rest) in
+      let own : List ℕ = key_text key (node_text n after) in
       let parts : Parts = locate_items total k is rest in
-      let start : entry_start (key_placed total own key, locate total n behind) ≡ total - length own = entry_placed total (record { key = key; node = n; rest = behind }) in
+      let start : entry_start (key_placed total own key, locate total n after) ≡ total - length own = entry_placed total (record { key = key; node = n; rest = after }) in
       λ i. cond (is_here s (key_label (key_tree total own key i))) (option_map (remove_before t (start i)) (first_start parts))
-      (option_or (option_map (remove_end t (start i) (end_placed total n behind i)) (only_end (further s) parts)) (remove_part t (further s) parts))
+      (option_or (option_map (remove_end t (start i) (end_placed total n after i)) (only_end (further s) parts)) (remove_part t (further s) parts))
 
   -- the one to which the step leads is the first of these, after this one
   after_one : (s : Step) (e : PartTexts) (is : Items) (rest : List ℕ) →
@@ -93,11 +93,11 @@ around_gone z is row text s =
 
 -- ---- one more
 
-behind_part : (k : ℕ) (gap : List ℕ) (key : Key) (n : FlowNode) (sep : Sep) (is : Items) (rest : List ℕ) (w : CollPieces) →
-    past_last w (last_ends k (Some (first_ends k key n sep is rest)) is rest) ≡ behind_last k gap (item key n sep is) rest
+after_part : (k : ℕ) (gap : List ℕ) (key : Key) (n : FlowNode) (sep : Sep) (is : Items) (rest : List ℕ) (w : CollPieces) →
+    past_last w (last_ends k (Some (first_ends k key n sep is rest)) is rest) ≡ after_last k gap (item key n sep is) rest
 unfolding flow_items_text
-behind_part k gap key n sep none rest w = refl
-behind_part k gap key n sep (item key2 n2 sep2 is) rest w = behind_part k gap key2 n2 sep2 is rest w
+after_part k gap key n sep none rest w = refl
+after_part k gap key n sep (item key2 n2 sep2 is) rest w = after_part k gap key2 n2 sep2 is rest w
 
 some_ends : (k : ℕ) (e : PartTexts) (is : Items) (rest : List ℕ) → is_some (last_ends k (Some e) is rest) ≡ true
 some_ends k e none rest = refl
@@ -105,4 +105,4 @@ some_ends k e (item key n sep is) rest = some_ends k (first_ends k key n sep is 
 
 -- the place where one more comes after the end of a collection
 pub end_is_there : (total : ℕ) (key : Key) (m : FlowNode) (w : CollPieces) → end_place (coll_end w).1 (total - length (coll_end w).2) ≡ place_edit total (appending key m w)
-end_is_there total key m w = search (rules, some_ends, behind_part)
+end_is_there total key m w = search (rules, some_ends, after_part)

@@ -5,7 +5,7 @@ use Rattle.yq_outline.specs.Places.{content_under}
 use Rattle.yq_row_table.{specs.Rows.{Row, print_row, rows_text, Cut, cut_text}, proofs.splices.SpliceTexts.own_end, specs.Items.rows_items}
 use Rattle.yq_documents.specs.Reading.{read_at, root_of}
 use Rattle.yq_places.specs.RowPaths.{IsReadable}
-use Rattle.yq_edit_rules.{specs.Appends.inserted, specs.Changed.put_document, specs.DocumentRows.behind_document}
+use Rattle.yq_edit_rules.{specs.Appends.inserted, specs.Changed.put_document, specs.DocumentRows.after_document}
 use Rattle.yq_edit_rules.{specs.SoundRoots.MayReplace, specs.Local.InFirst, specs.ReadsAfter.ReadsAfter, specs.EditLaws.CarriedOut}
 use Rattle.yq_edit_rules.{proofs.LastRows.lines_local, proofs.OneLines.is_one_line, proofs.LocalLaws.{RowsGiveWay, cut_known}}
 use Rattle.yq_semantics.specs.Operations.{replace}
@@ -17,7 +17,7 @@ pub record KeepsNode (doc : ℕ) (s : Step) (ss : List Step) (c : Cut) (h : Node
   pub lead : List ℕ
   pub trail : List ℕ
   pub before_is : kept_front us ≡ (h.start ++ rows_text h.front []) ++ lead
-  pub behind_is : kept_back us ≡ trail ++ rows_text h.back (h.p.end ++ behind_document doc c)
+  pub following_is : kept_back us ≡ trail ++ rows_text h.back (h.p.end ++ after_document doc c)
   pub one : is_one_line trail ≡ true
   pub begins : length lead ≤ length (print_row h.row [])
   pub puts : are_kept us ≡ false
@@ -44,7 +44,7 @@ module _ (doc : ℕ) (s : Step) (ss : List Step) (c : Cut) (h : NodeRows doc s s
         lead = n.lead;
         trail = n.trail;
         before_is = n.before_is;
-        behind_is = n.behind_is;
+        following_is = n.following_is;
         puts = n.puts;
         old_is = n.old_is;
         new_is = sym text;

@@ -3,7 +3,7 @@ use Rattle.std.proofs.Common.{◌≡◌, ℕ, ◌+◌, ◌≤◌, Bool, true, fa
 use Rattle.std.{proofs.Common.arith, proofs.lemmas.List.length-append}
 use Rattle.yq_core.specs.Text.{is_empty}
 use Rattle.yq_row_table.specs.Exchange.{row_front, with_content}
-use Rattle.yq_row_table.specs.Rows.{Content, content_text, Row, behind_dashes, behind_gap, behind_indent, dashes_text, print_row}
+use Rattle.yq_row_table.specs.Rows.{Content, content_text, Row, after_dashes, following_gap, after_indent, dashes_text, print_row}
 use Rattle.yq_row_table.{specs.View.{content_cut, slices}, proofs.PlaceLaws.{dashes_then, row_front-append}}
 use Rattle.yq_row_table.{proofs.seams.JoinLaws.dashes_text-append, proofs.SliceLaws.content_slices, specs.Items.rows_items}
 use Rattle.yq_places.specs.RowPieces.{anchor_before, space_before}
@@ -56,15 +56,15 @@ own_space_lead r =
 pub upto_long : {s r : Row} → IsUpto s r → length (row_front s) ≤ length (print_row r [])
 upto_long (at_mark {r} entry) = omega (arith, ap length (row_front-append r []), length-append (row_front r) (content_text r.content []))
 upto_long (at_dash {r} {ns} n ms is) =
-    let more : List ℕ = replicate n 32 ++ dashes_text ms (behind_dashes r []) in
-    let own : behind_indent r [] ≡ dashes_text ns (45 ∷ []) ++ more =
-    ap (λ ds. dashes_text ds (behind_dashes r [])) is ∙ (dashes_text-append ns (n ∷ ms) (behind_dashes r []) ∙ dashes_then ns (45 ∷ []) more) in
+    let more : List ℕ = replicate n 32 ++ dashes_text ms (after_dashes r []) in
+    let own : after_indent r [] ≡ dashes_text ns (45 ∷ []) ++ more =
+    ap (λ ds. dashes_text ds (after_dashes r [])) is ∙ (dashes_text-append ns (n ∷ ms) (after_dashes r []) ∙ dashes_then ns (45 ∷ []) more) in
     omega (
       arith,
       ap length own,
       length-append (dashes_text ns (45 ∷ [])) more,
-      length-append r.gap (behind_gap r []),
-      length-append (replicate r.column 32) (behind_indent r []),
+      length-append r.gap (following_gap r []),
+      length-append (replicate r.column 32) (after_indent r []),
       length-append r.gap (replicate r.column 32 ++ dashes_text ns (45 ∷ [])),
       length-append (replicate r.column 32) (dashes_text ns (45 ∷ [])),
     )

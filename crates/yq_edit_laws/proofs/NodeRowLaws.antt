@@ -6,12 +6,12 @@ use Rattle.yq_core.{specs.Paths.Step, proofs.Bools.guard_then}
 use Rattle.yq_outline.{specs.Comments.head_comment, specs.Group.{group, is_fine, level_or}, specs.Outline.{Line, level, flatten, IsEven}}
 use Rattle.yq_outline.{specs.Places.{lines_before, lines_after, FoundLine, find}, proofs.Decides.flatten-group}
 use Rattle.yq_outline.specs.Lines.{line_mark, lines_of_rows}
-use Rattle.yq_row_table.{specs.Exchange.{allows_first, asked_behind}, specs.Grammar.{Limit, unlimited, limit_after, AreRows, is_entry}}
+use Rattle.yq_row_table.{specs.Exchange.{allows_first, asked_after}, specs.Grammar.{Limit, unlimited, limit_after, AreRows, is_entry}}
 use Rattle.yq_row_table.specs.Rows.{Row, mark_column, rows_text, Part, part_text, Cut, cut_text}
 use Rattle.yq_documents.{specs.Documents.document_parts, specs.Reading.{part_outline, read_at}, proofs.PartRows.each}
 use Rattle.yq_documents.proofs.ReadLaws.{text_takes}
 use Rattle.yq_places.proofs.RowPathLaws.{StartsAt, document_fine, found_starts}
-use Rattle.yq_edit_rules.{specs.Changed.put_document, specs.DocumentRows.{IsDocumentPart, behind_document}, specs.LineRows.Begins}
+use Rattle.yq_edit_rules.{specs.Changed.put_document, specs.DocumentRows.{IsDocumentPart, after_document}, specs.LineRows.Begins}
 use Rattle.yq_edit_rules.{proofs.AppendLaws.around, proofs.InlineReplaceLaws.{next_by, own_rows}, proofs.LineLaws.dashes_count}
 use Rattle.yq_edit_rules.{proofs.PartLaws.document_known, proofs.PlacedLaws.{found_is_entry, rows_in_parts, same_parts, whole_line}}
 use Rattle.yq_edit_rules.{proofs.UnderLaws.{line_with, dashes_of}, proofs.FirstReplaceLaws.rows_after, specs.BlockPlaces.IsUpto}
@@ -34,14 +34,14 @@ pub record NodeRows (doc : ℕ) (s : Step) (ss : List Step) (c : Cut) : Type 0 w
   pub number : length (lines_of_rows front) + length mark.dashes ≡ length (lines_before found.place)
   pub count : length (lines_of_rows (row ∷ under)) ≡ length mark.dashes + suc (length (flatten found.under))
   pub start : List ℕ
-  pub put : (q : Part) → cut_text (put_document doc q c) ≡ start ++ part_text q (behind_document doc c)
+  pub put : (q : Part) → cut_text (put_document doc q c) ≡ start ++ part_text q (after_document doc c)
 
 module _ (doc : ℕ) (s : Step) (ss : List Step) (c : Cut) (h : NodeRows doc s ss c) where
   abbrev pub rest : List ℕ
-  rest = rows_text h.back (h.p.end ++ behind_document doc c)
+  rest = rows_text h.back (h.p.end ++ after_document doc c)
 
   abbrev pub limit : Limit
-  limit = asked_behind unlimited h.front
+  limit = asked_after unlimited h.front
 
   pub known_lines : lines_of_rows (h.row ∷ h.under) ≡ dashes_of h.mark ++ (line_with h.mark h.mark.content ∷ (lines_upto h.upto h.under).0)
   known_lines = (lines_upto h.upto h.under).1
@@ -93,8 +93,8 @@ module _ (doc : ℕ) (s : Step) (ss : List Step) (c : Cut) (h : NodeRows doc s s
       rank_high (outline.Key j) = omega arith
       rank_high outline.Dash = omega arith
 
-  pub rows_there : AreRows (asked_behind unlimited h.front) (h.row ∷ (h.under ++ h.back)) h.p.end (behind_document doc c)
+  pub rows_there : AreRows (asked_after unlimited h.front) (h.row ∷ (h.under ++ h.back)) h.p.end (after_document doc c)
   rows_there = own_rows (cut_text c) c doc h.p h.front h.row (h.under ++ h.back) h.old h.rows_are
 
-  pub back_there : AreRows (asked_behind (limit_after h.row) h.under) h.back h.p.end (behind_document doc c)
-  back_there = rows_after (limit_after h.row) h.under h.back h.p.end (behind_document doc c) rows_there.1
+  pub back_there : AreRows (asked_after (limit_after h.row) h.under) h.back h.p.end (after_document doc c)
+  back_there = rows_after (limit_after h.row) h.under h.back h.p.end (after_document doc c) rows_there.1

@@ -5,14 +5,14 @@ use Rattle.yq_core.{specs.Paths.{Step, changed_at}, specs.Tree.{Node, anchor_of}
 use Rattle.yq_outline.{specs.LineAnchors.HaveOneAnchorEach, specs.Comments.line_comment}
 use Rattle.yq_outline.specs.Outline.{Line, level, Outline, flatten, IsEven, IsOpen, anchored, head_or, label, value}
 use Rattle.yq_outline.{specs.Places.content_under, specs.Lines.{content_anchor, head_of, tail_of, lines_of_rows}}
-use Rattle.yq_row_table.{specs.Exchange.{allows_first, asked_behind}, specs.Gap.IsGap, specs.Grammar.{Limit, allows, AreRows, no_rows}}
+use Rattle.yq_row_table.{specs.Exchange.{allows_first, asked_after}, specs.Gap.IsGap, specs.Grammar.{Limit, allows, AreRows, no_rows}}
 use Rattle.yq_row_table.specs.Rows.{Content, Row, mark_column, print_row, rows_text, Part, Cut, cut_text}
-use Rattle.yq_row_table.{specs.Splices.{behind_first, first_gap}, proofs.seams.SeamLaws.rows_text-append}
+use Rattle.yq_row_table.{specs.Splices.{after_first, first_gap}, proofs.seams.SeamLaws.rows_text-append}
 use Rattle.yq_row_table.proofs.splices.SpliceTexts.{own_gap, own_end, first_text, first_is}
 use Rattle.yq_documents.{specs.Documents.{HaveFitKeys, lead_of}, specs.TreeEdits.{led, replaced_node}, specs.Ready.begins_no_node}
 use Rattle.yq_documents.specs.Reading.{root_of}
 use Rattle.yq_places.{specs.RowPaths.IsReadable, proofs.RunSpans.rows_then}
-use Rattle.yq_edit_rules.{specs.Appends.inserted, specs.Changed.{IsChanged, put_document}, specs.DocumentRows.behind_document}
+use Rattle.yq_edit_rules.{specs.Appends.inserted, specs.Changed.{IsChanged, put_document}, specs.DocumentRows.after_document}
 use Rattle.yq_edit_rules.{specs.Edited.LineFits, specs.Replaces.{RowsReplace, TakesLines}, specs.Rooms.is_block_root}
 use Rattle.yq_edit_rules.{specs.SoundRoots.MayReplace, proofs.AppendLaws.around, proofs.LeadLaws.same_lead_goes}
 use Rattle.yq_edit_rules.{proofs.PlacedLaws.rows_in_parts, proofs.ReplaceLaws.{node_rows_replaced, rows_before_some}}
@@ -38,7 +38,7 @@ pub record TakesNode (doc : ℕ) (s : Step) (ss : List Step) (c : Cut) (h : Node
   pub more : List Row
   pub new_is : new ≡ first ∷ more
   pub gap_is : first.gap ≡ h.row.gap
-  pub replaces : Replaces (limit doc s ss c h) (mark_column h.mark) h.row (rows_text (h.under ++ h.back) (h.p.end ++ behind_document doc c)) new (rest doc s ss c h)
+  pub replaces : Replaces (limit doc s ss c h) (mark_column h.mark) h.row (rows_text (h.under ++ h.back) (h.p.end ++ after_document doc c)) new (rest doc s ss c h)
   pub content : Content
   pub level : ℕ
   pub under : Outline
@@ -54,23 +54,23 @@ pub record TakesNode (doc : ℕ) (s : Step) (ss : List Step) (c : Cut) (h : Node
 
 module _ (doc : ℕ) (s : Step) (ss : List Step) (c : Cut) (h : NodeRows doc s ss c) (v : Node) (new : List Row) (t : TakesNode doc s ss c h v new) where
   abbrev z : List ℕ
-  z = behind_document doc c
+  z = after_document doc c
 
   abbrev pub q : Part
   q = inserted h.front new h.back h.p
 
   -- the rows are there
-  replace_rows : RowsReplace h.front (h.row ∷ h.under) new h.back (first_gap h.back h.p.end) h.p (behind_document doc c)
+  replace_rows : RowsReplace h.front (h.row ∷ h.under) new h.back (first_gap h.back h.p.end) h.p (after_document doc c)
   replace_rows =
-      let text : rows_text h.back (h.p.end ++ z) ≡ first_gap h.back h.p.end ++ behind_first h.back h.p.end z = first_text h.back h.p.end z in
-      let stay : AreRows (limit doc s ss c h) new [] (first_gap h.back h.p.end ++ behind_first h.back h.p.end z) = subst (λ u. AreRows (limit doc s ss c h) new [] u) text t.replaces.rows in
-      let gap : IsGap (first_gap h.back h.p.end) (behind_first h.back h.p.end z) = first_is _ h.back h.p.end z (back_there doc s ss c h) in
+      let text : rows_text h.back (h.p.end ++ z) ≡ first_gap h.back h.p.end ++ after_first h.back h.p.end z = first_text h.back h.p.end z in
+      let stay : AreRows (limit doc s ss c h) new [] (first_gap h.back h.p.end ++ after_first h.back h.p.end z) = subst (λ u. AreRows (limit doc s ss c h) new [] u) text t.replaces.rows in
+      let gap : IsGap (first_gap h.back h.p.end) (after_first h.back h.p.end z) = first_is _ h.back h.p.end z (back_there doc s ss c h) in
       record {
         rows_are = h.rows_are;
         some = refl;
-        new_are = subst (λ rs. AreRows (limit doc s ss c h) rs (first_gap h.back h.p.end) (behind_first h.back h.p.end z)) (append-nil new)
-            (rows_append (limit doc s ss c h) new [] (first_gap h.back h.p.end) (behind_first h.back h.p.end z) stay gap);
-        next = follow_first (asked_behind (limit doc s ss c h) new) (mark_column h.mark) h.back t.replaces.follow (near doc s ss c h);
+        new_are = subst (λ rs. AreRows (limit doc s ss c h) rs (first_gap h.back h.p.end) (after_first h.back h.p.end z)) (append-nil new)
+            (rows_append (limit doc s ss c h) new [] (first_gap h.back h.p.end) (after_first h.back h.p.end z) stay gap);
+        next = follow_first (asked_after (limit doc s ss c h) new) (mark_column h.mark) h.back t.replaces.follow (near doc s ss c h);
         alike = subst (λ u. Alike (Some false) (print_row h.row (rows_text (h.under ++ h.back) (h.p.end ++ z))) (rows_text new u)) text t.replaces.alike;
       }
 

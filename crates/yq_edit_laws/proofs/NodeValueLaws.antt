@@ -3,19 +3,19 @@ use Rattle.std.proofs.Common.{◌≡◌, ℕ, suc, ◌<◌, ◌≤◌, true, fal
 use Rattle.std.proofs.lemmas.Bool.{false≢true}
 use Rattle.yq_core.{specs.Paths.Step, specs.Piece.deeper, specs.Plain.ends_plain, specs.Text.separates, specs.Tree.{Node, anchor_of}}
 use Rattle.yq_outline.{specs.LineAnchors.HaveOneAnchorEach, specs.Comments.line_comment}
-use Rattle.yq_outline.{specs.Outline.{end, IsOpen, level, head_or, Stands, value}, specs.Places.content_under, proofs.ByRules.rules_give}
-use Rattle.yq_outline.specs.Lines.{content_anchor, head_of, tail_of, lines_of_rows}
+use Rattle.yq_outline.{specs.Outline.{end, IsOpen, level, head_or, IsLocatedAt, value}, specs.Places.content_under}
+use Rattle.yq_outline.{proofs.ByRules.rules_give, specs.Lines.{content_anchor, head_of, tail_of, lines_of_rows}}
 use Rattle.yq_row_table.{specs.Alone.holds_nothing, specs.Exchange.with_content, specs.Grammar.{IsContent, IsTail}}
 use Rattle.yq_row_table.specs.Rows.{Content, content_text, Row, mark_column, parent_indent, rows_text, Cut, cut_text}
 use Rattle.yq_row_table.{specs.Seams.is_block, proofs.NodeExchange.{inline_starts, space_apart}, proofs.splices.PartPlaces.part_ends}
 use Rattle.yq_documents.{specs.Documents.ContentHasFitKeys, specs.PartNumbers.part_number}
-use Rattle.yq_edit_rules.{specs.DocumentRows.behind_document, specs.InlineRows.IsValueNode, proofs.CoreLaws.{put_core, recore}}
+use Rattle.yq_edit_rules.{specs.DocumentRows.after_document, specs.InlineRows.IsValueNode, proofs.CoreLaws.{put_core, recore}}
 use Rattle.yq_edit_rules.{proofs.InlineReplaceLaws.{deeper_entry, tail_ends_plain}, proofs.PartLaws.document_known}
 use Rattle.yq_edit_rules.proofs.UnderLaws.{line_with, gone_lines}
 use Rattle.yq_edit_rules.proofs.ValueContentLaws.{content_is, content_head, content_named, content_tail, content_keys}
 use Rattle.yq_edit_rules.{specs.declared.layout.Layout.Layout, specs.BlockPlaces.IsAbove, specs.BlockRows.{column_below, node_rows}}
 use Rattle.yq_edit_rules.{specs.BlockValues.{HasNearKeys, IsFilledValue, IsEnd, level_at}, proofs.FitLaws.{anchors_fit, keys_fit, node_fit}}
-use Rattle.yq_edit_rules.{proofs.LaidRows.AreLaid, proofs.BlockLineLaws.{lines_deeper, node_stands}, proofs.PlaceLaws.under_laid}
+use Rattle.yq_edit_rules.{proofs.LaidRows.AreLaid, proofs.BlockLineLaws.{lines_deeper, node_is_there}, proofs.PlaceLaws.under_laid}
 use Rattle.yq_edit_rules.proofs.RowLaws.{deeper_laid}
 use Rattle.yq_edit_laws.{proofs.ContentRows.{IsContentFor, mark_fit, takes_content, upto_gap}, proofs.MarkContentLaws.laid_free}
 use Rattle.yq_edit_laws.{proofs.NodeRowLaws.{NodeRows, back_there, entry, limit, near, rest, rows_there}, proofs.NodeTaken.TakesNode}
@@ -45,7 +45,7 @@ module _ (doc : ℕ) (s : Step) (ss : List Step) (c : Cut) (h : NodeRows doc s s
       record {
         tail = ends;
         plain = subst (λ n. ends_plain false (Some n) (tail ++ rest doc s ss c h) ≡ true) below
-            (tail_ends_plain (parent_indent h.mark) tail _ h.back h.p.end (behind_document doc c) ends (back_there doc s ss c h)
+            (tail_ends_plain (parent_indent h.mark) tail _ h.back h.p.end (after_document doc c) ends (back_there doc s ss c h)
             (subst (λ n. Rattle.yq_row_table.specs.Exchange.allows_first (record { column = Some n }) h.back ≡ true) (sym below) (near doc s ss c h))
             (part_ends c (part_number doc c) true (document_known (cut_text c) c doc h.p h.old).cut.parts));
       }
@@ -53,7 +53,7 @@ module _ (doc : ℕ) (s : Step) (ss : List Step) (c : Cut) (h : NodeRows doc s s
   -- What comes after the key or dash on its line, before lines under it or the rows after: nothing but perhaps the old anchor, and the end of the line with the old comment.
   pub record IsHolding (x : Content) (more : List ℕ) : Type 0 where
     pub holds : holds_nothing x ≡ true
-    pub stands : IsContent (parent_indent h.mark) x more
+    pub is_located : IsContent (parent_indent h.mark) x more
     pub apart : separates (content_text x more) ≡ true
     pub comment : line_comment (tail_of x) ≡ line_comment (tail_of h.mark.content)
     pub anchor : content_anchor x ≡ anchor_of (content_under h.found.line h.found.under)
@@ -78,18 +78,18 @@ module _ (doc : ℕ) (s : Step) (ss : List Step) (c : Cut) (h : NodeRows doc s s
     laid : AreLaid below rs z
     laid = deeper_laid v l (mark_column h.mark) below last z (search rules) (record { rows = filled; near = near_keys; ends = ends })
 
-    above : IsAbove (limit doc s ss c h) h.row (rows_text (h.under ++ h.back) (h.p.end ++ behind_document doc c)) h.mark x below (rows_text rs z)
+    above : IsAbove (limit doc s ss c h) h.row (rows_text (h.under ++ h.back) (h.p.end ++ after_document doc c)) h.mark x below (rows_text rs z)
     above = record {
       row = (rows_there doc s ss c h).0;
       upto = h.upto;
       deep = search rules;
       nothing = held.holds;
-      content = held.stands;
+      content = held.is_located;
       apart = held.apart;
     }
 
-    stands : Stands (lines_of_rows rs) v (level_at below v)
-    stands = rules_give (level_at below v) (lines_of_rows rs) v (node_stands v l below last step filled.filled filled.value uncommented)
+    is_located : IsLocatedAt (lines_of_rows rs) v (level_at below v)
+    is_located = rules_give (level_at below v) (lines_of_rows rs) v (node_is_there v l below last step filled.filled filled.value uncommented)
 
     deep : outline.level (line_with h.mark x) < level_at below v
     unfolding level
@@ -103,19 +103,19 @@ module _ (doc : ℕ) (s : Step) (ss : List Step) (c : Cut) (h : NodeRows doc s s
           more = rs;
           new_is = refl;
           gap_is = upto_gap h.upto;
-          replaces = under_laid (limit doc s ss c h) h.row h.mark (rows_text (h.under ++ h.back) (h.p.end ++ behind_document doc c)) x below rs z above laid;
+          replaces = under_laid (limit doc s ss c h) h.row h.mark (rows_text (h.under ++ h.back) (h.p.end ++ after_document doc c)) x below rs z above laid;
           content = x;
           level = level_at below v;
-          under = stands.outline;
+          under = is_located.outline;
           comment = held.comment;
           anchor = held.anchor;
-          open' = subst (λ o. IsOpen o stands.outline) (sym (nothing_is x held.holds).0) tt;
-          value_is = ap (λ o. head_or o (value stands.outline)) (nothing_is x held.holds).0 ∙ stands.node_is;
-          even = stands.even;
+          open' = subst (λ o. IsOpen o is_located.outline) (sym (nothing_is x held.holds).0) tt;
+          value_is = ap (λ o. head_or o (value is_located.outline)) (nothing_is x held.holds).0 ∙ is_located.node_is;
+          even = is_located.even;
           deep = deep;
-          lines = gone_lines (with_content x h.mark) rs ∙ ap (λ ls. Rattle.yq_edit_rules.proofs.UnderLaws.dashes_of h.mark ++ (line_with h.mark x ∷ ls)) (sym stands.lines_are);
+          lines = gone_lines (with_content x h.mark) rs ∙ ap (λ ls. Rattle.yq_edit_rules.proofs.UnderLaws.dashes_of h.mark ++ (line_with h.mark x ∷ ls)) (sym is_located.lines_are);
           keys = (mark_fit doc s ss c h, (nothing_is x held.holds).1, keys_fit rs fit);
-          anchors = subst (λ ls. HaveOneAnchorEach (line_with h.mark x ∷ ls)) (sym stands.lines_are) (laid_free (content_anchor x) below rs z laid, anchors_fit rs fit);
+          anchors = subst (λ ls. HaveOneAnchorEach (line_with h.mark x ∷ ls)) (sym is_located.lines_are) (laid_free (content_anchor x) below rs z laid, anchors_fit rs fit);
         }
 
   -- ---- after it on its line
@@ -124,10 +124,10 @@ module _ (doc : ℕ) (s : Step) (ss : List Step) (c : Cut) (h : NodeRows doc s s
   module _ (v : Node) (node : inline.FlowNode) (is : IsValueNode v node) (x : Content) (block : is_block x ≡ false) where
     pub content_for : IsContent (parent_indent h.mark) x (rest doc s ss c h) → separates (content_text x (rest doc s ss c h)) ≡ true → line_comment (tail_of x) ≡ line_comment (tail_of h.mark.content) →
         content_anchor x ≡ anchor_of (content_under h.found.line h.found.under) → IsContentFor doc s ss c h v (put_core node x)
-    content_for stands apart comment anchor = record {
-      stands = content_is v node is (parent_indent h.mark) x (rest doc s ss c h) block stands
+    content_for is_located apart comment anchor = record {
+      is_located = content_is v node is (parent_indent h.mark) x (rest doc s ss c h) block is_located
           (λ tail ends. subst (λ n. ends_plain false (Some n) (tail ++ rest doc s ss c h) ≡ true) (sym (deeper_entry h.mark.mark (mark_column h.mark) (entry doc s ss c h))) (end_is tail ends).plain);
-      apart = search (rules, space_apart, recore, inline_starts, stands, apart);
+      apart = search (rules, space_apart, recore, inline_starts, is_located, apart);
       head = content_head v node is x block;
       comment = content_tail v node is x ∙ comment;
       anchor = content_named v node is x ∙ anchor;
@@ -136,7 +136,7 @@ module _ (doc : ℕ) (s : Step) (ss : List Step) (c : Cut) (h : NodeRows doc s s
 
   module _ (v : Node) (node : inline.FlowNode) (is : IsValueNode v node) (x : Content) (held : IsHolding x (rest doc s ss c h)) where
     pub content_beside : IsContentFor doc s ss c h v (put_core node x)
-    content_beside = content_for v node is x (nothing_is x held.holds).2 held.stands held.apart held.comment held.anchor
+    content_beside = content_for v node is x (nothing_is x held.holds).2 held.is_located held.apart held.comment held.anchor
 
     abbrev pub rows_beside : List Row
     rows_beside = with_content (put_core node x) h.mark ∷ []

@@ -2,11 +2,11 @@
 use Rattle.std.proofs.Common.{rules, ◌≡◌, ℕ, ◌+◌, Bool, true, false, cond, List, [], ◌∷◌, ◌++◌, length, refl, sym, ap, ◌∙◌, arith}
 use Rattle.std.{proofs.Common.{append-nil, append_assoc, length-append}, specs.Prelude.⊤}
 use Rattle.yq_core.{specs.Text.is_empty, specs.Tree.Node, specs.declared.style.Place.TheVariants.Block as InBlock}
-use Rattle.yq_places.specs.Standings.{Held, LinesIn}
-use Rattle.yq_text.proofs.BetweenLaws.{behind_nothing}
+use Rattle.yq_places.specs.Placements.{Held, LinesIn}
+use Rattle.yq_text.proofs.BetweenLaws.{after_nothing}
 use Rattle.yq_text.{specs.Script.{Segment, changes, keep, keep_before, merged, put, put_before, splice_at, splices_at}, specs.Splice.Splice}
 use Rattle.yq_text.proofs.TouchLaws.{put_twice}
-use Rattle.yq_edit_rules.{specs.CommentEdits.comment_written, specs.EntryEdits.behind_held, specs.PiecePuts.behind_lines}
+use Rattle.yq_edit_rules.{specs.CommentEdits.comment_written, specs.EntryEdits.after_held, specs.PiecePuts.after_lines}
 use Rattle.yq_edit_rules.specs.ReplaceEdits.{spaced_text}
 use Rattle.yq_edit_rules.specs.RowChanges.{CommentPutsOne, InlinePutsOne, PiecePutsOne, PutsOne, inline_put, takes_white}
 use Rattle.yq_edit_rules.specs.WrittenValues.{value_text}
@@ -30,7 +30,7 @@ first_keep t ss = let same : 0 + length t ≡ length t = omega arith in after_ke
 quiet_splices : (n : ℕ) (ss : List Segment) → AreQuiet ss → splices_at n (merged ss) ≡ []
 quiet_splices n [] h = refl
 quiet_splices n (keep t ∷ ss) h = after_keep n t (merged ss) ∙ quiet_splices (n + length t) ss h
-quiet_splices n (put o w ∷ ss) h = (λ i. splices_at n (put_before (h.0 i) (h.1 i) (merged ss))) ∙ (behind_nothing n (merged ss) ∙ quiet_splices n ss h.2)
+quiet_splices n (put o w ∷ ss) h = (λ i. splices_at n (put_before (h.0 i) (h.1 i) (merged ss))) ∙ (after_nothing n (merged ss) ∙ quiet_splices n ss h.2)
 
 put_keep : (o w : List ℕ) (b : ℕ) (t : List ℕ) (ss : List Segment) → put_before o w (keep_before (b ∷ t) ss) ≡ put o w ∷ keep_before (b ∷ t) ss
 put_keep o w b t [] = refl
@@ -54,20 +54,20 @@ module _ (h : Held) (v : Node) (some : is_empty h.head ≡ false) (none : h.brea
   abbrev t : List ℕ
   t = value_text InBlock h.head v
 
-  abbrev behind : List ℕ
-  behind = h.white ++ (h.comment ++ (h.last ++ h.behind))
+  abbrev after : List ℕ
+  after = h.white ++ (h.comment ++ (h.last ++ h.after))
 
   text_is : spaced_text h.head t ≡ t
   text_is = ap (λ (b : Bool). cond b (32 ∷ t) t) some
 
   abbrev left : List Segment
-  left = keep h.white ∷ (keep h.comment ∷ (put h.break [] ∷ (put h.lines [] ∷ (keep h.last ∷ (keep h.behind ∷ [])))))
+  left = keep h.white ∷ (keep h.comment ∷ (put h.break [] ∷ (put h.lines [] ∷ (keep h.last ∷ (keep h.after ∷ [])))))
 
-  one_put : PutsOne (inline_put v h) (h.before ++ h.space) h.head t behind
+  one_put : PutsOne (inline_put v h) (h.before ++ h.space) h.head t after
   unfolding changes
   one_put = record {
-    old_is = (λ i. h.before ++ (h.space ++ (h.head ++ (h.white ++ (h.comment ++ (none i ++ (no_lines i ++ (h.last ++ append-nil h.behind i)))))))) ∙ sym (append_assoc h.before h.space (h.head ++ behind));
-    new_is = (λ i. h.before ++ (h.space ++ (text_is i ++ (h.white ++ (h.comment ++ (h.last ++ append-nil h.behind i)))))) ∙ sym (append_assoc h.before h.space (t ++ behind));
+    old_is = (λ i. h.before ++ (h.space ++ (h.head ++ (h.white ++ (h.comment ++ (none i ++ (no_lines i ++ (h.last ++ append-nil h.after i)))))))) ∙ sym (append_assoc h.before h.space (h.head ++ after));
+    new_is = (λ i. h.before ++ (h.space ++ (text_is i ++ (h.white ++ (h.comment ++ (h.last ++ append-nil h.after i)))))) ∙ sym (append_assoc h.before h.space (t ++ after));
     changes_are =
         first_keep h.before (merged (keep h.space ∷ (put h.head (spaced_text h.head t) ∷ left)))
         ∙ (after_keep (length h.before) h.space (merged (put h.head (spaced_text h.head t) ∷ left))
@@ -80,11 +80,11 @@ inline_puts v h some none no_lines = one_put h v some none no_lines
 
 -- ---- lines after those under a key or dash
 
-pub lines_put_one : (h : Held) (new : List ℕ) → PutsOne (behind_held h new) (h.before ++ (h.space ++ (h.head ++ (h.white ++ (h.comment ++ (h.break ++ (h.lines ++ h.last))))))) [] new h.behind
+pub lines_put_one : (h : Held) (new : List ℕ) → PutsOne (after_held h new) (h.before ++ (h.space ++ (h.head ++ (h.white ++ (h.comment ++ (h.break ++ (h.lines ++ h.last))))))) [] new h.after
 unfolding changes
 lines_put_one h new =
     let n : ℕ = length h.before in
-    let last : List Segment = put [] new ∷ (keep h.behind ∷ []) in
+    let last : List Segment = put [] new ∷ (keep h.after ∷ []) in
     let lines : List Segment = keep h.break ∷ (keep h.lines ∷ (keep h.last ∷ last)) in
     record {
       old_is = simp (append_assoc, append-nil) refl;
@@ -98,7 +98,7 @@ lines_put_one h new =
           ∙ (after_keep (n + length h.space + length h.head + length h.white + length h.comment) h.break (merged (keep h.lines ∷ (keep h.last ∷ last)))
           ∙ (after_keep (n + length h.space + length h.head + length h.white + length h.comment + length h.break) h.lines (merged (keep h.last ∷ last))
           ∙ (after_keep (n + length h.space + length h.head + length h.white + length h.comment + length h.break + length h.lines) h.last (merged last)
-          ∙ (put_quiet (n + length h.space + length h.head + length h.white + length h.comment + length h.break + length h.lines + length h.last) [] new (keep h.behind ∷ []) tt
+          ∙ (put_quiet (n + length h.space + length h.head + length h.white + length h.comment + length h.break + length h.lines + length h.last) [] new (keep h.after ∷ []) tt
           ∙ ap (λ (m : ℕ). splice_at m [] new)
           (omega (
             arith,
@@ -114,10 +114,10 @@ lines_put_one h new =
 
 -- ---- lines after others
 
-pub lines_put_after : (w : LinesIn) (new : List ℕ) → PutsOne (behind_lines w new) (w.before ++ (w.lines ++ w.last)) [] new w.behind
+pub lines_put_after : (w : LinesIn) (new : List ℕ) → PutsOne (after_lines w new) (w.before ++ (w.lines ++ w.last)) [] new w.after
 unfolding changes
 lines_put_after w new =
-    let last : List Segment = put [] new ∷ (keep w.behind ∷ []) in
+    let last : List Segment = put [] new ∷ (keep w.after ∷ []) in
     record {
       old_is = simp (append_assoc, append-nil) refl;
       new_is = simp (append_assoc, append-nil) refl;
@@ -125,7 +125,7 @@ lines_put_after w new =
           first_keep w.before (merged (keep w.lines ∷ (keep w.last ∷ last)))
           ∙ (after_keep (length w.before) w.lines (merged (keep w.last ∷ last))
           ∙ (after_keep (length w.before + length w.lines) w.last (merged last)
-          ∙ (put_quiet (length w.before + length w.lines + length w.last) [] new (keep w.behind ∷ []) tt
+          ∙ (put_quiet (length w.before + length w.lines + length w.last) [] new (keep w.after ∷ []) tt
           ∙ ap (λ (m : ℕ). splice_at m [] new) (omega (arith, length-append w.before (w.lines ++ w.last), length-append w.lines w.last)))));
     }
 
@@ -133,10 +133,10 @@ lines_put_after w new =
 
 module _ (h : Held) (text : List ℕ) where
   abbrev lower : List ℕ
-  lower = h.break ++ (h.lines ++ (h.last ++ h.behind))
+  lower = h.break ++ (h.lines ++ (h.last ++ h.after))
 
   abbrev kept : List Segment
-  kept = keep h.break ∷ (keep h.lines ∷ (keep h.last ∷ (keep h.behind ∷ [])))
+  kept = keep h.break ∷ (keep h.lines ∷ (keep h.last ∷ (keep h.after ∷ [])))
 
   abbrev new : List ℕ
   new = comment_written text h.comment

@@ -7,11 +7,11 @@ use Rattle.yq_outline.{specs.Group.group, specs.Lines.lines_of_rows}
 use Rattle.yq_row_table.{specs.Grammar.no_rows, specs.Rows.{Row, print_row, rows_text, Part, Cut, cut_text, part_text}}
 use Rattle.yq_row_table.proofs.splices.SpliceTexts.{own_gap, own_end}
 use Rattle.yq_documents.{specs.Documents.lead_of, specs.Reading.{read_at, root_of}, specs.TreeEdits.at_end}
-use Rattle.yq_places.{specs.RowPaths.IsReadable, specs.Standings.RowsOfEntry}
+use Rattle.yq_places.{specs.RowPaths.IsReadable, specs.Placements.RowsOfEntry}
 use Rattle.yq_edit_rules.{specs.Appends.inserted, specs.Changed.{IsChanged, put_document}}
-use Rattle.yq_edit_rules.{specs.DocumentRows.{IsDocumentPart, behind_document}, specs.Done.ArePieces, specs.EditLaws.CarriedOut}
+use Rattle.yq_edit_rules.{specs.DocumentRows.{IsDocumentPart, after_document}, specs.Done.ArePieces, specs.EditLaws.CarriedOut}
 use Rattle.yq_edit_rules.{specs.Local.IsLocal, specs.ReadsAfter.ReadsAfter, specs.Rooms.{EqualRoom, LeadGoes, is_block_root, row_shape}}
-use Rattle.yq_edit_rules.{specs.Siblings.HasEntries, specs.StandingLaws.StandsThere, proofs.AfterLaws.end_is_change}
+use Rattle.yq_edit_rules.{specs.Siblings.HasEntries, specs.PlacementLaws.HasItsRows, proofs.AfterLaws.end_is_change}
 use Rattle.yq_edit_rules.{proofs.CommentRowLaws.{lines_some, rows_front}, proofs.DoneLaws.document_done}
 use Rattle.yq_edit_rules.{proofs.LeadLaws.{block_entries, block_lead_goes}, proofs.LocalLaws.{cut_known, row_by_size}}
 use Rattle.yq_edit_rules.{proofs.ReplaceLaws.rows_before_some, proofs.SegmentLaws.segments_readable, proofs.ShapeLaws.shapes_are_alike}
@@ -22,14 +22,14 @@ pub record RowIn (k : ℕ) (c : Cut) : Type 0 where
   pub part : Part
   pub old : IsDocumentPart (cut_text c) c k part
   pub start : List ℕ
-  pub put : (q : Part) → cut_text (put_document k q c) ≡ start ++ part_text q (behind_document k c)
+  pub put : (q : Part) → cut_text (put_document k q c) ≡ start ++ part_text q (after_document k c)
   pub front : List Row
   pub row : Row
   pub back : List Row
   pub rows_are : part.rows ≡ front ++ (row ∷ back)
 
 -- the first row of an item or entry
-abbrev pub first_row : (n : ℕ) (s : Step) (ss : List Step) (c : Cut) (e : RowsOfEntry) → StandsThere n s ss c e → RowIn n c
+abbrev pub first_row : (n : ℕ) (s : Step) (ss : List Step) (c : Cut) (e : RowsOfEntry) → HasItsRows n s ss c e → RowIn n c
 first_row n s ss c e t = record { part = t.part; old = t.old; start = e.start; put = t.put; front = e.front; row = e.row; back = e.under ++ e.back; rows_are = t.rows_are }
 
 -- a change at the end of steps is one within what holds that
@@ -47,7 +47,7 @@ module _ (op : Operation) (c : Cut) (h : RowIn (op_document op) c) (new : Row) w
   rows_now : row_put.rows ≡ h.front ++ (new ∷ h.back)
   rows_now = ap (λ (b : List Row). h.front ++ (new ∷ b)) (own_gap h.back h.part.end)
 
-  pub text_now : cut_text (put_document (op_document op) row_put c) ≡ (h.start ++ rows_text h.front []) ++ print_row new (rows_text h.back (h.part.end ++ behind_document (op_document op) c))
+  pub text_now : cut_text (put_document (op_document op) row_put c) ≡ (h.start ++ rows_text h.front []) ++ print_row new (rows_text h.back (h.part.end ++ after_document (op_document op) c))
   text_now = search (rules, rows_now, own_end, rows_front, append_assoc)
 
   -- Segments of the text make that with the new row, and keep what is before the row and after it.
@@ -56,7 +56,7 @@ module _ (op : Operation) (c : Cut) (h : RowIn (op_document op) c) (new : Row) w
     pub text : new_text us ≡ cut_text (put_document (op_document op) row_put c)
     pub puts : are_kept us ≡ false
     pub front : length (h.start ++ rows_text h.front []) ≤ length (kept_front us)
-    pub behind : length (rows_text h.back (h.part.end ++ behind_document (op_document op) c)) ≤ length (kept_back us)
+    pub after : length (rows_text h.back (h.part.end ++ after_document (op_document op) c)) ≤ length (kept_back us)
     pub pieces : ArePieces us
 
   -- Its document has the room of the old one, and its lead goes with the root.
@@ -85,7 +85,7 @@ module _ (op : Operation) (c : Cut) (h : RowIn (op_document op) c) (new : Row) w
 
     local : IsLocal us c (put_document (op_document op) row_put c)
     local =
-        row_by_size c (op_document op) h.part h.old.there h.start h.put h.front h.row new h.back row_put us h.rows_are rows_now (own_end h.back h.part.end) k.puts k.old k.text k.front k.behind
+        row_by_size c (op_document op) h.part h.old.there h.start h.put h.front h.row new h.back row_put us h.rows_are rows_now (own_end h.back h.part.end) k.puts k.old k.text k.front k.after
 
     -- the cut of the text that they make
     pub row_made : read_at (new_text us) ≡ Some (put_document (op_document op) row_put c)

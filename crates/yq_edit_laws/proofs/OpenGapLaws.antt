@@ -8,7 +8,7 @@ use Rattle.yq_row_table.{specs.Gap.{IsComment, IsGapLine, AreGapLines, IsGap}, p
 use Rattle.yq_row_table.{proofs.NothingLaws.line_end_other, proofs.seams.GapFronts.gap_lines, proofs.GapLaws.some_more}
 use Rattle.yq_edit_rules.{proofs.EndLaws.comment_is, specs.ClosedTexts.is_closed_text, proofs.BreakLaws.break_is as break_kind}
 use Rattle.yq_edit_rules.{proofs.BrokenTails.comment_other, proofs.CommentReadLaws.break_is}
-use Rattle.yq_edit_laws.proofs.ClosedTexts.{closed_behind, closed_end}
+use Rattle.yq_edit_laws.proofs.ClosedTexts.{closed_after, closed_end}
 
 -- lines, of which the last one gets a break
 abbrev pub broken_lines : List (List ℕ) → List ℕ → List (List ℕ)
@@ -70,7 +70,7 @@ lines_broken l [] x br h open' pairs =
     )
 lines_broken l (k ∷ ls) x br h open' pairs =
     let some : is_empty (joined (k ∷ ls)) ≡ false = some_more k (joined ls) h.1.0.some in
-    let own : is_closed_text (joined (k ∷ ls)) ≡ false = sym (closed_behind l (joined (k ∷ ls)) some) ∙ open' in
+    let own : is_closed_text (joined (k ∷ ls)) ≡ false = sym (closed_after l (joined (k ∷ ls)) some) ∙ open' in
     let w = lines_broken k ls x br h.1 own (pairs_back l (joined (k ∷ ls)) pairs) in
     let all : are_comments (l ∷ broken_lines (k ∷ ls) (break_text br)) ≡ are_comments (l ∷ (k ∷ ls)) = ap (λ b. front (λ b. eqb b 35) (past_white l) && b) w.2 in
     let more : is_empty (joined (broken_lines (k ∷ ls) (break_text br)) ++ x) ≡ false =

@@ -4,16 +4,16 @@ use Rattle.std.{proofs.Common.{sym, ap, ◌∙◌, subst, arith, append_assoc, a
 use Rattle.std.specs.List.{slice_get}
 use Rattle.yq_core.specs.Text.{is_empty}
 use Rattle.yq_row_table.{specs.Appending.{last_marker, with_last_part}, specs.Grammar.{IsPart, AreParts, begins_document}}
-use Rattle.yq_row_table.{specs.Splices.{behind_part, nth_part}, specs.Rows.{Part, part_text, Cut, last, marked, cut_text}}
+use Rattle.yq_row_table.{specs.Splices.{after_part, nth_part}, specs.Rows.{Part, part_text, Cut, last, marked, cut_text}}
 use Rattle.yq_row_table.{proofs.PlaceLaws.part_then, specs.Items.{Item, end_item, rows_items, items_of_cut}}
 use Rattle.yq_documents.specs.Documents.{begins_bare, has_begin, with_part, parts_from, document_parts}
 use Rattle.yq_documents.specs.PartNumbers.{number_from, part_number}
-use Rattle.yq_places.{specs.PlacedRows.{PlacedPart, before_part, placed_at, placed_document}, proofs.PlacedPartLaws.part_stands}
+use Rattle.yq_places.{specs.PlacedRows.{PlacedPart, before_part, placed_at, placed_document}, proofs.PlacedPartLaws.part_is_there}
 use Rattle.yq_edit_rules.{specs.Changed.{put_document, put_part}, proofs.DocumentItemLaws.rows_before}
 
 -- a document after a text with a break more, at the end of a text
 abbrev pub broken_before : List ℕ → PlacedPart → PlacedPart
-broken_before break d = record { before = d.before ++ break; part = d.part; behind = [] }
+broken_before break d = record { before = d.before ++ break; part = d.part; after = [] }
 
 -- Part i is the last part: it comes after the last marker, and does so where that gets a break.
 record IsLast (break : List ℕ) (i : ℕ) (c : Cut) : Type 0 where
@@ -46,7 +46,7 @@ numbers_later p m a b h1 is n = search rules
 numbers_same : (p q : Part) (m break : List ℕ) (is : Bool) (n : ℕ) → number_from is n (marked p (m ++ break) (last q)) ≡ number_from is n (marked p m (last q))
 numbers_same p q m break is n = search rules
 
-is_last : (break : List ℕ) (i : ℕ) (c : Cut) (started : Bool) (p : Part) (m : List ℕ) → AreParts started (marked p m c) → behind_part i c ≡ [] → IsLast break (suc i) (marked p m c)
+is_last : (break : List ℕ) (i : ℕ) (c : Cut) (started : Bool) (p : Part) (m : List ℕ) → AreParts started (marked p m c) → after_part i c ≡ [] → IsLast break (suc i) (marked p m c)
 is_last break i (last q) started p m h none =
     let same : begins_document (m ++ break) ≡ begins_document m = begins_same m break h.1.long in
     let text : part_text p (m ++ break) ++ [] ≡ (part_text p m ++ []) ++ break = append-nil (part_text p (m ++ break)) ∙ (part_then p m break ∙ ap (λ t. t ++ break) (sym (append-nil (part_text p m)))) in
@@ -55,7 +55,7 @@ is_last break i (last q) started p m h none =
       before_is = append-nil (part_text p m) ∙ part_then p [] m;
       part_is = h.2;
       long = h.1.long;
-      placed = λ j. record { before = text j; part = q; behind = [] };
+      placed = λ j. record { before = text j; part = q; after = [] };
       numbers_are = numbers_same p q m break;
       parts_are = λ b. ap (λ x. with_part b p (with_part x q [])) same;
       begins = ap (λ x. x || false) same;
@@ -86,7 +86,7 @@ is_last break (suc i) (marked q m2 c) started p m h none =
     }
 
 -- Document n is the last part, after a marker, and stays so where that gets a break.
-pub record IsBehindMarker (break : List ℕ) (n : ℕ) (c : Cut) (d : PlacedPart) : Type 0 where
+pub record IsAfterMarker (break : List ℕ) (n : ℕ) (c : Cut) (d : PlacedPart) : Type 0 where
   pub pre : List ℕ
   pub before_is : d.before ≡ pre ++ last_marker c
   pub part_is : IsPart (begins_document (last_marker c)) d.part []
@@ -102,29 +102,29 @@ pub record IsBehindMarker (break : List ℕ) (n : ℕ) (c : Cut) (d : PlacedPart
 bare_same : (break : List ℕ) (q p : Part) (m : List ℕ) (c : Cut) → begins_bare (with_last_part break q (marked p m c)) ≡ begins_bare (marked p m c)
 bare_same break q p m c = search rules
 
-pub behind_marker : (break : List ℕ) (n : ℕ) (c : Cut) (d : PlacedPart) → AreParts true c → placed_document n c ≡ Some d → d.behind ≡ [] → is_empty d.before ≡ false → IsBehindMarker break n c d
-behind_marker break n (last p) d h at none some = absurd (false≢true (sym some ∙ ap (λ (y : PlacedPart). is_empty y.before) (sym (part_stands n (last p) d at).is)))
-behind_marker break n (marked p m c) d h at none some = go (part_number n (marked p m c)) refl
+pub after_marker : (break : List ℕ) (n : ℕ) (c : Cut) (d : PlacedPart) → AreParts true c → placed_document n c ≡ Some d → d.after ≡ [] → is_empty d.before ≡ false → IsAfterMarker break n c d
+after_marker break n (last p) d h at none some = absurd (false≢true (sym some ∙ ap (λ (y : PlacedPart). is_empty y.before) (sym (part_is_there n (last p) d at).is)))
+after_marker break n (marked p m c) d h at none some = go (part_number n (marked p m c)) refl
   where
     is_at : (i : ℕ) → part_number n (marked p m c) ≡ i → placed_at i (marked p m c) ≡ d
-    is_at i e = ap (λ j. placed_at j (marked p m c)) (sym e) ∙ (part_stands n (marked p m c) d at).is
+    is_at i e = ap (λ j. placed_at j (marked p m c)) (sym e) ∙ (part_is_there n (marked p m c) d at).is
 
-    go : (i : ℕ) → part_number n (marked p m c) ≡ i → IsBehindMarker break n (marked p m c) d
+    go : (i : ℕ) → part_number n (marked p m c) ≡ i → IsAfterMarker break n (marked p m c) d
     go zero e = absurd (false≢true (sym some ∙ ap (λ (y : PlacedPart). is_empty y.before) (sym (is_at zero e))))
     go (suc i) e =
         let old : Cut = marked p m c in
         let x : PlacedPart = placed_at (suc i) old in
         let new : Cut = with_last_part break x.part old in
-        let r = is_last break i c true p m h (ap (λ (y : PlacedPart). y.behind) (is_at (suc i) e) ∙ none) in
+        let r = is_last break i c true p m h (ap (λ (y : PlacedPart). y.after) (is_at (suc i) e) ∙ none) in
         let is : (begins_bare new || not (has_begin new)) ≡ (begins_bare old || not (has_begin old)) = (λ j. bare_same break x.part p m c j || not (r.begins j)) in
         let parts : document_parts new ≡ document_parts old = ap (λ b. parts_from b new) is ∙ r.parts_are (begins_bare old || not (has_begin old)) in
         let number : part_number n new ≡ suc i = ap (λ b. number_from b n new) is ∙ (r.numbers_are (begins_bare old || not (has_begin old)) n ∙ e) in
-        subst (IsBehindMarker break n old) (is_at (suc i) e) (record {
+        subst (IsAfterMarker break n old) (is_at (suc i) e) (record {
           pre = r.pre;
           before_is = r.before_is;
           part_is = r.part_is;
           long = r.long;
-          placed = (λ j. option_map (λ (y : Part). placed_at (number j) new) ((ap (λ ps. slice_get ps n) parts ∙ (part_stands n old d at).there) j)) ∙ ap (λ (y : PlacedPart). Some y) r.placed;
+          placed = (λ j. option_map (λ (y : Part). placed_at (number j) new) ((ap (λ ps. slice_get ps n) parts ∙ (part_is_there n old d at).there) j)) ∙ ap (λ (y : PlacedPart). Some y) r.placed;
           parts_are = parts;
           put = λ q. ap (λ j. put_part j q new) number ∙ r.put q;
           above = r.above;

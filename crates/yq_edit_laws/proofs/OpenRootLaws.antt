@@ -17,19 +17,19 @@ use Rattle.yq_documents.{specs.Pieces.TextPiece, specs.Reading.{all_documents, i
 use Rattle.yq_documents.proofs.ReadLaws.{text_again, text_takes}
 use Rattle.yq_places.{specs.PlacedRows.PlacedPart, specs.RowPaths.IsReadable, proofs.RemovalLines.LineSeam}
 use Rattle.yq_edit_rules.{specs.declared.layout.Layout.Layout, specs.BlockText.block_value, proofs.LaidRows.no_gap_here}
-use Rattle.yq_edit_rules.{specs.PlacedParts.StandsAt, specs.TextPieces.IsPiece, proofs.PlacedPartLaws.document_stands_at}
+use Rattle.yq_edit_rules.{specs.PlacedParts.IsDocumentAt, specs.TextPieces.IsPiece, proofs.PlacedPartLaws.document_is_there_at}
 use Rattle.yq_edit_rules.{proofs.TextPieceLaws.pieces_joined, specs.ClosedTexts.is_closed_text, specs.Changed.put_document}
 use Rattle.yq_edit_rules.{specs.Replaces.rooted, specs.Local.IsLocal, specs.ReadsAfter.ReadsAfter, specs.EditLaws.CarriedOut}
 use Rattle.yq_edit_rules.{proofs.ItemsLocal.last_nothing, proofs.LocalLaws.cut_known, proofs.AppendAtEnd.nothing_tail}
 use Rattle.yq_edit_rules.{proofs.AppendEntryLaws.none_uncommented, proofs.BreakLaws.break_is as break_kind}
 use Rattle.yq_edit_rules.{proofs.CommentPieceLaws.break_piece, proofs.CommentReadLaws.break_is}
 use Rattle.yq_semantics.specs.Operations.{replace}
-use Rattle.yq_edit_laws.{proofs.FirstRows.empty_cases, proofs.ClosedTexts.{closed_behind, closed_end, closed_line, open_some}}
-use Rattle.yq_edit_laws.{proofs.OpenGapLaws.open_gap, proofs.OpenMarkerLaws.{broken_before, IsBehindMarker, behind_marker}}
+use Rattle.yq_edit_laws.{proofs.FirstRows.empty_cases, proofs.ClosedTexts.{closed_after, closed_end, closed_line, open_some}}
+use Rattle.yq_edit_laws.{proofs.OpenGapLaws.open_gap, proofs.OpenMarkerLaws.{broken_before, IsAfterMarker, after_marker}}
 use Rattle.yq_edit_laws.{proofs.RootFits.{FitsPart, value_carried}, proofs.RootLocalLaws.gap_moves}
 use Rattle.yq_edit_laws.{proofs.RootReadLaws.{TakesValue, are, text_is, root_read, root_reads}, proofs.RootRows.{root_rows, HasRoom}}
-use Rattle.yq_edit_laws.{proofs.SameDocuments.same_reads, proofs.StandingRoots.IsUnwrittenRoot}
-use Rattle.yq_edit_laws.proofs.UnwrittenRootLaws.{long_some, stands, there, cut, gap_is, part_is, seam, pieces, no_rows_there, lead_is}
+use Rattle.yq_edit_laws.{proofs.SameDocuments.same_reads, proofs.PlacementRoots.IsUnwrittenRoot}
+use Rattle.yq_edit_laws.proofs.UnwrittenRootLaws.{long_some, is_located, there, cut, gap_is, part_is, seam, pieces, no_rows_there, lead_is}
 use Rattle.yq_edit_laws.proofs.UnwrittenRootLaws.{starts_at, takes_unwritten}
 use Rattle.yq_edit_laws.proofs.UnwrittenRootLaws as unwritten_root
 
@@ -45,20 +45,20 @@ module _ (n : ℕ) (c : Cut) (w : TextPiece) (read : read_at (cut_text c) ≡ So
   all_open = ap is_closed_text (sym h.before_is) ∙ open'
 
   -- so it is the end of the text
-  nothing_behind : h.d.behind ≡ []
+  nothing_after : h.d.after ≡ []
   unfolding is_closed_text
-  nothing_behind = go (seam n c w read h)
+  nothing_after = go (seam n c w read h)
     where
-      go : LineSeam (h.d.before ++ h.d.part.end) h.d.behind → h.d.behind ≡ []
+      go : LineSeam (h.d.before ++ h.d.part.end) h.d.after → h.d.after ≡ []
       go (inl e) = absurd (false≢true (sym all_open ∙ ap is_closed_text e))
-      go (inr (inl lf)) = absurd (false≢true (sym all_open ∙ (ap is_closed_text lf.1 ∙ closed_behind lf.0 (10 ∷ []) refl)))
+      go (inr (inl lf)) = absurd (false≢true (sym all_open ∙ (ap is_closed_text lf.1 ∙ closed_after lf.0 (10 ∷ []) refl)))
       go (inr (inr e)) = e
 
   -- ---- after comments or white space
 
   module _ (some : is_empty h.d.part.end ≡ false) where
     gap_open : is_closed_text h.d.part.end ≡ false
-    gap_open = sym (closed_behind h.d.before h.d.part.end some) ∙ all_open
+    gap_open = sym (closed_after h.d.before h.d.part.end some) ∙ all_open
 
     characters : is_text (h.d.before ++ h.d.part.end) ≡ true
     characters = (subst IsPiece h.before_is (pieces n c w read h).0).characters
@@ -67,16 +67,16 @@ module _ (n : ℕ) (c : Cut) (w : TextPiece) (read : read_at (cut_text c) ≡ So
     pairs = pairs_back h.d.before h.d.part.end (and_parts (list_all is_text_char (chars (h.d.before ++ h.d.part.end))) (pairs_returns (h.d.before ++ h.d.part.end)) characters).1
 
     broken : (x : List ℕ) → IsGap (h.d.part.end ++ break_text br) x × (head_comment (h.d.part.end ++ break_text br) ≡ head_comment h.d.part.end)
-    broken x = open_gap h.d.part.end x br (subst (IsGap h.d.part.end) nothing_behind (gap_is n c w read h)) gap_open pairs
+    broken x = open_gap h.d.part.end x br (subst (IsGap h.d.part.end) nothing_after (gap_is n c w read h)) gap_open pairs
 
-    takes_behind_gap : TakesValue n c h.d (h.d.part.end ++ break_text br) [] []
-    takes_behind_gap = record {
-      stands = stands n c w read h;
+    takes_following_gap : TakesValue n c h.d (h.d.part.end ++ break_text br) [] []
+    takes_following_gap = record {
+      is_located = is_located n c w read h;
       old = there n c w read h;
       block = no_rows_there n c w read h;
-      room = subst (HasRoom (h.d.part.end ++ break_text br) [] []) (sym nothing_behind) (room_at_end (h.d.part.end ++ break_text br) (λ x more. (broken x).0));
+      room = subst (HasRoom (h.d.part.end ++ break_text br) [] []) (sym nothing_after) (room_at_end (h.d.part.end ++ break_text br) (λ x more. (broken x).0));
       lead = (broken []).1 ∙ lead_is n c w read h;
-      starts = λ t e. starts_at n c w read h (λ none. absurd (false≢true (sym (some_more h.d.part.end h.d.behind some) ∙ ap is_empty none))) t;
+      starts = λ t e. starts_at n c w read h (λ none. absurd (false≢true (sym (some_more h.d.part.end h.d.after some) ∙ ap is_empty none))) t;
     }
 
   -- ---- after a marker
@@ -91,11 +91,11 @@ module _ (n : ℕ) (c : Cut) (w : TextPiece) (read : read_at (cut_text c) ≡ So
     abbrev broken_text : List ℕ
     broken_text = h.d.before ++ break_text br
 
-    marker : IsBehindMarker (break_text br) n c h.d
-    marker = behind_marker (break_text br) n c h.d (cut n c w read h).parts h.placed nothing_behind (open_some h.d.before before_open)
+    marker : IsAfterMarker (break_text br) n c h.d
+    marker = after_marker (break_text br) n c h.d (cut n c w read h).parts h.placed nothing_after (open_some h.d.before before_open)
 
     marker_open : is_closed_text (last_marker c) ≡ false
-    marker_open = sym (closed_behind marker.pre (last_marker c) (long_some (last_marker c) marker.long)) ∙ (ap is_closed_text (sym marker.before_is) ∙ before_open)
+    marker_open = sym (closed_after marker.pre (last_marker c) (long_some (last_marker c) marker.long)) ∙ (ap is_closed_text (sym marker.before_is) ∙ before_open)
 
     fits_there : PartFits (break_text br) h.d.part c
     fits_there = record {
@@ -112,11 +112,11 @@ module _ (n : ℕ) (c : Cut) (w : TextPiece) (read : read_at (cut_text c) ≡ So
     abbrev d : PlacedPart
     d = broken_before (break_text br) h.d
 
-    other_stands : StandsAt (with_last_part (break_text br) h.d.part c) n (broken_before (break_text br) h.d)
-    other_stands = document_stands_at other n d marker.placed
+    other_is_there : IsDocumentAt (with_last_part (break_text br) h.d.part c) n (broken_before (break_text br) h.d)
+    other_is_there = document_is_there_at other n d marker.placed
 
     other_text : cut_text (with_last_part (break_text br) h.d.part c) ≡ h.d.before ++ break_text br
-    other_text = other_stands.text ∙ (ap (λ t. broken_text ++ t) (part_is n c w read h [] ∙ ap (λ t. t ++ []) none) ∙ append-nil broken_text)
+    other_text = other_is_there.text ∙ (ap (λ t. broken_text ++ t) (part_is n c w read h [] ∙ ap (λ t. t ++ []) none) ∙ append-nil broken_text)
 
     piece : IsPiece (h.d.before ++ break_text br)
     piece = pieces_joined h.d.before (break_text br) (subst IsPiece (h.before_is ∙ no_gap) (pieces n c w read h).0) (break_piece br)
@@ -134,29 +134,29 @@ module _ (n : ℕ) (c : Cut) (w : TextPiece) (read : read_at (cut_text c) ≡ So
       other_read = cond-true _ _ _ (ap is_utf8 other_text ∙ is_utf8-from_IsUtf8 broken_text piece.utf8) ∙ text_again (cut_text other) other other_cut other_documents
 
       abbrev place : TextPiece
-      place = record { before = (h.d.before ++ break_text br) ++ h.d.part.end; text = []; behind = [] }
+      place = record { before = (h.d.before ++ break_text br) ++ h.d.part.end; text = []; after = [] }
 
-      other_root : IsUnwrittenRoot n (with_last_part (break_text br) h.d.part c) (record { before = (h.d.before ++ break_text br) ++ h.d.part.end; text = []; behind = [] })
-      other_root = record { d = broken_before (break_text br) h.d; placed = marker.placed; rows_are = h.rows_are; before_is = refl; text_is = refl; behind_is = refl }
+      other_root : IsUnwrittenRoot n (with_last_part (break_text br) h.d.part c) (record { before = (h.d.before ++ break_text br) ++ h.d.part.end; text = []; after = [] })
+      other_root = record { d = broken_before (break_text br) h.d; placed = marker.placed; rows_are = h.rows_are; before_is = refl; text_is = refl; following_is = refl }
 
       other_closed : is_closed_text ((h.d.before ++ break_text br) ++ h.d.part.end) ≡ true
       other_closed = ap is_closed_text (ap (λ x. broken_text ++ x) none ∙ append-nil broken_text) ∙ closed_end h.d.before (break_text br) (break_kind (break_text br) (break_is br))
 
-      takes_behind_marker : TakesValue n (with_last_part (break_text br) h.d.part c) (broken_before (break_text br) h.d) h.d.part.end [] []
+      takes_after_marker : TakesValue n (with_last_part (break_text br) h.d.part c) (broken_before (break_text br) h.d) h.d.part.end [] []
       unfolding other_root
-      takes_behind_marker = search (rules, takes_unwritten n other place other_read other_root other_closed br, room_at_end)
+      takes_after_marker = search (rules, takes_unwritten n other place other_read other_root other_closed br, room_at_end)
 
   -- ---- both
 
-  module _ (v : Node) (l : Layout) (step : 1 ≤ l.mapping) (value_tree : IsValueTree v) (fits : FitsPart v h.d.part) (ss : List Segment) (before : kept_front ss ≡ w.before) (behind : kept_back ss ≡ w.behind)
-      (is : new_text ss ≡ h.d.before ++ (h.d.part.end ++ (break_text br ++ (block_value l 0 v ++ h.d.behind)))) (readable : IsReadable (new_text ss)) where
+  module _ (v : Node) (l : Layout) (step : 1 ≤ l.mapping) (value_tree : IsValueTree v) (fits : FitsPart v h.d.part) (ss : List Segment) (before : kept_front ss ≡ w.before) (after : kept_back ss ≡ w.after)
+      (is : new_text ss ≡ h.d.before ++ (h.d.part.end ++ (break_text br ++ (block_value l 0 v ++ h.d.after)))) (readable : IsReadable (new_text ss)) where
     -- the marker gets a break, and rows come after it
-    carried_behind_marker : h.d.part.end ≡ [] → CarriedOut (replace n [] v) c ss
-    carried_behind_marker none =
-        let text : (h.d.before ++ break_text br) ++ (h.d.part.end ++ (block_value l 0 v ++ [])) ≡ new_text ss = search (rules, append_assoc, nothing_behind) in
+    carried_after_marker : h.d.part.end ≡ [] → CarriedOut (replace n [] v) c ss
+    carried_after_marker none =
+        let text : (h.d.before ++ break_text br) ++ (h.d.part.end ++ (block_value l 0 v ++ [])) ≡ new_text ss = search (rules, append_assoc, nothing_after) in
         let size : length (h.d.before ++ break_text br) ≤ text_limit =
         front_short (h.d.before ++ break_text br) (h.d.part.end ++ (block_value l 0 v ++ [])) text_limit (subst (λ t. length t ≤ text_limit) (sym text) readable.size) in
-        let takes = takes_behind_marker none size in
+        let takes = takes_after_marker none size in
         let d2 : PlacedPart = broken_before (break_text br) h.d in
         let c2 : Cut = with_last_part (break_text br) h.d.part c in
         let m = marker none in
@@ -182,9 +182,9 @@ module _ (n : ℕ) (c : Cut) (w : TextPiece) (read : read_at (cut_text c) ≡ So
               ∙ (m.new_are q
               ∙ ap (λ xs. front ++ xs) (ap (λ xs. end_item m.gap (last_marker c ++ break_text br) ∷ rows_items xs (end_item [] [] ∷ [])) (append-nil rs) ∙ sym (append-nil (end_item m.gap (last_marker c ++ break_text br) ∷ last))));
           before_is = before ∙ (sym (append-nil w.before)
-              ∙ (ap (λ t. w.before ++ t) (sym (h.behind_is ∙ nothing_behind))
+              ∙ (ap (λ t. w.before ++ t) (sym (h.following_is ∙ nothing_after))
               ∙ (unwritten_root.whole n c w read h ∙ (sym (items_of_text c) ∙ (ap (λ xs. items_text xs []) old_are ∙ front_text)))));
-          behind_is = behind ∙ (h.behind_is ∙ nothing_behind);
+          following_is = after ∙ (h.following_is ∙ nothing_after);
           begins = (omega arith, omega (arith, length-append m.gap (last_marker c), length-append m.gap (last_marker c ++ break_text br), length-append (last_marker c) (break_text br)));
           ends = (omega arith, last_nothing (end_item m.gap (last_marker c ++ break_text br) ∷ last));
         } in
@@ -194,15 +194,15 @@ module _ (n : ℕ) (c : Cut) (w : TextPiece) (read : read_at (cut_text c) ≡ So
           local = inl (cut_known ss c (put_document n q c2) (root_read n c2 d2 h.d.part.end [] [] takes v l 0 step value_tree fits.near fits.value_is fits.spared there) whole local);
         }
 
-    carried_behind_gap : is_empty h.d.part.end ≡ false → CarriedOut (replace n [] v) c ss
-    carried_behind_gap some =
-        let takes = takes_behind_gap some in
-        let st = stands n c w read h in
+    carried_following_gap : is_empty h.d.part.end ≡ false → CarriedOut (replace n [] v) c ss
+    carried_following_gap some =
+        let takes = takes_following_gap some in
+        let st = is_located n c w read h in
         let rows = are n c h.d (h.d.part.end ++ break_text br) [] [] takes v l 0 step value_tree fits.near in
         value_carried n c h.d (h.d.part.end ++ break_text br) [] [] v l 0 ss takes step value_tree fits
-        (ap (λ t. h.d.before ++ t) (append_assoc h.d.part.end (break_text br) (block_value l 0 v ++ h.d.behind)) ∙ sym is) readable
-        (λ new there. gap_moves n c h.d.part st.there h.d.before (λ x. st.put x ∙ ap (λ t. h.d.before ++ part_text x t) (sym st.behind)) ss (root_rows l (h.d.part.end ++ break_text br) 0 [] v) (break_text br) h.rows_are rows.some rows.first
-        (before ∙ h.before_is) (behind ∙ (h.behind_is ∙ sym st.behind)))
+        (ap (λ t. h.d.before ++ t) (append_assoc h.d.part.end (break_text br) (block_value l 0 v ++ h.d.after)) ∙ sym is) readable
+        (λ new there. gap_moves n c h.d.part st.there h.d.before (λ x. st.put x ∙ ap (λ t. h.d.before ++ part_text x t) (sym st.after)) ss (root_rows l (h.d.part.end ++ break_text br) 0 [] v) (break_text br) h.rows_are rows.some rows.first
+        (before ∙ h.before_is) (after ∙ (h.following_is ∙ sym st.after)))
 
     pub open_carried : CarriedOut (replace n [] v) c ss
-    open_carried = search (rules, empty_cases, carried_behind_marker, carried_behind_gap)
+    open_carried = search (rules, empty_cases, carried_after_marker, carried_following_gap)

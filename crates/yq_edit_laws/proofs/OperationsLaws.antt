@@ -5,7 +5,7 @@ use Rattle.yq_semantics.{specs.Operations.{operation_of, operations_of}, specs.d
 use Rattle.yq_text.specs.Splice.{Splice}
 use Rattle.yq_edit_laws.{specs.Answers.EditFails, specs.Carried.{carried, carry_all}, specs.Edit.{gives, edit_after}}
 use Rattle.yq_edit_laws.{specs.Theorems.{IsApplied, IsFitting}, specs.Valid.{AreServed, HaveOperands}}
-use Rattle.yq_edit_laws.{proofs.OrderLaws.{behind_both, fails_behind, fails_on}, proofs.ServeLaws.{fits, others_serve}}
+use Rattle.yq_edit_laws.{proofs.OrderLaws.{after_both, fails_after, fails_on}, proofs.ServeLaws.{fits, others_serve}}
 use Rattle.yq_edit_rules.specs.Operands.{HasOperand}
 
 abbrev later : List Op → List Op
@@ -22,7 +22,7 @@ last_comes os op t some at h5 = search (rules, arith, first_apart)
 -- one that others follow
 pub others_come : (os : List Op) (op : Op) (t m : List ℕ) (bs cs all : List Splice) → 1 ≤ length os → op ≡ slice_index_or os 0 op → carried (operation_of op) t ≡ gives m cs → all ≡ bs ++ cs →
     edit_after all (carry_all (operations_of (later os)) m) ≡ edit_after bs (carry_all (operations_of os) t)
-others_come os op t m bs cs all some at new_bytes joined = search (rules, behind_both, first_apart)
+others_come os op t m bs cs all some at new_bytes joined = search (rules, after_both, first_apart)
 
 pub others_served : (os : List Op) (op : Op) (t m : List ℕ) (cs : List Splice) → 1 ≤ length os → op ≡ slice_index_or os 0 op → AreServed (operations_of os) t → IsApplied (operation_of op) t m cs →
     AreServed (operations_of (later os)) m
@@ -34,7 +34,7 @@ others_served os op t m cs some at h a =
 pub first_fails : (os : List Op) (op : Op) (t : List ℕ) (bs : List Splice) (e : ExprError) → 1 ≤ length os → op ≡ slice_index_or os 0 op →
     EditFails e (carried (operation_of op) t) → EditFails e (edit_after bs (carry_all (operations_of os) t))
 first_fails os op t bs e some at h =
-    fails_behind e bs (carry_all (operations_of os) t)
+    fails_after e bs (carry_all (operations_of os) t)
     (subst (λ (x : List Op). EditFails e (carry_all (operations_of x) t)) (sym (first_apart os op some at)) (fails_on e (carry_all (operations_of (later os))) (carried (operation_of op) t) h))
 
 -- none

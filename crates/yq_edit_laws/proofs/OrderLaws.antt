@@ -26,22 +26,22 @@ leads_give f R each (x ∷ xs) t new cs h =
     ∙ (ap (edit_after h.1) (leads_give f R each xs h.0 new h.2 h.4) ∙ ap (gives new) (sym h.5))
 
 -- an edit that fails, also after splices
-pub fails_behind : (e : ExprError) (cs : List Splice) (r : Edit) → EditFails e r → EditFails e (edit_after cs r)
-fails_behind e cs r h = search rules
+pub fails_after : (e : ExprError) (cs : List Splice) (r : Edit) → EditFails e r → EditFails e (edit_after cs r)
+fails_after e cs r h = search rules
 
 -- and without these
 pub fails_itself : (e : ExprError) (cs : List Splice) (r : Edit) → EditFails e (edit_after cs r) → EditFails e r
 fails_itself e cs r h = search rules
 
 -- an edit after no splices
-pub behind_none : (r : Edit) → edit_after [] r ≡ r
-behind_none r = search rules
+pub following_none : (r : Edit) → edit_after [] r ≡ r
+following_none r = search rules
 
 -- an edit after splices, after others
-pub behind_both : (bs cs : List Splice) (r : Edit) → edit_after (bs ++ cs) r ≡ edit_after bs (edit_after cs r)
-behind_both bs cs unreadable = refl
-behind_both bs cs (refuses why) = refl
-behind_both bs cs (gives t ds) = ap (gives t) (append_assoc bs cs ds)
+pub after_both : (bs cs : List Splice) (r : Edit) → edit_after (bs ++ cs) r ≡ edit_after bs (edit_after cs r)
+after_both bs cs unreadable = refl
+after_both bs cs (refuses why) = refl
+after_both bs cs (gives t ds) = ap (gives t) (append_assoc bs cs ds)
 
 -- a step that fails fails all that come after it
 pub fails_on : (e : ExprError) (g : List ℕ → Edit) (r : Edit) → EditFails e r → EditFails e (edit_then g r)
@@ -51,7 +51,7 @@ fails_on e g r h = search rules
 pub leads_fail : {A : Type 0} (f : A → List ℕ → Edit) (R : Leading A) → ((x : A) (t new : List ℕ) (cs : List Splice) → R x t new cs → f x t ≡ gives new cs) →
     (xs : List A) (y : A) (ys : List A) (t m : List ℕ) (cs : List Splice) (e : ExprError) → InOrder R xs t m cs → EditFails e (f y m) → EditFails e (in_order f (xs ++ y ∷ ys) t)
 leads_fail f R each [] y ys t m cs e h fails = fails_on e (in_order f ys) (f y t) (subst (λ s. EditFails e (f y s)) (sym h.0) fails)
-leads_fail f R each (x ∷ xs) y ys t m cs e h fails = search (rules, fails_behind, leads_fail f R each xs y ys h.0 m h.2 e h.4 fails)
+leads_fail f R each (x ∷ xs) y ys t m cs e h fails = search (rules, fails_after, leads_fail f R each xs y ys h.0 m h.2 e h.4 fails)
 
 -- a thing that is refused stops those that come after others
 pub leads_stop : {A : Type 0} (R : Leading A) (S : A → List ℕ → Type 0) (xs : List A) (y : A) (ys : List A) (t m : List ℕ) (cs : List Splice) → InOrder R xs t m cs →

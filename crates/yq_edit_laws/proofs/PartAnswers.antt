@@ -10,13 +10,13 @@ use Rattle.yq_flow_edits.{specs.declared.flow_place.EditPlace.EditPlace, proofs.
 use Rattle.yq_row_table.specs.Rows.{Cut, cut_text}
 use Rattle.yq_documents.specs.Reading.{cut_of, read_at}
 use Rattle.yq_places.{specs.FlowNodes.flow_collection, specs.NodesAt.node_in}
-use Rattle.yq_places.specs.Standings.{FlowPart, flow_part, flow_standing, last_step}
+use Rattle.yq_places.specs.Placements.{FlowPart, flow_part, flow_placement, last_step}
 use Rattle.yq_inline.specs.declared.along.NodeAlong.{NodeAlong}
 use Rattle.yq_lookup.specs.PartNodes.{IsPartNode, PartAgrees, part_at}
 use Rattle.yq_edit_rules.{specs.Replacing.keeps_scalar, specs.WrittenValues.value_text}
 use Rattle.yq_edit_laws.{specs.PartPuts.{IsPlaceOf, IsValuePut, IsWrittenIn, place_after, put_edit}, proofs.CutLaws.text_read}
 use Rattle.yq_edit_laws.{proofs.FlowAnswers.bounds_lie, proofs.FlowLonger.{edit_more, place_moved}, proofs.FlowPartNodes.part_node}
-use Rattle.yq_edit_laws.{proofs.FlowPutLaws.{bounds, e, m, there}, proofs.FlowStandings.EntryAt, proofs.FlowWholeLaws.content_split}
+use Rattle.yq_edit_laws.{proofs.FlowPutLaws.{bounds, e, m, there}, proofs.FlowPlacements.EntryAt, proofs.FlowWholeLaws.content_split}
 use Rattle.yq_edit_laws.proofs.PutAnswers.{old_at, value_is, written_found}
 use Rattle.yq_core.specs.Tree as tree
 
@@ -25,27 +25,27 @@ pub record PartFound (c : Cut) (n : ℕ) (init : List Step) (s : Step) (x : Node
   pub read : read_at (cut_text c) ≡ Some c
   pub item : EntryPieces
   pub there : part_at n init s c ≡ Some item
-  pub stands : IsPartNode (cut_text c) item x
+  pub is_located : IsPartNode (cut_text c) item x
 
 -- by what it tells
 pub part_found : (t : List ℕ) (n : ℕ) (init : List Step) (s : Step) (o : Option (NodeAlong × ℕ)) (x : NodeAlong × ℕ) → read_at t ≡ Some (cut_of t) → PartAgrees t (part_at n init s (cut_of t)) o → o ≡ Some x → PartFound (cut_of t) n init s x
 part_found t n init s o x read agrees is = search (rules, there, text_read)
 
-part_standing : (c : Cut) (n : ℕ) (path init : List Step) (s : Step) → Some (init, s) ≡ last_step path → flow_standing n c (last_step path) ≡ (flow_collection n init c >>= flow_part s)
-part_standing c n path init s last = ap (flow_standing n c) (sym last)
+part_placement : (c : Cut) (n : ℕ) (path init : List Step) (s : Step) → Some (init, s) ≡ last_step path → flow_placement n c (last_step path) ≡ (flow_collection n init c >>= flow_part s)
+part_placement c n path init s last = ap (flow_placement n c) (sym last)
 
 -- none is there
-pub content_missing : (t : List ℕ) (c : Cut) (n : ℕ) (path init : List Step) (s : Step) → Some (init, s) ≡ last_step path → PartAgrees t (part_at n init s c) None → flow_standing n c (last_step path) ≡ None
-content_missing t c n path init s last h = search (rules, part_standing)
+pub content_missing : (t : List ℕ) (c : Cut) (n : ℕ) (path init : List Step) (s : Step) → Some (init, s) ≡ last_step path → PartAgrees t (part_at n init s c) None → flow_placement n c (last_step path) ≡ None
+content_missing t c n path init s last h = search (rules, part_placement)
 
 -- a content with what comes after it, in its node
-core_stands : (node : FlowNode) (rest : List ℕ) → (p : List ℕ) × (node_text node rest ≡ p ++ (node_text (without_anchor node) [] ++ rest))
-core_stands node rest = let x = content_split node rest in (x.0, x.1 ∙ ap (λ (l : List ℕ). x.0 ++ l) (node_then (without_anchor node) rest))
+core_is_there : (node : FlowNode) (rest : List ℕ) → (p : List ℕ) × (node_text node rest ≡ p ++ (node_text (without_anchor node) [] ++ rest))
+core_is_there node rest = let x = content_split node rest in (x.0, x.1 ∙ ap (λ (l : List ℕ). x.0 ++ l) (node_then (without_anchor node) rest))
 
 -- It is found at the last step.
 module _ (c : Cut) (n : ℕ) (path init : List Step) (s : Step) (x : NodeAlong × ℕ) (last : Some (init, s) ≡ last_step path) (f : PartFound c n init s x) where
   abbrev h : IsPartNode (cut_text c) f.item x
-  h = f.stands
+  h = f.is_located
 
   abbrev row : List ℕ
   row = x.0.text.now
@@ -56,9 +56,9 @@ module _ (c : Cut) (n : ℕ) (path init : List Step) (s : Step) (x : NodeAlong �
   abbrev z : FlowPart
   z = record { step = s; collection = a.coll; part = f.item }
 
-  standing_there : flow_standing n c (last_step path) ≡ Some z
-  standing_there =
-      part_standing c n path init s last
+  placement_there : flow_placement n c (last_step path) ≡ Some z
+  placement_there =
+      part_placement c n path init s last
       ∙ (ap (λ (o : Option CollPieces). o >>= flow_part s) a.found ∙ ap (option_map {U = FlowPart} (λ (y : EntryPieces). record { step = s; collection = a.coll; part = y })) a.at)
 
   node_there : node_in n path c ≡ Some (placed_tree (inline_view x.0.node))
@@ -75,8 +75,8 @@ module _ (c : Cut) (n : ℕ) (path init : List Step) (s : Step) (x : NodeAlong �
     abbrev alone : FlowEdit
     alone = replacing s (record f.item { rest = h.rest }) new a.coll
 
-    own_text : (p : List ℕ) × (row ≡ p ++ (alone.old ++ alone.behind))
-    own_text = let w = core_stands f.item.node h.rest in (w.0, h.node_is ∙ w.1)
+    own_text : (p : List ℕ) × (row ≡ p ++ (alone.old ++ alone.after))
+    own_text = let w = core_is_there f.item.node h.rest in (w.0, h.node_is ∙ w.1)
 
     own_place : edit_view r ≡ place_edit (length row) alone
     own_place = place ∙ (ap replace_place h.view ∙ replace_placed true (Some 0) h.depth (length row) s (record f.item { rest = h.rest }) new a.coll h.valid)
@@ -98,4 +98,4 @@ module _ (c : Cut) (n : ℕ) (path init : List Step) (s : Step) (x : NodeAlong �
   pub puts_found : (v : tree.Node) (r : EditPlace) (o : Option (String Global)) → edit_view r ≡ replace_place (inline_view x.0.node) → IsWrittenIn row (inline_view x.0.node) v o → IsValuePut n path v c (place_after x.1 r) o
   puts_found v r o place h =
       let text = (λ i. value_text InFlow (drop (sym place i).start (take (sym place i).end row)) v) ∙ text_found v r place in
-      (z, standing_there, place_found v r place, written_found (node_in n path c) v z _ _ (ap (λ (m : Option tree.Node). keeps_scalar m v) node_there) text o h)
+      (z, placement_there, place_found v r place, written_found (node_in n path c) v z _ _ (ap (λ (m : Option tree.Node). keeps_scalar m v) node_there) text o h)

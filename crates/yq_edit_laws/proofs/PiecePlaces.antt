@@ -6,7 +6,7 @@ use Rattle.yq_core.{specs.Collections.{CollAt, CollPieces, IsCollAt, coll_along,
 use Rattle.yq_core.specs.declared.style.Place.TheVariants.{Block}
 use Rattle.yq_core.specs.Nodes.{FlowNode, alias, anchored, coll, empty, is_empty_node, node_text, scalar}
 use Rattle.yq_flow_edits.{specs.FlowEdits.FlowEdit, specs.FlowPlaces.{PlacedEdit, place_edit}}
-use Rattle.yq_inline.{specs.Along.front_read, specs.Neighbours.coll_read, specs.declared.in_front.NodeInFront.NodeInFront}
+use Rattle.yq_inline.{specs.Along.front_read, specs.Neighbours.coll_read, specs.declared.before_offset.LeadingNode.LeadingNode}
 use Rattle.yq_row_table.specs.Rows.{Cut, cut_text, parent_indent}
 use Rattle.yq_documents.specs.Reading.{cut_of, read_at}
 use Rattle.yq_places.{specs.FlowNodes.flow_collection, proofs.FlowNodeLaws.{content_more, with_more}}
@@ -35,22 +35,22 @@ some_node (s ∷ ss) (anchored n g node) rest w e = refl
 
 -- The flow collection at a path is in a piece of the text, before which so many bytes are: the piece begins with a node that could be alone, and
 -- steps lead to the collection in it.
-pub record PieceFound (c : Cut) (n : ℕ) (steps : List Step) (piece : List ℕ) (start : ℕ) (behind : List ℕ) (at : CollAt) : Type 0 where
+pub record PieceFound (c : Cut) (n : ℕ) (steps : List Step) (piece : List ℕ) (start : ℕ) (after : List ℕ) (at : CollAt) : Type 0 where
   pub read : read_at (cut_text c) ≡ Some c
   pub front : List ℕ
-  pub text : cut_text c ≡ front ++ (piece ++ behind)
+  pub text : cut_text c ≡ front ++ (piece ++ after)
   pub start_is : start ≡ length front
-  pub found : flow_collection n steps c ≡ Some (with_more behind at.coll)
-  pub stands : IsCollAt at
+  pub found : flow_collection n steps c ≡ Some (with_more after at.coll)
+  pub is_located : IsCollAt at
   pub node_is : piece ≡ node_text at.node at.rest
 
-module _ (c : Cut) (n : ℕ) (steps : List Step) (piece : List ℕ) (start : ℕ) (behind : List ℕ) (at : CollAt) (h : PieceFound c n steps piece start behind at) where
+module _ (c : Cut) (n : ℕ) (steps : List Step) (piece : List ℕ) (start : ℕ) (after : List ℕ) (at : CollAt) (h : PieceFound c n steps piece start after at) where
   -- an edit has its place in the text where it has one in the piece
-  place_of : (e f : FlowEdit) → e ≡ edit_more behind f → length (f.old ++ f.behind) ≤ length (node_text at.node at.rest) → place_edit (length (cut_text c)) e ≡ moved_on start (place_edit (length piece) f)
+  place_of : (e f : FlowEdit) → e ≡ edit_more after f → length (f.old ++ f.after) ≤ length (node_text at.node at.rest) → place_edit (length (cut_text c)) e ≡ moved_on start (place_edit (length piece) f)
   place_of e f same within = search (rules, place_moved)
 
-  pub place_found : (e f : FlowEdit) (before whole : List ℕ) (p : PlacedEdit) → e ≡ edit_more behind f → length (f.old ++ f.behind) ≤ length (node_text at.node at.rest) →
-      HasBounds (cut_text c) e → cut_text c ≡ before ++ (e.old ++ e.behind) → p ≡ place_edit (length piece) f → whole ≡ cut_text c → EditFound (Some (flow_segments (cut_text c) e)) whole (moved_on start p) e.written
+  pub place_found : (e f : FlowEdit) (before whole : List ℕ) (p : PlacedEdit) → e ≡ edit_more after f → length (f.old ++ f.after) ≤ length (node_text at.node at.rest) →
+      HasBounds (cut_text c) e → cut_text c ≡ before ++ (e.old ++ e.after) → p ≡ place_edit (length piece) f → whole ≡ cut_text c → EditFound (Some (flow_segments (cut_text c) e)) whole (moved_on start p) e.written
   place_found e f before whole p same within bounds text is all =
       let moved : moved_on start p ≡ place_edit (length (cut_text c)) e = ap (moved_on start) is ∙ sym (place_of e f same within) in
       record {
@@ -60,7 +60,7 @@ module _ (c : Cut) (n : ℕ) (steps : List Step) (piece : List ℕ) (start : ℕ
 
 -- a node in front, how many bytes come before it, and steps in it
 abbrev pub Front : Type 0
-Front = NodeInFront × ℕ × Bor (List declared.Step)
+Front = LeadingNode × ℕ × Bor (List declared.Step)
 
 -- the collection to which these lead
 abbrev pub front_coll : Front → Option CollPieces
@@ -75,22 +75,22 @@ module _ (t : List ℕ) (n : ℕ) (steps : List Step) (x : Front) (w : IsFlowFro
   in_row : front_coll x ≡ coll_along ss w.front.head.node w.front.head.rest
   in_row = ap (coll_read ss) w.front.read
 
-  pub all_is : flow_collection n steps (cut_of t) ≡ option_map (with_more w.behind) (front_coll x)
-  all_is = w.found ∙ (content_more ss w.row.content w.behind ∙ ap (option_map (with_more w.behind)) (w.front.head.flow ss ∙ sym in_row))
+  pub all_is : flow_collection n steps (cut_of t) ≡ option_map (with_more w.after) (front_coll x)
+  all_is = w.found ∙ (content_more ss w.row.content w.after ∙ ap (option_map (with_more w.after)) (w.front.head.flow ss ∙ sym in_row))
 
   abbrev pub at_front : CollPieces → CollAt
   at_front z = record { place = Block; indent = parent_indent w.row; around = 0; node = w.front.head.node; rest = w.front.head.rest; steps = ss; coll = z }
 
-  pub piece_found : read_at t ≡ Some (cut_of t) → (z : CollPieces) → front_coll x ≡ Some z → PieceFound (cut_of t) n steps x.0.text.now x.1 w.behind (at_front z)
+  pub piece_found : read_at t ≡ Some (cut_of t) → (z : CollPieces) → front_coll x ≡ Some z → PieceFound (cut_of t) n steps x.0.text.now x.1 w.after (at_front z)
   piece_found read z there =
       let found = sym in_row ∙ there in
       let same = sym (text_read t (cut_of t) read) in
       record {
         read = subst (λ (u : List ℕ). read_at u ≡ Some (cut_of t)) same read;
         front = take x.1 t;
-        text = sym same ∙ w.front.stands;
+        text = sym same ∙ w.front.is_located;
         start_is = w.front.begins;
-        found = all_is ∙ ap (option_map (with_more w.behind)) there;
-        stands = record { inline = record { valid = w.front.head.valid; something = some_node ss w.front.head.node w.front.head.rest z found }; found = found };
+        found = all_is ∙ ap (option_map (with_more w.after)) there;
+        is_located = record { inline = record { valid = w.front.head.valid; something = some_node ss w.front.head.node w.front.head.rest z found }; found = found };
         node_is = w.front.text;
       }

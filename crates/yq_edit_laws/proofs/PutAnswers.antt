@@ -10,23 +10,23 @@ use Rattle.yq_core.{specs.NodesWritten.flow_of, proofs.PathLaws.path_places, pro
 use Rattle.yq_flow_edits.{specs.FlowEdits.{FlowEdit, replacing}, specs.FlowPlaces.{PlacedEdit, edit_view, place_edit, replace_place}}
 use Rattle.yq_flow_edits.specs.declared.flow_place.EditPlace.{EditPlace}
 use Rattle.yq_row_table.specs.Rows.{Cut, cut_text}
-use Rattle.yq_places.{specs.FlowViews.{behind_anchor, placed_collection}, specs.NodesAt.node_in}
-use Rattle.yq_places.{specs.Standings.{FlowPart, flow_standing, last_step}, specs.declared.places.flow_node.FlowHead.FlowHead}
+use Rattle.yq_places.{specs.FlowViews.{following_anchor, placed_collection}, specs.NodesAt.node_in}
+use Rattle.yq_places.{specs.Placements.{FlowPart, flow_placement, last_step}, specs.declared.places.flow_node.FlowHead.FlowHead}
 use Rattle.yq_places.proofs.FlowNodeLaws.{entry_more}
 use Rattle.yq_edit_rules.{specs.FlowParts.flow_value, specs.Replacing.keeps_scalar, specs.WrittenValues.value_text}
 use Rattle.yq_text.specs.Script.{keep}
 use Rattle.yq_edit_laws.specs.EditPlaces.{edit_segments}
 use Rattle.yq_edit_laws.specs.PartPuts.{IsPlaceOf, IsValuePut, IsWrittenFor, IsWrittenIn, IsWrittenPart, part_put, part_replaced}
 use Rattle.yq_edit_laws.specs.PartPuts.{place_after, put_edit}
-use Rattle.yq_edit_laws.proofs.FlowAnswers.{CollFound, edit_lies, edit_moved, entry_found, part_in, segments_at, standing_is}
+use Rattle.yq_edit_laws.proofs.FlowAnswers.{CollFound, edit_lies, edit_moved, entry_found, part_in, segments_at, placement_is}
 use Rattle.yq_edit_laws.{proofs.FlowHeads.{replace_found, replaced_within, whole_is}, proofs.FlowLonger.edit_more}
-use Rattle.yq_edit_laws.{proofs.FlowPartNodes.part_node, proofs.FlowPutLaws.{bounds, e, m, there}, proofs.FlowStandings.EntryAt}
-use Rattle.yq_edit_laws.proofs.FlowWholeLaws.{StandsBefore, replaced_stands}
+use Rattle.yq_edit_laws.{proofs.FlowPartNodes.part_node, proofs.FlowPutLaws.{bounds, e, m, there}, proofs.FlowPlacements.EntryAt}
+use Rattle.yq_edit_laws.proofs.FlowWholeLaws.{IsPlacedBefore, replaced_is_there}
 use Rattle.yq_core.specs.Tree as tree
 use Rattle.yq_core.specs.Nodes as inline
 
 -- the parts of a node without its anchor
-core_parts : (q : Placed) → parts_of (behind_anchor q) ≡ parts_of q
+core_parts : (q : Placed) → parts_of (following_anchor q) ≡ parts_of q
 core_parts (placed a b c e f) = refl
 
 one_step : (o : Option PlacedEntry) → option_and_then (placed_entry_at []) o ≡ o
@@ -41,12 +41,12 @@ part_placed total s w =
     sym (one_step (flow_part_at s (parts_of (placed_collection total w)))) ∙ (path_places total (s ∷ []) slot ∙ ap (option_map (locate_entry total)) (one_piece (item_at w.close s w.items w.rest)))
 
 -- what is at the place of an edit
-pub old_at : (t before : List ℕ) (e : FlowEdit) → t ≡ before ++ (e.old ++ e.behind) → drop (length t - length (e.old ++ e.behind)) (take (length t - length e.behind) t) ≡ e.old
+pub old_at : (t before : List ℕ) (e : FlowEdit) → t ≡ before ++ (e.old ++ e.after) → drop (length t - length (e.old ++ e.after)) (take (length t - length e.after) t) ≡ e.old
 old_at t before e is =
-    let whole : t ≡ (before ++ e.old) ++ e.behind = is ∙ sym (append_assoc before e.old e.behind) in
-    let start : length t - length (e.old ++ e.behind) ≡ length before = omega (arith, ap length is, length-append before (e.old ++ e.behind)) in
-    let end_ : length t - length e.behind ≡ length (before ++ e.old) = omega (arith, ap length whole, length-append (before ++ e.old) e.behind) in
-    let front : take (length t - length e.behind) t ≡ before ++ e.old = (λ i. take (end_ i) (whole i)) ∙ take-append_seam (before ++ e.old) e.behind in
+    let whole : t ≡ (before ++ e.old) ++ e.after = is ∙ sym (append_assoc before e.old e.after) in
+    let start : length t - length (e.old ++ e.after) ≡ length before = omega (arith, ap length is, length-append before (e.old ++ e.after)) in
+    let end_ : length t - length e.after ≡ length (before ++ e.old) = omega (arith, ap length whole, length-append (before ++ e.old) e.after) in
+    let front : take (length t - length e.after) t ≡ before ++ e.old = (λ i. take (end_ i) (whole i)) ∙ take-append_seam (before ++ e.old) e.after in
     (λ i. drop (start i) (front i)) ∙ drop-append_seam before e.old
 
 -- how a value is written is the text of its node
@@ -71,10 +71,10 @@ module _ (c : Cut) (n : ℕ) (path init : List Step) (s : Step) (x : FlowHead) (
   row = x.text.now
 
   abbrev part_of : EntryPieces → FlowPart
-  part_of y = part_in s f.coll (entry_more f.agrees.behind y)
+  part_of y = part_in s f.coll (entry_more f.agrees.after y)
 
-  stands : (y : Option EntryPieces) → item_at own.close s own.items own.rest ≡ y → flow_standing n c (last_step path) ≡ option_map (part_in s f.coll) (option_map (entry_more f.agrees.behind) y)
-  stands y at = standing_is c n path init s x q last f ∙ ap (λ (z : Option EntryPieces). option_map (part_in s f.coll) (option_map (entry_more f.agrees.behind) z)) at
+  is_located : (y : Option EntryPieces) → item_at own.close s own.items own.rest ≡ y → flow_placement n c (last_step path) ≡ option_map (part_in s f.coll) (option_map (entry_more f.agrees.after) y)
+  is_located y at = placement_is c n path init s x q last f ∙ ap (λ (z : Option EntryPieces). option_map (part_in s f.coll) (option_map (entry_more f.agrees.after) z)) at
 
   part_is : o ≡ option_map (locate_entry (length row)) (item_at own.close s own.items own.rest)
   part_is = is ∙ (ap (flow_part_at s) (sym (core_parts q) ∙ ap parts_of f.node) ∙ part_placed (length row) s own)
@@ -98,8 +98,8 @@ module _ (c : Cut) (n : ℕ) (path init : List Step) (s : Step) (x : FlowHead) (
     abbrev a : EntryAt c n path
     a = entry_found c n path init s x q last f y (part_found p some).at
 
-    pub standing_there : flow_standing n c (last_step path) ≡ Some z
-    standing_there = stands (Some y) (part_found p some).at
+    pub placement_there : flow_placement n c (last_step path) ≡ Some z
+    placement_there = is_located (Some y) (part_found p some).at
 
     -- the node there
     pub node_there : node_in n path c ≡ Some (placed_tree p.1)
@@ -120,18 +120,18 @@ module _ (c : Cut) (n : ℕ) (path init : List Step) (s : Step) (x : FlowHead) (
       own_place =
           place
           ∙ (ap (λ (e : PlacedEntry). replace_place e.1) (part_found p some).placed_is
-          ∙ subst (λ (l : List ℕ). replace_place (locate (length l) y.node y.rest) ≡ place_edit (length l) alone) (sym f.agrees.node_is) (replace_found f.agrees.at f.agrees.stands s y new (part_found p some).at))
+          ∙ subst (λ (l : List ℕ). replace_place (locate (length l) y.node y.rest) ≡ place_edit (length l) alone) (sym f.agrees.node_is) (replace_found f.agrees.at f.agrees.is_located s y new (part_found p some).at))
 
       pub place_found : IsPlaceOf (cut_text c) v z (place_after x.before r)
       place_found =
-          let same : edit ≡ edit_more f.agrees.behind alone = ap (λ (w : CollPieces). replacing s (entry_more f.agrees.behind y) new w) (whole_is (cut_text c) f.coll x f.agrees) in
-          let moved = edit_moved c n init x q f edit alone (edit_view r) same (replaced_within f.agrees.at f.agrees.stands s y new (part_found p some).at) own_place in
+          let same : edit ≡ edit_more f.agrees.after alone = ap (λ (w : CollPieces). replacing s (entry_more f.agrees.after y) new w) (whole_is (cut_text c) f.coll x f.agrees) in
+          let moved = edit_moved c n init x q f edit alone (edit_view r) same (replaced_within f.agrees.at f.agrees.is_located s y new (part_found p some).at) own_place in
           let t = there c n path v f.read a in
           record { lies = edit_lies c n init x q f edit (edit_view r) (bounds c n path v f.read a) moved; place_is = moved; before = t.before; text = t.text }
 
       pub text_found : value_text InFlow (drop r.start (take r.end row)) v ≡ (put_edit v z).written
       text_found =
-          let stood = subst (λ (l : List ℕ). StandsBefore l (alone.old ++ alone.behind)) (sym f.agrees.node_is) (replaced_stands f.agrees.at [] f.agrees.stands s y (part_found p some).at) in
+          let stood = subst (λ (l : List ℕ). IsPlacedBefore l (alone.old ++ alone.after)) (sym f.agrees.node_is) (replaced_is_there f.agrees.at [] f.agrees.is_located s y (part_found p some).at) in
           (λ i. value_text InFlow (drop (own_place i).start (take (own_place i).end row)) v)
           ∙ (ap (λ (l : List ℕ). value_text InFlow l v) (old_at row stood.before alone stood.text) ∙ value_is edit.old v)
 
@@ -139,13 +139,13 @@ module _ (c : Cut) (n : ℕ) (path init : List Step) (s : Step) (x : FlowHead) (
     pub puts_found : (v : tree.Node) (r : EditPlace) (o : Option (String Global)) → edit_view r ≡ replace_place p.1 → IsWrittenIn row p.1 v o → IsValuePut n path v c (place_after x.before r) o
     puts_found v r o place h =
         let text = (λ i. value_text InFlow (drop (sym place i).start (take (sym place i).end row)) v) ∙ text_found v r place in
-        (z, standing_there, place_found v r place, written_found (node_in n path c) v z _ _ (ap (λ (m : Option tree.Node). keeps_scalar m v) node_there) text o h)
+        (z, placement_there, place_found v r place, written_found (node_in n path c) v z _ _ (ap (λ (m : Option tree.Node). keeps_scalar m v) node_there) text o h)
 
 -- ---- no collection
 
 -- ---- the segments
 
-pub puts_none : (n : ℕ) (path : List Step) (v : tree.Node) (c : Cut) → flow_standing n c (last_step path) ≡ None → part_replaced n path v c ≡ None
+pub puts_none : (n : ℕ) (path : List Step) (v : tree.Node) (c : Cut) → flow_placement n c (last_step path) ≡ None → part_replaced n path v c ≡ None
 puts_none n path v c none = ap (option_map (part_put (cut_text c) (keeps_scalar (node_in n path c) v) v)) none
 
 pub puts_written : (n : ℕ) (path : List Step) (v : tree.Node) (c : Cut) (place : PlacedEdit) (o : Option (String Global)) (written : String Global) (whole : List ℕ) → o ≡ Some written → whole ≡ cut_text c → IsValuePut n path v c place o →

@@ -3,7 +3,7 @@ use Rattle.std.proofs.Common.{rules, ◌≡◌, ◌⊎◌, inl, inr, ℕ, ◌+�
 use Rattle.std.{proofs.Common.{◌∙◌, subst, append_assoc, arith}, proofs.lemmas.Bool.{cases_lt, false≢true}}
 use Rattle.std.proofs.lemmas.List.{append_cancel_left, length-append}
 use Rattle.yq_core.{specs.Text.is_empty, proofs.BlockPieceLaws.IsLf}
-use Rattle.yq_row_table.proofs.NothingLaws.{some_behind}
+use Rattle.yq_row_table.proofs.NothingLaws.{some_after}
 use Rattle.yq_text.specs.Script.{Segment, keep, put, are_kept, extents, from_first, kept_back, kept_front, new_text, swapped_segments}
 use Rattle.yq_text.proofs.KeptSegments.{new_kept, one_kept}
 use Rattle.yq_edit_laws.specs.TouchedRanges.{AreInLines, IsTouched, is_one_line}
@@ -14,20 +14,20 @@ use Rattle.yq_edit_rules.{proofs.HeldPieces.suffix_lf, proofs.LocalLaws.longer_f
 line_no_more : (f : List ℕ) (d : ℕ) (rest : List ℕ) → is_one_line (f ++ (10 ∷ (d ∷ rest))) ≡ true → ⊥
 unfolding is_one_line
 line_no_more [] d rest e = false≢true e
-line_no_more (b ∷ f) d rest e = search (rules, false≢true, some_behind, line_no_more f d rest)
+line_no_more (b ∷ f) d rest e = search (rules, false≢true, some_after, line_no_more f d rest)
 
 -- ---- offsets of a text that is cut in two
 
-module _ (before behind : List ℕ) (to : ℕ) (ended : is_empty behind ≡ false → (before ≡ []) ⊎ IsLf before) (less : length before ≤ to) where
+module _ (before after : List ℕ) (to : ℕ) (ended : is_empty after ≡ false → (before ≡ []) ⊎ IsLf before) (less : length before ≤ to) where
   -- what is kept doesn't go over the cut, and on after that
-  inside : (lead run rest : List ℕ) → lead ++ (run ++ rest) ≡ before ++ behind → length lead < length before → to < length lead + length run → to ≤ length before + length behind → is_one_line run ≡ true → ⊥
+  inside : (lead run rest : List ℕ) → lead ++ (run ++ rest) ≡ before ++ after → length lead < length before → to < length lead + length run → to ≤ length before + length after → is_one_line run ≡ true → ⊥
   inside lead run rest text first last within line =
-      let m = longer_front lead (run ++ rest) before behind text (omega (arith, first)) in
-      let tail : run ++ rest ≡ m.0 ++ behind = append_cancel_left lead (run ++ rest) (m.0 ++ behind) (text ∙ (ap (λ t. t ++ behind) m.1 ∙ append_assoc lead m.0 behind)) in
+      let m = longer_front lead (run ++ rest) before after text (omega (arith, first)) in
+      let tail : run ++ rest ≡ m.0 ++ after = append_cancel_left lead (run ++ rest) (m.0 ++ after) (text ∙ (ap (λ t. t ++ after) m.1 ∙ append_assoc lead m.0 after)) in
       let size : length before ≡ length lead + length m.0 = ap length m.1 ∙ length-append lead m.0 in
-      let d = longer_front m.0 behind run rest (sym tail) (omega (arith, size, last, less)) in
+      let d = longer_front m.0 after run rest (sym tail) (omega (arith, size, last, less)) in
       let sized : length run ≡ length m.0 + length d.0 = ap length d.1 ∙ length-append m.0 d.0 in
-      let sides : length run + length rest ≡ length m.0 + length behind = sym (length-append run rest) ∙ (ap length tail ∙ length-append m.0 behind) in
+      let sides : length run + length rest ≡ length m.0 + length after = sym (length-append run rest) ∙ (ap length tail ∙ length-append m.0 after) in
       split m.0 d.0 m.1 d.1 (omega (arith, size, first)) (omega (arith, sized, size, last, less)) (omega (arith, sized, sides, size, last, less))
     where
       ends : (m d : List ℕ) → run ≡ m ++ d → 1 ≤ length d → IsLf m → ⊥
@@ -38,21 +38,21 @@ module _ (before behind : List ℕ) (to : ℕ) (ended : is_empty behind ≡ fals
       some_of [] h = absurd (omega (arith, h))
       some_of (x ∷ t) h = refl
 
-      split : (m d : List ℕ) → before ≡ lead ++ m → run ≡ m ++ d → 1 ≤ length m → 1 ≤ length d → 1 ≤ length behind → ⊥
-      split m d cut is own more far = go (ended (some_of behind far))
+      split : (m d : List ℕ) → before ≡ lead ++ m → run ≡ m ++ d → 1 ≤ length m → 1 ≤ length d → 1 ≤ length after → ⊥
+      split m d cut is own more far = go (ended (some_of after far))
         where
           go : (before ≡ []) ⊎ IsLf before → ⊥
           go (inl none) = omega (arith, first, ap length none)
           go (inr lf) = ends m d is more (suffix_lf lead m (subst IsLf cut lf) (some_of m own))
 
   -- a range that begins no later
-  begun : (lead o w : List ℕ) (ss : List Segment) → lead ++ (w ++ new_text ss) ≡ before ++ behind → length lead ≤ to → length (kept_back ss) ≤ length behind →
+  begun : (lead o w : List ℕ) (ss : List Segment) → lead ++ (w ++ new_text ss) ≡ before ++ after → length lead ≤ to → length (kept_back ss) ≤ length after →
       (length lead + length w < length before → are_kept ss ≡ false → IsTouched (length before) to (extents (length lead + length w) (swapped_segments ss))) →
       IsTouched (length before) to (extents (length lead) (swapped_segments (put o w ∷ ss)))
   begun lead o w ss text first back later = go (cases_lt (length lead + length w) (length before))
     where
-      size : length lead + (length w + length (new_text ss)) ≡ length before + length behind
-      size = omega (arith, ap length text, length-append lead (w ++ new_text ss), length-append w (new_text ss), length-append before behind)
+      size : length lead + (length w + length (new_text ss)) ≡ length before + length after
+      size = omega (arith, ap length text, length-append lead (w ++ new_text ss), length-append w (new_text ss), length-append before after)
 
       kept : (b : Bool) → are_kept ss ≡ b → length lead + length w < length before → IsTouched (length before) to (extents (length lead + length w) (swapped_segments ss))
       kept true all k = absurd (omega (arith, size, k, back, ap length (new_kept ss all)))
@@ -63,18 +63,18 @@ module _ (before behind : List ℕ) (to : ℕ) (ended : is_empty behind ≡ fals
       go (inr k) = inl (first, k)
 
   -- after a range that ends in front of the cut
-  behind_range : (lead run : List ℕ) (ss : List Segment) → lead ++ (run ++ new_text ss) ≡ before ++ behind → length lead < length before → AreInLines run ss → are_kept ss ≡ false → length (kept_back ss) ≤ length behind →
-      to ≤ length before + length behind → IsTouched (length before) to (extents (length lead + length run) (swapped_segments ss))
-  behind_range lead run [] text first lines kept back within = absurd (false≢true (sym kept))
-  behind_range lead run (keep t ∷ ss) text first lines kept back within =
+  after_range : (lead run : List ℕ) (ss : List Segment) → lead ++ (run ++ new_text ss) ≡ before ++ after → length lead < length before → AreInLines run ss → are_kept ss ≡ false → length (kept_back ss) ≤ length after →
+      to ≤ length before + length after → IsTouched (length before) to (extents (length lead + length run) (swapped_segments ss))
+  after_range lead run [] text first lines kept back within = absurd (false≢true (sym kept))
+  after_range lead run (keep t ∷ ss) text first lines kept back within =
       subst (λ (n : ℕ). IsTouched (length before) to (extents n (swapped_segments ss))) (let same : length lead + length (run ++ t) ≡ (length lead + length run) + length t = omega (arith, length-append run t) in same)
-      (behind_range lead (run ++ t) ss (ap (λ x. lead ++ x) (append_assoc run t (new_text ss)) ∙ text) first lines kept (subst (λ (x : List ℕ). length x ≤ length behind) (one_kept t ss false kept) back) within)
-  behind_range lead run (put o w ∷ ss) text first lines kept back within =
+      (after_range lead (run ++ t) ss (ap (λ x. lead ++ x) (append_assoc run t (new_text ss)) ∙ text) first lines kept (subst (λ (x : List ℕ). length x ≤ length after) (one_kept t ss false kept) back) within)
+  after_range lead run (put o w ∷ ss) text first lines kept back within =
       let at : length (lead ++ run) ≡ length lead + length run = length-append lead run in
-      go (λ k more. behind_range ((lead ++ run) ++ w) [] ss (append_assoc (lead ++ run) w (new_text ss) ∙ whole) (omega (arith, k, length-append (lead ++ run) w)) lines.1 more back within)
+      go (λ k more. after_range ((lead ++ run) ++ w) [] ss (append_assoc (lead ++ run) w (new_text ss) ∙ whole) (omega (arith, k, length-append (lead ++ run) w)) lines.1 more back within)
       (cases_lt to (length lead + length run))
     where
-      whole : (lead ++ run) ++ (w ++ new_text ss) ≡ before ++ behind
+      whole : (lead ++ run) ++ (w ++ new_text ss) ≡ before ++ after
       whole = append_assoc lead run (w ++ new_text ss) ∙ text
 
       go : (length (lead ++ run) + length w < length before → are_kept ss ≡ false → IsTouched (length before) to (extents (length ((lead ++ run) ++ w) + 0) (swapped_segments ss))) →
@@ -82,20 +82,20 @@ module _ (before behind : List ℕ) (to : ℕ) (ended : is_empty behind ≡ fals
       go later k = search (rules, arith, inside, length-append, begun, whole)
 
   -- from the first one on
-  pub from_front : (lead : List ℕ) (ss : List Segment) → lead ++ new_text ss ≡ before ++ behind → AreInLines [] (from_first ss) → are_kept ss ≡ false → length lead + length (kept_front ss) ≤ to → length (kept_back ss) ≤ length behind →
-      to ≤ length before + length behind → IsTouched (length before) to (extents (length lead) (swapped_segments ss))
+  pub from_front : (lead : List ℕ) (ss : List Segment) → lead ++ new_text ss ≡ before ++ after → AreInLines [] (from_first ss) → are_kept ss ≡ false → length lead + length (kept_front ss) ≤ to → length (kept_back ss) ≤ length after →
+      to ≤ length before + length after → IsTouched (length before) to (extents (length lead) (swapped_segments ss))
   from_front lead [] text lines kept front back within = absurd (false≢true (sym kept))
   from_front lead (keep t ∷ ss) text lines kept front back within =
       subst (λ (n : ℕ). IsTouched (length before) to (extents n (swapped_segments ss))) (length-append lead t)
       (from_front (lead ++ t) ss (append_assoc lead t (new_text ss) ∙ text) lines kept
       (omega (arith, front, length-append lead t, length-append t (kept_front ss)))
-      (subst (λ (x : List ℕ). length x ≤ length behind) (one_kept t ss false kept) back) within)
+      (subst (λ (x : List ℕ). length x ≤ length after) (one_kept t ss false kept) back) within)
   from_front lead (put o w ∷ ss) text lines kept front back within =
       begun lead o w ss text (omega (arith, front)) back
       (λ k more.
       let n : length (lead ++ w) + 0 ≡ length lead + length w = omega (arith, length-append lead w) in
       subst (λ (n : ℕ). IsTouched (length before) to (extents n (swapped_segments ss))) n
-      (behind_range (lead ++ w) [] ss (append_assoc lead w (new_text ss) ∙ text) (omega (arith, k, length-append lead w)) lines.1 more back within))
+      (after_range (lead ++ w) [] ss (append_assoc lead w (new_text ss) ∙ text) (omega (arith, k, length-append lead w)) lines.1 more back within))
 
 -- ---- at the first range, and at the last one
 

@@ -11,14 +11,14 @@ use Rattle.yq_documents.specs.LinesInRows.{RowLine, row_line, row_line_of}
 use Rattle.yq_places.specs.FirstPlaces.{first_entry, first_out, first_removal}
 use Rattle.yq_places.specs.PathPieces.{BlockEntry, PrintedDocument, entry_piece, found_entry, piece_in, piece_in_entry, printed_document}
 use Rattle.yq_places.{specs.PrintedLines.line_in, specs.RemovalPlaces.{OwnRows, in_three, removal_place, row_count, rows_out}}
-use Rattle.yq_places.{specs.Standings.{RowsOfEntry, rows_of_entry}, proofs.FoundEntries.{entry_there, middle}, proofs.PrintedLaws.lines_are}
-use Rattle.yq_places.{proofs.RowPathLaws.found_lines, proofs.DashLineLaws.row_line_found}
-use Rattle.yq_edit_rules.{specs.StandingLaws.StandsThere, proofs.StandingRows.rows_stand, specs.EntryEdits.one_removed}
+use Rattle.yq_places.{specs.Placements.{RowsOfEntry, rows_of_entry}, proofs.FoundEntries.{entry_there, middle}}
+use Rattle.yq_places.{proofs.PrintedLaws.lines_are, proofs.RowPathLaws.found_lines, proofs.DashLineLaws.row_line_found}
+use Rattle.yq_edit_rules.{specs.PlacementLaws.HasItsRows, proofs.PlacementRows.rows_located, specs.EntryEdits.one_removed}
 use Rattle.yq_edit_rules.specs.Removing.{first_removed, rows_removed}
 use Rattle.yq_text.specs.Script.{Segment}
-use Rattle.yq_edit_laws.{proofs.PrintedDocuments.printed_at, proofs.StandingExists.placed_there}
+use Rattle.yq_edit_laws.{proofs.PrintedDocuments.printed_at, proofs.PlacementExists.placed_there}
 
-module _ (n : ℕ) (s : Step) (ss : List Step) (c : Cut) (e : RowsOfEntry) (read : read_at (cut_text c) ≡ Some c) (x : StandsThere n s ss c e) where
+module _ (n : ℕ) (s : Step) (ss : List Step) (c : Cut) (e : RowsOfEntry) (read : read_at (cut_text c) ≡ Some c) (x : HasItsRows n s ss c e) where
   abbrev p : Part
   p = x.part
 
@@ -67,11 +67,11 @@ module _ (n : ℕ) (s : Step) (ss : List Step) (c : Cut) (e : RowsOfEntry) (read
 
   either : (w : RowLine) → row_line at p.rows ≡ Some w → (b : Bool) → eqb w.line 0 ≡ b → (us : List Segment) × (one_removed n (s ∷ ss) c ≡ Some us)
   either w is true first = let y = by_rows w is first in (y.0, ap (λ (o : Option (List Segment)). option_or o (option_map first_removed (first_removal n (s ∷ ss) c))) y.1)
-  either w is false first = behind (option_map rows_removed (removal_place n (s ∷ ss) c)) (by_first w is first)
+  either w is false first = after (option_map rows_removed (removal_place n (s ∷ ss) c)) (by_first w is first)
     where
-      behind : (o : Option (List Segment)) → ((us : List Segment) × (option_map first_removed (first_removal n (s ∷ ss) c) ≡ Some us)) → (us : List Segment) × (option_or o (option_map first_removed (first_removal n (s ∷ ss) c)) ≡ Some us)
-      behind None h = h
-      behind (Some us) h = (us, refl)
+      after : (o : Option (List Segment)) → ((us : List Segment) × (option_map first_removed (first_removal n (s ∷ ss) c) ≡ Some us)) → (us : List Segment) × (option_or o (option_map first_removed (first_removal n (s ∷ ss) c)) ≡ Some us)
+      after None h = h
+      after (Some us) h = (us, refl)
 
 pub one_there : (n : ℕ) (s : Step) (ss : List Step) (c : Cut) (e : RowsOfEntry) → read_at (cut_text c) ≡ Some c → rows_of_entry n (s ∷ ss) c ≡ Some e → (us : List Segment) × (one_removed n (s ∷ ss) c ≡ Some us)
-one_there n s ss c e read is = let x = rows_stand n s ss c e read is in let w = printed_line n s ss c e read x in either n s ss c e read x w.0 w.1 (eqb w.0.line 0) refl
+one_there n s ss c e read is = let x = rows_located n s ss c e read is in let w = printed_line n s ss c e read x in either n s ss c e read x w.0 w.1 (eqb w.0.line 0) refl

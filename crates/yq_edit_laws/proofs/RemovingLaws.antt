@@ -5,12 +5,12 @@ use Rattle.std.{proofs.lemmas.List.{take-append-drop, length-append}, proofs.lem
 use Rattle.yq_core.{specs.Block.RawLines, specs.BlockRepair.{is_short, is_outdented_comment, repair}, specs.Lines.is_blank}
 use Rattle.yq_core.{specs.Paths.Step, specs.Text.{cut, no_white, past_white, upto, joined, text_lines}, proofs.LineLaws.joined_lines}
 use Rattle.yq_text.{specs.Limit.text_limit, specs.Script.{Segment, keep, put, old_text, new_text, kept_back}}
-use Rattle.yq_text.proofs.KeptSegments.{IsBehind, behind, back_last}
+use Rattle.yq_text.proofs.KeptSegments.{IsAfter, after, back_last}
 use Rattle.yq_row_table.{specs.Rows.{Row, print_row, Part, Cut, cut_text}, specs.Splices.first_gap}
 use Rattle.yq_documents.{specs.Reading.{documents, read_at}, proofs.RunLaws.run_split}
 use Rattle.yq_places.specs.RemovalPlaces.{kept_gap, Seam, Removal, removal_place, has_others_at}
 use Rattle.yq_edit_rules.{specs.RemovalChanges.{mended, MayTakeOut, IsTakenOut}, proofs.LeadLaws.block_lead_goes}
-use Rattle.yq_edit_rules.{proofs.RemovalChangeLaws.{AreRowsTaken, removal_stands, entry_taken}, specs.Changed.put_document}
+use Rattle.yq_edit_rules.{proofs.RemovalChangeLaws.{AreRowsTaken, removal_is_there, entry_taken}, specs.Changed.put_document}
 use Rattle.yq_edit_rules.{specs.Removes.left_gap, specs.EditLaws.IsEdit}
 use Rattle.yq_edit_rules.{specs.Removing.{put_indent, lines_mended, gap_mended, rows_removed}, specs.Local.IsLocalTo}
 use Rattle.yq_edit_rules.{specs.ReadsAfter.ReadsAfter, proofs.ItemsLocal.last_within, proofs.LocalLaws.{at_row, cut_known}}
@@ -71,15 +71,15 @@ gap_new (Some s) gap = lines_new s (text_lines gap)
 
 -- ---- what is taken out
 
-removed_old : (x : Removal) → old_text (rows_removed x) ≡ x.before ++ (x.gone ++ (x.gap ++ x.behind))
+removed_old : (x : Removal) → old_text (rows_removed x) ≡ x.before ++ (x.gone ++ (x.gap ++ x.after))
 removed_old x =
     ap (λ (t : List ℕ). x.before ++ (x.gone ++ t))
-    (old_both (gap_mended x.seam x.gap) (keep x.behind ∷ []) ∙ (ap (λ (t : List ℕ). t ++ (x.behind ++ [])) (gap_old x.seam x.gap) ∙ ap (λ (t : List ℕ). x.gap ++ t) (append-nil x.behind)))
+    (old_both (gap_mended x.seam x.gap) (keep x.after ∷ []) ∙ (ap (λ (t : List ℕ). t ++ (x.after ++ [])) (gap_old x.seam x.gap) ∙ ap (λ (t : List ℕ). x.gap ++ t) (append-nil x.after)))
 
-removed_new : (x : Removal) → new_text (rows_removed x) ≡ x.before ++ (mended x.seam x.gap ++ x.behind)
+removed_new : (x : Removal) → new_text (rows_removed x) ≡ x.before ++ (mended x.seam x.gap ++ x.after)
 removed_new x =
     ap (λ (t : List ℕ). x.before ++ t)
-    (new_both (gap_mended x.seam x.gap) (keep x.behind ∷ []) ∙ (ap (λ (t : List ℕ). t ++ (x.behind ++ [])) (gap_new x.seam x.gap) ∙ ap (λ (t : List ℕ). mended x.seam x.gap ++ t) (append-nil x.behind)))
+    (new_both (gap_mended x.seam x.gap) (keep x.after ∷ []) ∙ (ap (λ (t : List ℕ). t ++ (x.after ++ [])) (gap_new x.seam x.gap) ∙ ap (λ (t : List ℕ). mended x.seam x.gap ++ t) (append-nil x.after)))
 
 -- ---- the documents after it
 
@@ -96,7 +96,7 @@ gap_no_longer : (rs : List Row) (end : List ℕ) (first : Row) (others : List Ro
 gap_no_longer rs end first others e =
     search (rules, arith, run_split (text_lines first.gap) ∙ joined_lines first.gap, ap (λ (xs : List Row). length (kept_gap xs end)) e, length-append)
 
-module _ (doc : ℕ) (steps : List Step) (c : Cut) (x : Removal) (old : old_text (rows_removed x) ≡ cut_text c) (out : IsTakenOut c doc steps (x.before ++ (mended x.seam x.gap ++ x.behind))) (a : AreRowsTaken c doc x out.old out.new) where
+module _ (doc : ℕ) (steps : List Step) (c : Cut) (x : Removal) (old : old_text (rows_removed x) ≡ cut_text c) (out : IsTakenOut c doc steps (x.before ++ (mended x.seam x.gap ++ x.after))) (a : AreRowsTaken c doc x out.old out.new) where
   -- the rows that go, with the gap after them
   abbrev own : List Row
   own = a.first ∷ a.others
@@ -105,7 +105,7 @@ module _ (doc : ℕ) (steps : List Step) (c : Cut) (x : Removal) (old : old_text
   went_out =
       let p : Part = out.old in
       let kept : List ℕ = kept_gap own p.end in
-      let m : IsBehind (gap_mended x.seam x.gap) = behind (gap_mended x.seam x.gap) in
+      let m : IsAfter (gap_mended x.seam x.gap) = after (gap_mended x.seam x.gap) in
       let u : List ℕ = kept_back (gap_mended x.seam x.gap) in
       record {
         there = out.there;
@@ -120,7 +120,7 @@ module _ (doc : ℕ) (steps : List Step) (c : Cut) (x : Removal) (old : old_text
         lead = kept;
         end' = u;
         before_is = append-nil x.before ∙ (a.before_is ∙ at_row a.start a.front kept);
-        behind_is = back_last (gap_mended x.seam x.gap) x.behind ∙ ap (λ t. u ++ t) a.behind_is;
+        following_is = back_last (gap_mended x.seam x.gap) x.after ∙ ap (λ t. u ++ t) a.following_is;
         begins = gap_no_longer own p.end a.first a.others refl;
         ends = last_within (first_gap a.back p.end) m.old u (sym a.gap_is ∙ (sym (gap_old x.seam x.gap) ∙ m.old_is));
         puts = refl;
@@ -141,8 +141,8 @@ module _ (doc : ℕ) (steps : List Step) (c : Cut) (x : Removal) (old : old_text
 -- an item or entry taken out with its rows
 pub rows_out : (n : ℕ) (steps : List Step) (c : Cut) (x : Removal) → read_at (cut_text c) ≡ Some c → has_others_at n steps c ≡ true → removal_place n steps c ≡ Some x → IsEdit (remove n steps) c (rows_removed x)
 rows_out n steps c x read others place =
-    let t : List ℕ = x.before ++ (mended x.seam x.gap ++ x.behind) in
-    let old : old_text (rows_removed x) ≡ cut_text c = removed_old x ∙ sym (removal_stands c n steps x read place) in
+    let t : List ℕ = x.before ++ (mended x.seam x.gap ++ x.after) in
+    let old : old_text (rows_removed x) ≡ cut_text c = removed_old x ∙ sym (removal_is_there c n steps x read place) in
     record {
       old = old;
       carried = λ operand fits size.
@@ -155,4 +155,4 @@ pub rows_near : (n : ℕ) (steps : List Step) (c : Cut) (x : Removal) → read_a
     length (new_text (rows_removed x)) ≤ text_limit → (new : Cut) → read_at (new_text (rows_removed x)) ≡ Some new → LiesInOne (rows_removed x) new
 rows_near n steps c x read others place fits size =
     let both = entry_taken c n steps x read place (may_take n steps c others fits) (subst (λ (t : List ℕ). length t ≤ text_limit) (removed_new x) size) in
-    lies_in_one n steps c x (removed_old x ∙ sym (removal_stands c n steps x read place)) both.0 both.1
+    lies_in_one n steps c x (removed_old x ∙ sym (removal_is_there c n steps x read place)) both.0 both.1

@@ -33,6 +33,6 @@ LocalRoot n c d rs back ss =
     IsLocal ss c (put_document n (rooted rs back d.part) c)
 
 pub value_carried : (n : ℕ) (c : Cut) (d : PlacedPart) (gap last back : List ℕ) (v : Node) (l : Layout) (column : ℕ) (ss : List Segment) → TakesValue n c d gap last back → 1 ≤ l.mapping → IsValueTree v → FitsPart v d.part →
-    d.before ++ (gap ++ (replicate column 32 ++ (block_value l column v ++ (last ++ (back ++ d.behind))))) ≡ new_text ss → IsReadable (new_text ss) → LocalRoot n c d (root_rows l gap column last v) back ss → CarriedOut (replace n [] v) c ss
+    d.before ++ (gap ++ (replicate column 32 ++ (block_value l column v ++ (last ++ (back ++ d.after))))) ≡ new_text ss → IsReadable (new_text ss) → LocalRoot n c d (root_rows l gap column last v) back ss → CarriedOut (replace n [] v) c ss
 value_carried n c d gap last back v l column ss takes step value_tree fits text readable local =
     search (rules, text_is, root_rows, root_read, root_reads, cut_known)

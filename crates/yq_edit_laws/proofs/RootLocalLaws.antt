@@ -3,10 +3,10 @@ use Rattle.std.proofs.Common.{◌≡◌, ℕ, false, List, [], ◌∷◌, ◌++�
 use Rattle.std.{proofs.lemmas.Bool.false≢true, proofs.lemmas.List.length-append, specs.List.slice_get}
 use Rattle.yq_core.specs.Tree.{Node}
 use Rattle.yq_flow_edits.specs.Valued.{IsValueTree}
-use Rattle.yq_row_table.{specs.Grammar.no_rows, specs.Rows.{Row, behind_gap, Part, part_text, Cut, cut_text}, specs.Splices.first_gap}
+use Rattle.yq_row_table.{specs.Grammar.no_rows, specs.Rows.{Row, following_gap, Part, part_text, Cut, cut_text}, specs.Splices.first_gap}
 use Rattle.yq_row_table.specs.Items.{end_item, rows_items, Item}
 use Rattle.yq_documents.specs.Documents.{document_parts}
-use Rattle.yq_edit_rules.{specs.Changed.put_document, specs.DocumentRows.behind_document, specs.Replaces.rooted}
+use Rattle.yq_edit_rules.{specs.Changed.put_document, specs.DocumentRows.after_document, specs.Replaces.rooted}
 use Rattle.yq_edit_rules.{specs.declared.layout.Layout.Layout, proofs.BlockLineLaws.node_begun, specs.Local.{InFirst, IsLocal}}
 use Rattle.yq_edit_rules.{proofs.ItemsLocal.rows_last, proofs.LocalLaws.{above_is, h}, proofs.DocumentItemLaws.rows_before}
 use Rattle.yq_text.specs.Script.{Segment, kept_front, kept_back}
@@ -24,15 +24,15 @@ root_first v l gap column last h1 = search (rules, h, lone_first, length-append,
 -- bytes that begin its gap
 gap_first : (rs : List Row) (xs : List Item) (g u : List ℕ) → no_rows rs ≡ false → first_gap rs [] ≡ g ++ u → InFirst g (rows_items rs xs)
 gap_first [] xs g u some e = absurd (false≢true (sym some))
-gap_first (r ∷ rs) xs g u some e = omega (arith, ap length e, length-append g u, length-append r.gap (behind_gap r []))
+gap_first (r ∷ rs) xs g u some e = omega (arith, ap length e, length-append g u, length-append r.gap (following_gap r []))
 
 -- ---- a document without rows
 
 -- Rows come where a document has none, and the gap at its end ends up in front of them.
 pub gap_moves : (n : ℕ) (c : Cut) (p : Part) (there : slice_get (document_parts c) n ≡ Some p) (start : List ℕ)
-    (put : (x : Part) → cut_text (put_document n x c) ≡ start ++ part_text x (behind_document n c)) (ss : List Segment) (rs : List Row)
-    (u : List ℕ) → p.rows ≡ [] → no_rows rs ≡ false → first_gap rs [] ≡ p.end ++ u → kept_front ss ≡ start ++ p.end → kept_back ss ≡ behind_document n c → IsLocal ss c (put_document n (rooted rs [] p) c)
-gap_moves n c p there start put ss rs u none some gap before behind =
+    (put : (x : Part) → cut_text (put_document n x c) ≡ start ++ part_text x (after_document n c)) (ss : List Segment) (rs : List Row)
+    (u : List ℕ) → p.rows ≡ [] → no_rows rs ≡ false → first_gap rs [] ≡ p.end ++ u → kept_front ss ≡ start ++ p.end → kept_back ss ≡ after_document n c → IsLocal ss c (put_document n (rooted rs [] p) c)
+gap_moves n c p there start put ss rs u none some gap before after =
     let k = h c n p there start put in
     record {
       front = k.above;
@@ -45,7 +45,7 @@ gap_moves n c p there start put ss rs u none some gap before behind =
       new_are = k.put (rooted rs [] p)
           ∙ ap (λ is. k.above ++ is) (ap (λ xs. rows_items xs (end_item [] k.marker ∷ k.below)) (append-nil rs) ∙ rows_before rs (end_item [] k.marker ∷ []) k.below);
       before_is = before ∙ sym (above_is c n p there start put p.end);
-      behind_is = behind ∙ k.behind;
+      following_is = after ∙ k.after;
       begins = (omega (arith, length-append p.end k.marker), gap_first rs (end_item [] k.marker ∷ []) p.end u some gap);
       ends = (omega (arith, length-append p.end k.marker), rows_last rs (end_item [] k.marker) k.marker (omega arith));
     }

@@ -11,7 +11,7 @@ use Rattle.yq_documents.{specs.Reading.{root_of, read_at}, specs.PartNumbers.par
 use Rattle.yq_places.{specs.PlacedRows.PlacedPart, specs.RowPaths.IsReadable}
 use Rattle.yq_edit_rules.{specs.declared.layout.Layout.Layout, specs.BlockText.block_value, specs.BlockValues.HasNearKeys}
 use Rattle.yq_edit_rules.{specs.Changed.{changed as part_changed, IsChanged, KeepsRows, put_document}, specs.Conditions.AreSpared}
-use Rattle.yq_edit_rules.{specs.DocumentRows.{IsDocumentPart, behind_document}, specs.PlacedParts.StandsAt}
+use Rattle.yq_edit_rules.{specs.DocumentRows.{IsDocumentPart, after_document}, specs.PlacedParts.IsDocumentAt}
 use Rattle.yq_edit_rules.{specs.Replaces.{TakesRoot, rooted}, specs.Rooms.{is_block_root, LeadGoes}}
 use Rattle.yq_edit_rules.{specs.SoundRoots.{inner_names, IsNewValue}, proofs.AfterLaws.nth_is, proofs.ChangedLaws.document_put}
 use Rattle.yq_edit_rules.{proofs.EditedLaws.led_same, proofs.RootLaws.root_rows_replaced, specs.ReadsAfter.ReadsAfter}
@@ -29,10 +29,10 @@ headed_new above v h = search (rules, led_same above v)
 
 -- A value may come as the root of document n, between a gap that tells its lead and the end of the document.
 pub record TakesValue (n : ℕ) (c : Cut) (d : PlacedPart) (gap last back : List ℕ) : Type 0 where
-  pub stands : StandsAt c n d
+  pub is_located : IsDocumentAt c n d
   pub old : IsDocumentPart (cut_text c) c n d.part
   pub block : is_block_root d.part ≡ true
-  pub room : HasRoom gap last back d.behind
+  pub room : HasRoom gap last back d.after
   pub lead : head_comment gap ≡ lead_of d.part
   pub starts : (t : List ℕ) → no_rows d.part.rows ≡ true → is_after (marker_before [] (part_number n c) c) t ≡ true
 
@@ -53,18 +53,18 @@ module _ (n : ℕ) (c : Cut) (d : PlacedPart) (gap last back : List ℕ) (h : Ta
   abbrev new : Node
   new = within (headed (lead_of d.part)) v
 
-  pub are : AreRootRows v gap (replicate column 32 ++ (block_value l column v ++ (last ++ (back ++ d.behind)))) rs back d.behind
-  are = value_root_rows v l gap column last back d.behind step value_tree near h.room
+  pub are : AreRootRows v gap (replicate column 32 ++ (block_value l column v ++ (last ++ (back ++ d.after)))) rs back d.after
+  are = value_root_rows v l gap column last back d.after step value_tree near h.room
 
   -- the new text
-  pub text_is : cut_text (put_document n q c) ≡ d.before ++ (gap ++ (replicate column 32 ++ (block_value l column v ++ (last ++ (back ++ d.behind)))))
-  text_is = h.stands.put q ∙ ap (λ t. d.before ++ t) (ap (λ xs. rows_text xs (back ++ d.behind)) (append-nil rs) ∙ are.spelled)
+  pub text_is : cut_text (put_document n q c) ≡ d.before ++ (gap ++ (replicate column 32 ++ (block_value l column v ++ (last ++ (back ++ d.after)))))
+  text_is = h.is_located.put q ∙ ap (λ t. d.before ++ t) (ap (λ xs. rows_text xs (back ++ d.after)) (append-nil rs) ∙ are.spelled)
 
   takes : TakesRoot c n p rs back
   takes = record {
     some = are.some;
-    new_are = subst (AreRows unlimited rs back) (sym h.stands.behind) are.rows;
-    start = λ e. h.starts (rows_text rs (back ++ behind_document n c)) e;
+    new_are = subst (AreRows unlimited rs back) (sym h.is_located.after) are.rows;
+    start = λ e. h.starts (rows_text rs (back ++ after_document n c)) e;
     keys = are.keys;
     short = are.short;
   }

@@ -5,15 +5,15 @@ use Rattle.yq_core.{specs.Paths.within, specs.Plain.ends_plain, specs.Text.{is_e
 use Rattle.yq_core.proofs.NodesWrittenLaws.{node_then}
 use Rattle.yq_flow_edits.specs.Valued.{IsValueTree}
 use Rattle.yq_outline.{specs.LineAnchors.HaveOneAnchorEach, specs.Comments.{head_comment, line_comment}}
-use Rattle.yq_outline.{specs.Outline.{Line, level, Outline, end, row, flatten, IsEven, Stands, value}, proofs.ByRules.rules_give}
+use Rattle.yq_outline.{specs.Outline.{Line, level, Outline, end, row, flatten, IsEven, IsLocatedAt, value}, proofs.ByRules.rules_give}
 use Rattle.yq_outline.{proofs.NodeLaws.anchored_none, specs.Lines.{mark_line, lines_from, lines_of_rows}}
 use Rattle.yq_row_table.{specs.Gap.IsGap, specs.Grammar.{is_entry, IsTail, IsRow, unlimited, AreRows, no_rows, ends_part}}
-use Rattle.yq_row_table.{specs.Rows.{Bare, Inline, Row, behind_gap, rows_text}, specs.Splices.{with_first_gap, with_row_gap, first_gap}}
-use Rattle.yq_row_table.{proofs.PlainEnds.{tail_ends, gap_line}, proofs.seams.FrontSeams.behind_row_some, proofs.seams.SeamLaws.part_line}
+use Rattle.yq_row_table.{specs.Rows.{Bare, Inline, Row, following_gap, rows_text}, specs.Splices.{with_first_gap, with_row_gap, first_gap}}
+use Rattle.yq_row_table.{proofs.PlainEnds.{tail_ends, gap_line}, proofs.seams.FrontSeams.after_row_some, proofs.seams.SeamLaws.part_line}
 use Rattle.yq_documents.{specs.Documents.{HaveFitKeys, HasShortRoot, is_long_plain}, specs.TreeEdits.headed}
 use Rattle.yq_edit_rules.{specs.declared.layout.Layout.Layout, specs.BlockRows.{inline_of, node_rows}, specs.BlockText.block_node}
 use Rattle.yq_edit_rules.{specs.BlockValues.{HasNearKeys, IsFilled, level_at}, proofs.FitLaws.{RowsAreFit, anchors_fit, keys_fit, node_fit}}
-use Rattle.yq_edit_rules.{proofs.LaidRows.{AreLaid, laid_rows, no_gap_here}, proofs.BlockLineLaws.node_stands, proofs.RowLaws.value_laid}
+use Rattle.yq_edit_rules.{proofs.LaidRows.{AreLaid, laid_rows, no_gap_here}, proofs.BlockLineLaws.node_is_there, proofs.RowLaws.value_laid}
 use Rattle.yq_edit_rules.{proofs.TextLaws.node_spelled, specs.Edited.with_lead, specs.InlineRows.IsValueNode, specs.Siblings.HasEntries}
 use Rattle.yq_edit_rules.{proofs.ContentLaws.{free_alone, alone_even, alone_value}, proofs.EditedLaws.lead_is_above}
 use Rattle.yq_edit_rules.{proofs.NodeLineLaws.low_level, proofs.AppendEntryLaws.rows_gap}
@@ -71,8 +71,8 @@ module _ (v : Node) (l : Layout) (gap : List ℕ) (column : ℕ) (last back rest
     laid : AreLaid column old (back ++ rest)
     laid = value_laid v l column last (back ++ rest) (record { rows = record { filled = filled; value = tree_is }; near = near; ends = record { tail = room.tail; plain = plain (suc column) } })
 
-    stands : Stands (lines_of_rows old) v (level_at column v)
-    stands = rules_give (level_at column v) (lines_of_rows old) v (node_stands v l column last step filled tree_is room.uncommented)
+    is_located : IsLocatedAt (lines_of_rows old) v (level_at column v)
+    is_located = rules_give (level_at column v) (lines_of_rows old) v (node_is_there v l column last step filled tree_is room.uncommented)
 
     abbrev above : List (List ℕ)
     above = head_comment gap
@@ -107,16 +107,16 @@ module _ (v : Node) (l : Layout) (gap : List ℕ) (column : ℕ) (last back rest
         AreRootRows v gap (replicate column 32 ++ (block_node l column v ++ (last ++ (back ++ rest)))) (with_first_gap gap rs) back rest
     laid_first [] h are o is even block same fit text = absurd h
     laid_first (r ∷ rs) h are o is even block same fit text =
-        let behind : List ℕ = rows_text rs (back ++ rest) in
+        let after : List ℕ = rows_text rs (back ++ rest) in
         let new : Row = with_row_gap gap r in
         let w = lead_is_above above (level_at column v) o block even in
         let all : AreRows unlimited (r ∷ rs) back rest = rows_gap unlimited (r ∷ rs) back rest are room.back_is in
-        let whole : rows_text (r ∷ rs) (back ++ rest) ≡ behind_gap r behind = ap (λ g. g ++ behind_gap r behind) h.gap in
+        let whole : rows_text (r ∷ rs) (back ++ rest) ≡ following_gap r after = ap (λ g. g ++ following_gap r after) h.gap in
         record {
           some = refl;
           rows = (
             record {
-              gap = room.front (behind_gap r behind) (behind_row_some unlimited r behind all.0);
+              gap = room.front (following_gap r after) (after_row_some unlimited r after all.0);
               allowed = refl;
               unmarked = all.0.unmarked;
               dashes = all.0.dashes;
@@ -149,7 +149,8 @@ module _ (v : Node) (l : Layout) (gap : List ℕ) (column : ℕ) (last back rest
 
     pub block_root_rows : AreRootRows v gap (replicate column 32 ++ (block_node l column v ++ (last ++ (back ++ rest)))) (with_first_gap gap (node_rows l column last v)) back rest
     block_root_rows =
-        laid_first old laid (laid_rows column old (back ++ rest) unlimited laid refl) stands.outline stands.lines_are stands.even (entries stands.outline stands.lines_are stands.even) stands.node_is (node_fit v l column last tree_is)
+        laid_first old laid (laid_rows column old (back ++ rest) unlimited laid refl) is_located.outline is_located.lines_are is_located.even
+        (entries is_located.outline is_located.lines_are is_located.even) is_located.node_is (node_fit v l column last tree_is)
         (node_spelled v l column last (back ++ rest) filled tree_is)
 
   -- ---- on a row alone
@@ -161,13 +162,13 @@ module _ (v : Node) (l : Layout) (gap : List ℕ) (column : ℕ) (last back rest
     abbrev line : Line
     line = mark_line (head_comment gap) column Bare (Inline [] node last)
 
-    row_is : (g : List ℕ) → IsGap g (behind_gap (lone_row g column node last) (back ++ rest)) → IsRow unlimited (lone_row g column node last) (back ++ rest)
+    row_is : (g : List ℕ) → IsGap g (following_gap (lone_row g column node last) (back ++ rest)) → IsRow unlimited (lone_row g column node last) (back ++ rest)
     row_is g h = search (rules, and-false, plain)
 
     pub lone_root_rows : AreRootRows v gap (replicate column 32 ++ (node_text node [] ++ (last ++ (back ++ rest)))) (lone ∷ []) back rest
     lone_root_rows = record {
       some = refl;
-      rows = (row_is gap (room.front _ (behind_row_some unlimited (lone_row [] column node last) (back ++ rest) (row_is [] (no_gap_here _)))), room.back_is);
+      rows = (row_is gap (room.front _ (after_row_some unlimited (lone_row [] column node last) (back ++ rest) (row_is [] (no_gap_here _)))), room.back_is);
       spelled = ap (λ t. gap ++ (replicate column 32 ++ t)) (node_then node (last ++ (back ++ rest)));
       keys = (tt, is.keys, tt);
       short = line_short;

@@ -9,11 +9,11 @@ use Rattle.yq_row_table.{specs.Exchange.{row_front, with_content}, specs.Gap.IsB
 use Rattle.yq_row_table.specs.Rows.{Anchor, Block, anchor_text, content_text, Row, parent_indent, rows_text, Cut, cut_text}
 use Rattle.yq_row_table.{specs.View.slices, proofs.LineEnds.{comment_none, text_line, white_none}}
 use Rattle.yq_places.{specs.CommentPlaces.{LineEnd, end_in_line}, specs.PrintedLines.{last_break, less_break}}
-use Rattle.yq_places.{specs.RowPieces.{anchor_before, space_before}, specs.Standings.{RowsOfEntry, before_entry, held}}
-use Rattle.yq_edit_rules.{specs.StandingLaws.StandsThere, specs.TextPieces.IsPiece, specs.ReplaceEdits.{line_break, raw_last}}
+use Rattle.yq_places.{specs.RowPieces.{anchor_before, space_before}, specs.Placements.{RowsOfEntry, before_entry, held}}
+use Rattle.yq_edit_rules.{specs.PlacementLaws.HasItsRows, specs.TextPieces.IsPiece, specs.ReplaceEdits.{line_break, raw_last}}
 use Rattle.yq_edit_rules.{proofs.BreakLaws.{IsLfOrCrLf, break_is}, proofs.CommentPieceLaws.break_piece, proofs.CommentRowLaws.end_parts}
 use Rattle.yq_edit_laws.{proofs.HeadPuts.{apart_there, content_there}, proofs.HeldKnown.KnowsHeld, proofs.HeldRows.{mark_end, mark_tail}}
-use Rattle.yq_edit_laws.{proofs.NodeRowLaws.rest, proofs.StandingNodes.mark_node}
+use Rattle.yq_edit_laws.{proofs.NodeRowLaws.rest, proofs.PlacementNodes.mark_node}
 
 -- ---- the break of a header's line
 
@@ -55,7 +55,7 @@ front_with base space (Some a) block r u = simp append_assoc refl
 
 -- ---- a key or dash
 
-module _ (n : ℕ) (s : Step) (ss : List Step) (c : Cut) (e : RowsOfEntry) (there : StandsThere n s ss c e) (last : e.line ≡ length e.row.dashes) (knows : KnowsHeld n s ss c e there last)
+module _ (n : ℕ) (s : Step) (ss : List Step) (c : Cut) (e : RowsOfEntry) (there : HasItsRows n s ss c e) (last : e.line ≡ length e.row.dashes) (knows : KnowsHeld n s ss c e there last)
     (space : List ℕ) (anchor : Option Anchor) (block : BlockText) (content_is : e.row.content ≡ Block space anchor block) where
   abbrev z : List ℕ
   z = rest n s ss c (mark_node n s ss c e there last)
@@ -89,12 +89,12 @@ module _ (n : ℕ) (s : Step) (ss : List Step) (c : Cut) (e : RowsOfEntry) (ther
   pub tail_is : (slices e.row).tail ≡ block.tail
   tail_is = ap (λ (r : Row). (slices r).tail) row_is
 
-  break_there : IsLfOrCrLf (end_in_line [] (slices e.row).tail).behind
+  break_there : IsLfOrCrLf (end_in_line [] (slices e.row).tail).after
   break_there =
       let line : is_line block.tail ≡ true = (and_parts (is_line block.tail) (is_blank block.tail || (front is_white block.tail && is_hash (past_white block.tail))) valid.2.tail).0 in
-      subst (λ (x : LineEnd). IsLfOrCrLf x.behind) (sym (mark_end n s ss c e there last)) (has_break (slices e.row).tail _ (ap is_line tail_is ∙ line) (mark_tail n s ss c e there last))
+      subst (λ (x : LineEnd). IsLfOrCrLf x.after) (sym (mark_end n s ss c e there last)) (has_break (slices e.row).tail _ (ap is_line tail_is ∙ line) (mark_tail n s ss c e there last))
 
-  line_is : line_break (held e) ≡ (end_in_line [] (slices e.row).tail).behind
+  line_is : line_break (held e) ≡ (end_in_line [] (slices e.row).tail).after
   line_is = search (rules, break_there)
 
   pub line_piece : IsPiece (line_break (held e))
@@ -104,8 +104,8 @@ module _ (n : ℕ) (s : Step) (ss : List Step) (c : Cut) (e : RowsOfEntry) (ther
   header_line u =
       let t : LineEnd = end_in_line [] (slices e.row).tail in
       ap (λ q. t.white ++ (t.comment ++ (q ++ u))) line_is
-      ∙ (ap (λ q. t.white ++ q) (sym (append_assoc t.comment t.behind u)) ∙ (sym (append_assoc t.white (t.comment ++ t.behind) u) ∙ ap (λ q. q ++ u) (sym (end_parts [] (slices e.row).tail) ∙ tail_is)))
+      ∙ (ap (λ q. t.white ++ q) (sym (append_assoc t.comment t.bytes_after u)) ∙ (sym (append_assoc t.white (t.comment ++ t.bytes_after) u) ∙ ap (λ q. q ++ u) (sym (end_parts [] (slices e.row).tail) ∙ tail_is)))
 
   -- the old text
-  pub raw_old : (held e).before ++ ((held e).space ++ ((held e).head ++ ((held e).white ++ ((held e).comment ++ (line_break (held e) ++ ((held e).lines ++ (raw_last (held e) ++ ((held e).behind ++ [])))))))) ≡ cut_text c
+  pub raw_old : (held e).before ++ ((held e).space ++ ((held e).head ++ ((held e).white ++ ((held e).comment ++ (line_break (held e) ++ ((held e).lines ++ (raw_last (held e) ++ ((held e).after ++ [])))))))) ≡ cut_text c
   raw_old = search (rules, line_is, append-nil, lines_old, break_there)

@@ -11,16 +11,16 @@ use Rattle.yq_row_table.specs.Rows.{Anchor, Content, Inline, Block, anchor_text,
 use Rattle.yq_row_table.{proofs.LineEnds.none_in_white, proofs.NodeExchange.space_apart, proofs.PlaceLaws.row_front-append}
 use Rattle.yq_row_table.proofs.seams.RowSeams.{block_no_space}
 use Rattle.yq_documents.proofs.RowLineLaws.{tail_is}
-use Rattle.yq_places.specs.Standings.{Held, RowsOfEntry, held}
-use Rattle.yq_edit_rules.{specs.InlineRows.IsValueNode, specs.StandingLaws.StandsThere}
+use Rattle.yq_places.specs.Placements.{Held, RowsOfEntry, held}
+use Rattle.yq_edit_rules.{specs.InlineRows.IsValueNode, specs.PlacementLaws.HasItsRows}
 use Rattle.yq_edit_rules.proofs.CoreLaws.{recore, anchored_node, core_anchor, core_bare, core_head, core_keys}
 use Rattle.yq_edit_rules.{proofs.InlineReplaceLaws.deeper_entry, proofs.PathTailLaws.anchor_other, proofs.ValueContentLaws.more_some}
 use Rattle.yq_edit_rules.{specs.EditLaws.CarriedOut, specs.ReplaceEdits.{spaced_text, held_put}, proofs.EditsFitLaws.FitsReplace}
-use Rattle.yq_edit_rules.{proofs.ValueTexts.IsWrittenFor, proofs.StandingMarks.entry_there}
+use Rattle.yq_edit_rules.{proofs.ValueTexts.IsWrittenFor, proofs.PlacementMarks.entry_there}
 use Rattle.yq_semantics.specs.Operations.{replace}
 use Rattle.yq_edit_laws.{proofs.ContentRows.IsContentFor, proofs.HeadPuts.head_carried, proofs.HeldKnown.KnowsHeld}
 use Rattle.yq_edit_laws.{proofs.HeldTexts.regroup, proofs.NodeRowLaws.{NodeRows, rest}, proofs.NodeValueLaws.end_is}
-use Rattle.yq_edit_laws.{proofs.ScalarHeld.{anchor_is, apart_is, front_text, headed, valid}, proofs.StandingNodes.mark_node}
+use Rattle.yq_edit_laws.{proofs.ScalarHeld.{anchor_is, apart_is, front_text, headed, valid}, proofs.PlacementNodes.mark_node}
 use Rattle.yq_core.specs.Nodes as inline
 use Rattle.yq_edit_rules.specs.WrittenValues as written
 
@@ -36,9 +36,9 @@ carrier_anchor a = search rules
 
 named_node : (anchor : Option Anchor) (v : Node) (node : inline.FlowNode) (spaces : Option ℕ) (d : ℕ) (old u : List ℕ) → IsAnchor anchor old →
     IsValueNode v node → IsFlowNode false spaces d node u → IsFlowNode false spaces d (recore node (carrier anchor)) u
-named_node None v node spaces d old u h is stands = stands
-named_node (Some a) v node spaces d old u h is stands =
-    anchored_node spaces d node u is.unnamed (more_some node is.more) is.takes stands a.name a.gap (inline.coll 93 [] inline.none) (91 ∷ []) refl
+named_node None v node spaces d old u h is is_located = is_located
+named_node (Some a) v node spaces d old u h is is_located =
+    anchored_node spaces d node u is.unnamed (more_some node is.more) is.takes is_located a.name a.gap (inline.coll 93 [] inline.none) (91 ∷ []) refl
     (anchor_other (Some a) old (91 ∷ []) h).0 (inl ((none_in_white a.gap (91 ∷ []) h.1, refl), refl)) (ap not h.2)
 
 named_text : (anchor : Option Anchor) (node : inline.FlowNode) (u : List ℕ) → node_text (recore node (carrier anchor)) u ≡ anchor_text anchor (node_text node u)
@@ -47,7 +47,7 @@ named_text anchor node u = search rules
 
 -- ---- on the line of its header
 
-module _ (n : ℕ) (s : Step) (ss : List Step) (c : Cut) (e : RowsOfEntry) (there : StandsThere n s ss c e) (last : e.line ≡ length e.row.dashes) (k : KnowsHeld n s ss c e there last)
+module _ (n : ℕ) (s : Step) (ss : List Step) (c : Cut) (e : RowsOfEntry) (there : HasItsRows n s ss c e) (last : e.line ≡ length e.row.dashes) (k : KnowsHeld n s ss c e there last)
     (space : List ℕ) (anchor : Option Anchor) (block : BlockText) (content_is : e.row.content ≡ Block space anchor block) (br : Break) (v : Node) (f : FitsReplace n (s ∷ ss) v c there.part) (t : List ℕ) (for : IsWrittenFor v t) where
   abbrev w : Held
   w = held e
@@ -74,10 +74,10 @@ module _ (n : ℕ) (s : Step) (ss : List Step) (c : Cut) (e : RowsOfEntry) (ther
   is_for =
       let old = valid n s ss c e there last k space anchor block content_is in
       record {
-        stands = (
+        is_located = (
           old.0,
           record {
-            valid = named_node anchor v for.node _ _ (block_text block z) (tail ++ z) old.1 for.is (for.is.stands (parent_indent e.row) (tail ++ z) plain).valid;
+            valid = named_node anchor v for.node _ _ (block_text block z) (tail ++ z) old.1 for.is (for.is.is_located (parent_indent e.row) (tail ++ z) plain).valid;
             something = ap not (core_bare for.node (carrier anchor) (more_some for.node for.is.more));
           },
           k.ended,

@@ -13,8 +13,8 @@ use Rattle.yq_row_table.specs.Exchange.{row_front, with_content}
 use Rattle.yq_row_table.{specs.Rows.{Anchor, Content, Block, anchor_text, Row, parent_indent, print_row, rows_text, Cut}, specs.View.slices}
 use Rattle.yq_row_table.{proofs.NodeExchange.space_apart, proofs.PlaceLaws.row_front-append, proofs.seams.RowSeams.block_no_space}
 use Rattle.yq_places.{specs.NodesAt.{node_in, scalar_in}, specs.RowPieces.{anchor_before, space_before}}
-use Rattle.yq_places.specs.Standings.{Held, RowsOfEntry, held}
-use Rattle.yq_edit_rules.{specs.StandingLaws.StandsThere, proofs.PathTailLaws.anchor_other, specs.EditLaws.CarriedOut}
+use Rattle.yq_places.specs.Placements.{Held, RowsOfEntry, held}
+use Rattle.yq_edit_rules.{specs.PlacementLaws.HasItsRows, proofs.PathTailLaws.anchor_other, specs.EditLaws.CarriedOut}
 use Rattle.yq_edit_rules.{specs.ReplaceEdits.{has_text, holds_text, literal_put}, proofs.CommentPieceLaws.nothing}
 use Rattle.yq_edit_rules.proofs.EditsFitLaws.{FitsReplace}
 use Rattle.yq_semantics.specs.Operations.{replace}
@@ -23,7 +23,7 @@ use Rattle.yq_edit_laws.{proofs.HeldKnown.KnowsHeld, proofs.HeldTexts.regroup}
 use Rattle.yq_edit_laws.{proofs.LiteralTexts.{header_piece, indent_least, known_text, loose, raw_piece}, proofs.NodeLeads.own_space_lead}
 use Rattle.yq_edit_laws.proofs.NodeRowLaws.{NodeRows, line_is, rest}
 use Rattle.yq_edit_laws.proofs.ScalarHeld.{anchor_is, apart_is, front_text, header_line, line_piece, raw_old, row_is, valid}
-use Rattle.yq_edit_laws.proofs.StandingNodes.{behind_is, mark_node}
+use Rattle.yq_edit_laws.proofs.PlacementNodes.{following_is, mark_node}
 use Rattle.yq_core.specs.BlockWritten as literal
 use Rattle.yq_core.specs.Tree as tree
 use Rattle.yq_core.specs.declared.kind.Kind.TheVariants as kinds
@@ -34,7 +34,7 @@ use Rattle.yq_core.specs.declared.style.Style.TheVariants as styles
 string_is : (a : Option (List ℕ)) (kind : Kind) (t : List ℕ) → IsValueTree (tree.scalar a kind t) → can_write (record { kind = kind; text = t }) styles.Literal places.Block ≡ true → tree.scalar a kind t ≡ tree.scalar None kinds.Text t
 string_is a kind t h can = search (rules, and_parts, string_kind)
 
-module _ (n : ℕ) (s : Step) (ss : List Step) (c : Cut) (e : RowsOfEntry) (there : StandsThere n s ss c e) (last : e.line ≡ length e.row.dashes) (k : KnowsHeld n s ss c e there last)
+module _ (n : ℕ) (s : Step) (ss : List Step) (c : Cut) (e : RowsOfEntry) (there : HasItsRows n s ss c e) (last : e.line ≡ length e.row.dashes) (k : KnowsHeld n s ss c e there last)
     (space : List ℕ) (anchor : Option Anchor) (block : BlockText) (content_is : e.row.content ≡ Block space anchor block) where
   abbrev w : Held
   w = held e
@@ -75,10 +75,10 @@ module _ (n : ℕ) (s : Step) (ss : List Step) (c : Cut) (e : RowsOfEntry) (ther
     new = Block space anchor (written_block t block.indent.columns (break_text br) block.tail)
 
     seam : ends_block false (record { columns = m; known = true }) (text_lines z) ≡ true
-    seam = search (rules, (valid n s ss c e there last k space anchor block content_is).2.behind, known, loose)
+    seam = search (rules, (valid n s ss c e there last k space anchor block content_is).2.after, known, loose)
 
-    stands : IsBlock (deeper (parent_indent e.row)) new_block z
-    stands =
+    is_located : IsBlock (deeper (parent_indent e.row)) new_block z
+    is_located =
         let b = (valid n s ss c e there last k space anchor block content_is).2 in
         literal_block (deeper (parent_indent e.row)) m br x block.tail z u can (indent_least (deeper (parent_indent e.row)) block.digit block.indent block.raw b.indicators.small b.indent) b.tail seam
 
@@ -86,7 +86,7 @@ module _ (n : ℕ) (s : Step) (ss : List Step) (c : Cut) (e : RowsOfEntry) (ther
     for =
         let old = valid n s ss c e there last k space anchor block content_is in
         record {
-          stands = (old.0, anchor_other anchor (block_text block z) (block_text new_block z) old.1, stands);
+          is_located = (old.0, anchor_other anchor (block_text block z) (block_text new_block z) old.1, is_located);
           apart = space_apart space (anchor_text anchor (block_text block z)) (anchor_text anchor (block_text new_block z)) old.0 (apart_is n s ss c e there last k space anchor block content_is) (block_no_space anchor block z);
           head = ap (λ q. Some (tree.scalar None kinds.Text q)) (literal_content m br x block.tail u can) ∙ ap Some (sym (string_is a kind t value can));
           comment = sym (ap (λ q. line_comment (tail_of q)) content_is);
@@ -106,8 +106,8 @@ module _ (n : ℕ) (s : Step) (ss : List Step) (c : Cut) (e : RowsOfEntry) (ther
         ap (λ r. e.start ++ (b ++ r)) (row_front-append (with_content new e.row) z)
         ∙ (regroup e.start b (row_front e.row) own
         ∙ (sym (front_text n s ss c e there last k space anchor block content_is (block_text new_block z))
-        ∙ (ap (λ r. w.before ++ (w.space ++ (head ++ (block.tail ++ (raw ++ r))))) (sym (behind_is n s ss c e there last) ∙ sym (append-nil w.behind))
-        ∙ ap (λ r. w.before ++ (w.space ++ (head ++ r))) (sym (header_line n s ss c e there last k space anchor block content_is (raw ++ (w.behind ++ [])))))))
+        ∙ (ap (λ r. w.before ++ (w.space ++ (head ++ (block.tail ++ (raw ++ r))))) (sym (following_is n s ss c e there last) ∙ sym (append-nil w.after))
+        ∙ ap (λ r. w.before ++ (w.space ++ (head ++ r))) (sym (header_line n s ss c e there last k space anchor block content_is (raw ++ (w.after ++ [])))))))
 
     abbrev lead : List ℕ
     lead = row_front e.row ++ (anchor_before (slices e.row) ++ space_before (slices e.row))
@@ -128,8 +128,8 @@ module _ (n : ℕ) (s : Step) (ss : List Step) (c : Cut) (e : RowsOfEntry) (ther
 
     pub raw_literal : length (new_text us) ≤ text_limit → CarriedOut (replace n (s ∷ ss) v) c us
     raw_literal size =
-        put_carried n s ss c e there last k v f us (with_content new e.row ∷ []) spells [] (append-nil w.behind) refl refl (raw_old n s ss c e there last k space anchor block content_is) (
+        put_carried n s ss c e there last k v f us (with_content new e.row ∷ []) spells [] (append-nil w.after) refl refl (raw_old n s ss c e there last k space anchor block content_is) (
           k.pieces.before,
-          (k.pieces.space, (header_piece (chomping_of (text_lines t)), (k.white, (k.comment, (line_piece n s ss c e there last k space anchor block content_is, (nothing, (raw_piece m br x u can, (k.pieces.behind, tt)))))))),
+          (k.pieces.space, (header_piece (chomping_of (text_lines t)), (k.white, (k.comment, (line_piece n s ss c e there last k space anchor block content_is, (nothing, (raw_piece m br x u can, (k.pieces.after, tt)))))))),
         )
         size

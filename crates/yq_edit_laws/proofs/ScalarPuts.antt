@@ -6,8 +6,8 @@ use Rattle.yq_core.{specs.Writable.{can_write, is_string}, specs.Written.double,
 use Rattle.yq_text.{specs.Limit.text_limit, specs.Script.{Segment, new_text, old_text}}
 use Rattle.yq_flow_edits.specs.Valued.{IsValueTree}
 use Rattle.yq_row_table.specs.Rows.{Anchor, Block, Cut, cut_text}
-use Rattle.yq_places.{specs.NodesAt.{node_in, scalar_in}, specs.Standings.{Held, RowsOfEntry, held}}
-use Rattle.yq_edit_rules.{specs.StandingLaws.StandsThere, specs.declared.layout.Layout.Layout, specs.BlockReading.is_filled}
+use Rattle.yq_places.{specs.NodesAt.{node_in, scalar_in}, specs.Placements.{Held, RowsOfEntry, held}}
+use Rattle.yq_edit_rules.{specs.PlacementLaws.HasItsRows, specs.declared.layout.Layout.Layout, specs.BlockReading.is_filled}
 use Rattle.yq_edit_rules.{specs.BlockRows.item_column, specs.BlockText.block_value, specs.EditLaws.{CarriedOut, IsEdit}}
 use Rattle.yq_edit_rules.specs.Layouts.{layout_of}
 use Rattle.yq_edit_rules.specs.ReplaceEdits.{block_put, has_text, held_put, literal_put, block_scalar_put, string_put, value_put}
@@ -21,9 +21,9 @@ use Rattle.yq_edit_laws.proofs.ScalarRows.{raw_rows}
 use Rattle.yq_core.specs.Tree as tree
 use Rattle.yq_core.specs.declared.style.Place.TheVariants as places
 use Rattle.yq_core.specs.declared.style.Style.TheVariants as styles
-use Rattle.yq_places.specs.Standings as standings
+use Rattle.yq_places.specs.Placements as placements
 
-module _ (n : ℕ) (s : Step) (ss : List Step) (c : Cut) (e : RowsOfEntry) (there : StandsThere n s ss c e) (last : e.line ≡ length e.row.dashes) (k : KnowsHeld n s ss c e there last)
+module _ (n : ℕ) (s : Step) (ss : List Step) (c : Cut) (e : RowsOfEntry) (there : HasItsRows n s ss c e) (last : e.line ≡ length e.row.dashes) (k : KnowsHeld n s ss c e there last)
     (space : List ℕ) (anchor : Option Anchor) (block : BlockText) (content_is : e.row.content ≡ Block space anchor block) where
   abbrev w : Held
   w = held e
@@ -86,5 +86,5 @@ module _ (n : ℕ) (s : Step) (ss : List Step) (c : Cut) (e : RowsOfEntry) (ther
       go false has y string = other
 
   -- A value in the place of the block scalar.
-  pub scalar_edit : (v : Node) → IsEdit (replace n (s ∷ ss) v) c (value_put (has_text (node_in n (s ∷ ss) c)) l v (standings.block w block.indent.columns))
+  pub scalar_edit : (v : Node) → IsEdit (replace n (s ∷ ss) v) c (value_put (has_text (node_in n (s ∷ ss) c)) l v (placements.block w block.indent.columns))
   scalar_edit v = search (rules, scalar_old, value_done, fits_replace)

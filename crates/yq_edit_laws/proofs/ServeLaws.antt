@@ -41,12 +41,12 @@ module _ (docs : List Document) (op : Operation) (ops : List Operation) (t : Lis
     others_come : all_after (room_of m) ops next ≡ last
     others_come = rest_after op ops (room_of t) (room_of m) docs left s.follow
 
-    comes_behind : (e : Edit) → OperationsCome last ops m e → OperationsCome last (op ∷ ops) t (edit_after cs e)
-    comes_behind e h = search rules
+    comes_after : (e : Edit) → OperationsCome last ops m e → OperationsCome last (op ∷ ops) t (edit_after cs e)
+    comes_after e h = search rules
 
   comes_more : ((m : List ℕ) → Serves next ops m → OperationsCome (all_after (room_of m) ops next) ops m (carry_all ops m)) →
       (e : Edit) → OperationComes op t e → OperationsCome last (op ∷ ops) t (edit_then (carry_all ops) e)
-  comes_more others e h = search (rules, comes_behind, others_come, others_serve)
+  comes_more others e h = search (rules, comes_after, others_come, others_serve)
 
 pub all_come : (docs : List Document) (ops : List Operation) (t : List ℕ) → Serves docs ops t →
     OperationsCome (all_after (room_of t) ops docs) ops t (carry_all ops t)

@@ -12,14 +12,14 @@ use Rattle.yq_outline.specs.Counts.{count}
 use Rattle.yq_row_table.specs.Rows.{Cut, cut_text}
 use Rattle.yq_documents.specs.Reading.{read_at}
 use Rattle.yq_places.{specs.FlowNodes.flow_collection, specs.FlowViews.LeadsToHead, specs.RemovalPlaces.has_several}
-use Rattle.yq_places.specs.Standings.{last_step}
-use Rattle.yq_edit_rules.{specs.Edits.empty_collection, specs.FlowRows.{FlowAt, behind_node}, specs.Replacing.keeps_scalar}
+use Rattle.yq_places.specs.Placements.{last_step}
+use Rattle.yq_edit_rules.{specs.Edits.empty_collection, specs.FlowRows.{FlowAt, text_after_node}, specs.Replacing.keeps_scalar}
 use Rattle.yq_lookup.proofs.RowParts.{node_entry}
-use Rattle.yq_edit_laws.{proofs.LaterEnds.rest_in, proofs.FlowSoundLaws.last_is, proofs.FlowStandings.EntryAt}
+use Rattle.yq_edit_laws.{proofs.LaterEnds.rest_in, proofs.FlowSoundLaws.last_is, proofs.FlowPlacements.EntryAt}
 use Rattle.yq_edit_laws.proofs.SoleParts.{IsEmptiedBy, last_of}
 use Rattle.yq_core.specs.Tree as tree
 use Rattle.yq_edit_laws.proofs.FlowPutLaws as put
-use Rattle.yq_edit_laws.proofs.FlowStandings as standing
+use Rattle.yq_edit_laws.proofs.FlowPlacements as placement
 use Rattle.yq_edit_rules.proofs.FlowStayLaws as stay
 
 -- ---- the item or entry that a collection is
@@ -51,10 +51,10 @@ pub record InnerEntry (c : Cut) (n : ℕ) (stem left : List Step) (own : List St
 pub inner_entry : (c : Cut) (n : ℕ) (stem left : List Step) (own : List Step × Step) (z : CollPieces) → read_at (cut_text c) ≡ Some c → LeadsToHead c n stem → last_step left ≡ Some own → flow_collection n (stem ++ left) c ≡ Some z →
     InnerEntry c n stem left own z
 inner_entry c n stem left own z read h last found =
-    let at : FlowAt c n (stem ++ left) z = standing.at c n (stem ++ left) z read found in
+    let at : FlowAt c n (stem ++ left) z = placement.at c n (stem ++ left) z read found in
     let before = stay.collection_before c n (stem ++ left) z at z.gap z.items stem left refl h in
     let is : left ≡ own.0 ++ (own.1 ∷ []) = last_is left own.0 own.1 last in
-    let x = inner_along own.0 own.1 at.row.node (behind_node c n at.part at.row) z (ap (λ (ss : List Step). coll_along ss at.row.node (behind_node c n at.part at.row)) (sym is) ∙ (sym (before left) ∙ found)) in
+    let x = inner_along own.0 own.1 at.row.node (text_after_node c n at.part at.row) z (ap (λ (ss : List Step). coll_along ss at.row.node (text_after_node c n at.part at.row)) (sym is) ∙ (sym (before left) ∙ found)) in
     record {
       entry = record {
         init = stem ++ own.0;
@@ -161,14 +161,14 @@ module _ (c : Cut) (n : ℕ) (path : List Step) (z : CollPieces) (read : read_at
 
   node_is : without_anchor a.item.node ≡ coll z.close z.gap z.items
   node_is =
-      let i = around_is (put.x c n path v read a) (put.stands c n path v read a) in
+      let i = around_is (put.x c n path v read a) (put.is_located c n path v read a) in
       only_coll true (Some 0) _ a.item.node a.item.rest z (items_hold i.inner_depth a.coll.close a.step a.coll.items a.coll.rest a.item i.items a.at) inside
 
   pub sole_old : g.old ≡ node_text (coll z.close z.gap z.items) []
   sole_old = ap (λ (m : FlowNode). node_text m []) node_is
 
-  pub sole_behind : g.behind ≡ z.rest
-  sole_behind = sym (rest_in a.item.node a.item.rest z inside)
+  pub sole_after : g.after ≡ z.rest
+  sole_after = sym (rest_in a.item.node a.item.rest z inside)
 
   pub sole_written : g.lead ++ g.written ≡ empty_bytes z.close
   sole_written = (λ i. Rattle.yq_flow_edits.specs.FlowEdits.space_for (node_is i) ++ g.written) ∙ written_empty (Rattle.yq_edit_rules.specs.FlowParts.content_written a.item.node) z.close

@@ -8,7 +8,7 @@ use Rattle.yq_core.{specs.Tree.key_label, specs.Trees.{items_tree, key_content, 
 use Rattle.yq_core.proofs.TreeLaws.{node_tree}
 use Rattle.yq_inline.specs.Along.{as_item, front_read, located_along, located_from, node_from}
 use Rattle.yq_inline.specs.Neighbours.{PartTexts, PartsAround, around_part, coll_around, coll_end, coll_read, first_ends, first_text}
-use Rattle.yq_inline.specs.declared.in_front.NodeInFront.{NodeInFront}
+use Rattle.yq_inline.specs.declared.before_offset.LeadingNode.{LeadingNode}
 use Rattle.yq_outline.specs.Counts.{count}
 use Rattle.yq_places.specs.NodesAt.{NodeAt, node_summary, node_view}
 use Rattle.yq_lookup.{specs.RowFronts.{found_summary, summary_along}, specs.declared.node_at.FoundNode.FoundNode}
@@ -79,7 +79,7 @@ one_left k s (item key n sep (item key2 n2 sep2 is)) rest x e first last = absur
 
 -- ---- in a node in front of a text
 
-module _ (ss : List Step) (n : NodeInFront) (s : Step) (y : PartsAround) (is : Some y ≡ (coll_read ss (front_read n) >>= coll_around s)) (first : y.before ≡ None) (last : y.next ≡ None) where
+module _ (ss : List Step) (n : LeadingNode) (s : Step) (y : PartsAround) (is : Some y ≡ (coll_read ss (front_read n) >>= coll_around s)) (first : y.before ≡ None) (last : y.next ≡ None) where
   abbrev w : (w : CollPieces) × (coll_read ss (front_read n) ≡ Some w) × (coll_around s w ≡ Some y)
   w = bind_some (coll_read ss (front_read n)) (sym is)
 
@@ -104,6 +104,6 @@ module _ (ss : List Step) (n : NodeInFront) (s : Step) (y : PartsAround) (is : S
       ∙ ap Some (ap node_summary kind ∙ (coll_kind there.0.node there.0.rest w.0 there.2 ∙ (λ i. kind_of (sym keyed i) (few i)))))
 
 -- the code finds the node there
-pub sole_found : (a : FoundNode) (front : NodeInFront) (k : ℕ) (left : Bor (List declared.Step)) → a ≡ InFlow front k left → (keyed : Bool) → summary_along (map tree_step left.now) front ≡ Some (kind_of keyed false) →
+pub sole_found : (a : FoundNode) (front : LeadingNode) (k : ℕ) (left : Bor (List declared.Step)) → a ≡ InFlow front k left → (keyed : Bool) → summary_along (map tree_step left.now) front ≡ Some (kind_of keyed false) →
     (node : found.NodeAt) → node_view node ≡ kind_of keyed false → Some (node_view node) ≡ found_summary a
 sole_found a front k left at keyed known node agrees = ap Some agrees ∙ (sym known ∙ sym (ap found_summary at))

@@ -82,7 +82,7 @@ nth_changed (suc k) f (x ∷ ds) d e = nth_changed k f ds d e
 -- ---- the operation that means a removal
 
 -- What is known of a removal that fits and of the operation that means it.
-record StandsFor (doc : ℕ) (init : List Step) (s : Step) (v : Node) (c : Cut) : Type 0 where
+record RemovalMeans (doc : ℕ) (init : List Step) (s : Step) (v : Node) (c : Cut) : Type 0 where
   read : read_at (cut_text c) ≡ Some c
   others : has_others_at doc (init ++ (s ∷ [])) c ≡ false
   d : Document
@@ -94,7 +94,7 @@ record StandsFor (doc : ℕ) (init : List Step) (s : Step) (v : Node) (c : Cut) 
   node_is : node_at (init ++ (s ∷ [])) d.root ≡ Some node
   unused : is_used_in (names_of d.root) (Some node) ≡ false
 
-module _ (doc : ℕ) (init : List Step) (s : Step) (v : Node) (c : Cut) (h : StandsFor doc init s v c) where
+module _ (doc : ℕ) (init : List Step) (s : Step) (v : Node) (c : Cut) (h : RemovalMeans doc init s v c) where
   at_init : node_at init h.d.root ≡ Some h.old
   at_init = sym (ap (λ (x : Option Document). x >>= λ d. node_at init d.root) h.document) ∙ h.there
 
@@ -169,7 +169,7 @@ sole_removed n steps init s v c ss read last others empty edit =
     subst (λ (z : List Step). IsEdit (remove n z) c ss) (sym path) (record {
       old = edit.old;
       carried = λ operand fits_it size.
-          let h : StandsFor n init s v c = record {
+          let h : RemovalMeans n init s v c = record {
             read = read;
             others = ap (λ z. has_others_at n z c) (sym path) ∙ others;
             d = fits_it.0;

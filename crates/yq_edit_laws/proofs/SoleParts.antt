@@ -7,17 +7,17 @@ use Rattle.yq_core.{specs.Nodes.{FlowNode, Items, none, item, empty, alias, scal
 use Rattle.yq_core.{specs.Tree.{Children, Node, children_of, key_label}, specs.Trees.{items_tree, key_content, tree_of, with_name}}
 use Rattle.yq_flow_edits.specs.Removals.{before_next, edit_from_item, gap_of, last_out, removing, removing_from}
 use Rattle.yq_outline.{specs.Counts.count, specs.Outline.Outline, specs.Places.{FoundLine, lines_before}}
-use Rattle.yq_row_table.{specs.Exchange.behind_row, specs.Rows.{Content, Nothing, Inline, Block, Cut, cut_text}}
+use Rattle.yq_row_table.{specs.Exchange.after_row, specs.Rows.{Content, Nothing, Inline, Block, Cut, cut_text}}
 use Rattle.yq_documents.{specs.Documents.Document, specs.LinesInRows.{RowLine, document_row}, proofs.ReadLaws.parts_read}
 use Rattle.yq_documents.specs.Reading.{documents, part_outline, read_at}
 use Rattle.yq_places.specs.FlowNodes.{content_flow, find_head, flow_collection, head_line, line_collection, part_collection}
-use Rattle.yq_places.{specs.RemovalPlaces.{has_others_at, has_several}, specs.Standings.last_step}
+use Rattle.yq_places.{specs.RemovalPlaces.{has_others_at, has_several}, specs.Placements.last_step}
 use Rattle.yq_semantics.{specs.Fits.Fits, specs.Operations.{remove, replace}, specs.Rooms.room_of}
 use Rattle.yq_edit_rules.{proofs.RemovalChangeLaws.take_init, specs.FlowParts.{flow_removed, flow_segments}, specs.EntryEdits.one_removed}
 use Rattle.yq_edit_rules.specs.Edits.{empty_collection, op_edits, or_stay, part_removed, replace_segments, rows_or_sole, sole_removed}
 use Rattle.yq_text.specs.Script.{Segment}
 use Rattle.yq_edit_laws.{proofs.EntryLines.found_at, proofs.FlowPartNodes.{LineAt, line_at, part_node}, proofs.FlowSoundLaws.last_is}
-use Rattle.yq_edit_laws.{proofs.FlowStandings.{EntryAt, coll_entry}, proofs.SoleLaws.sole_fits, proofs.StepsOn.head_on}
+use Rattle.yq_edit_laws.{proofs.FlowPlacements.{EntryAt, coll_entry}, proofs.SoleLaws.sole_fits, proofs.StepsOn.head_on}
 use Rattle.yq_edit_laws.{specs.Carried.{carried, carry_one}, specs.Edit.{by_reading, edit_of_segments}, specs.Theorems.IsFitting}
 use Rattle.yq_core.specs.Tree as tree
 
@@ -28,11 +28,11 @@ along_on : (ss : List Step) (s : Step) (node : FlowNode) (rest : List ℕ) (w : 
 along_on [] s node rest w y found at = ap (option_and_then (λ (z : EntryPieces). coll_in z.node z.rest)) (coll_entry s node rest w found ∙ at)
 along_on (t ∷ ss) s node rest w y found at = search (rules, none-some, along_on ss s)
 
-content_on : (x : Content) (ss : List Step) (s : Step) (behind : List ℕ) (w : CollPieces) (y : EntryPieces) → content_flow ss x behind ≡ Some w →
-    item_at w.close s w.items w.rest ≡ Some y → content_flow (ss ++ (s ∷ [])) x behind ≡ coll_in y.node y.rest
-content_on (Nothing tail) ss s behind w y e at = absurd (none-some _ e)
-content_on (Inline space node tail) ss s behind w y e at = along_on ss s node (tail ++ behind) w y e at
-content_on (Block space anchor block) ss s behind w y e at = absurd (none-some _ e)
+content_on : (x : Content) (ss : List Step) (s : Step) (after : List ℕ) (w : CollPieces) (y : EntryPieces) → content_flow ss x after ≡ Some w →
+    item_at w.close s w.items w.rest ≡ Some y → content_flow (ss ++ (s ∷ [])) x after ≡ coll_in y.node y.rest
+content_on (Nothing tail) ss s after w y e at = absurd (none-some _ e)
+content_on (Inline space node tail) ss s after w y e at = along_on ss s node (tail ++ after) w y e at
+content_on (Block space anchor block) ss s after w y e at = absurd (none-some _ e)
 
 head_again : (f : FoundLine) (ss : List Step) (s : Step) → head_line f (ss ++ (s ∷ [])) ≡ Some (f, ss ++ (s ∷ []))
 head_again f [] s = refl
@@ -53,8 +53,8 @@ collection_on c n path a =
     ap (λ (ss : List Step). flow_collection n ss c) (last_is path a.init a.step a.last)
     ∙ (ap (λ o. o >>= part_collection k c steps) h.there
     ∙ (ap (λ (o : Option (FoundLine × List Step)). o >>= λ x. line_collection k c h.part.rows (length (lines_before x.0.place)) x.1) (find_on a.init a.step (part_outline h.part) h.line h.found)
-    ∙ (ap (λ (o : Option RowLine). o >>= λ r. content_flow (h.line.1 ++ (a.step ∷ [])) r.row.content (behind_row (k + r.before) c)) h.printed_line
-    ∙ content_on h.row_line_is.row.content h.line.1 a.step (behind_row (k + h.row_line_is.before) c) a.coll a.item h.flow a.at)))
+    ∙ (ap (λ (o : Option RowLine). o >>= λ r. content_flow (h.line.1 ++ (a.step ∷ [])) r.row.content (after_row (k + r.before) c)) h.printed_line
+    ∙ content_on h.row_line_is.row.content h.line.1 a.step (after_row (k + h.row_line_is.before) c) a.coll a.item h.flow a.at)))
 
 -- ---- a sole one isn't taken out of the others
 

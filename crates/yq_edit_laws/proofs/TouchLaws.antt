@@ -2,7 +2,7 @@
 use Rattle.std.proofs.Common.{rules, ◌≡◌, ℕ, ◌+◌, ◌-◌, ◌≤◌, ltb, cond, Bool, true, false, List, [], ◌∷◌, ◌++◌, length, refl, sym, ap, ◌∙◌}
 use Rattle.std.{proofs.Common.{subst, append_assoc, arith}, proofs.lemmas.Bool.le-ltb, proofs.lemmas.List.length-append}
 use Rattle.yq_row_table.{specs.Items.{Item, items_of_cut, items_text}, proofs.ItemLaws.items_text-append, proofs.KeptLaws.items_apart}
-use Rattle.yq_row_table.specs.Touched.{item_text, in_front, in_back}
+use Rattle.yq_row_table.specs.Touched.{item_text, before_offset, in_back}
 use Rattle.yq_text.specs.Script.{kept_front, kept_back}
 use Rattle.yq_edit_rules.{specs.Local.{InFirst, InLast, LocalTouches}, proofs.ItemsLocal.{first_nothing, item_apart}}
 
@@ -23,22 +23,22 @@ first_more : (lead : List ℕ) (gone back : List Item) → InFirst lead gone →
 first_more lead [] back h = subst (λ (l : List ℕ). InFirst l back) (sym h) (first_nothing back)
 first_more lead (i ∷ gone) back h = h
 
-none_in_front : (lead : List ℕ) (is : List Item) → InFirst lead is → in_front (length lead) is ≡ []
-none_in_front lead [] h = refl
-none_in_front lead (i ∷ is) h = ap (λ (b : Bool). cond b (i ∷ in_front (length lead - length (item_text i)) is) []) (le-ltb (length (item_text i)) (length lead) h)
+none_before_offset : (lead : List ℕ) (is : List Item) → InFirst lead is → before_offset (length lead) is ≡ []
+none_before_offset lead [] h = refl
+none_before_offset lead (i ∷ is) h = ap (λ (b : Bool). cond b (i ∷ before_offset (length lead - length (item_text i)) is) []) (le-ltb (length (item_text i)) (length lead) h)
 
 -- items in front of that offset end before the first one that goes
-front_only : (front is : List Item) (lead : List ℕ) (n : ℕ) → n ≡ length (items_text front []) + length lead → InFirst lead is → in_front n (front ++ is) ≡ in_front n front
-front_only [] is lead n e h = ap (λ (m : ℕ). in_front m is) (let same : n ≡ length lead = omega (arith, e) in same) ∙ none_in_front lead is h
+front_only : (front is : List Item) (lead : List ℕ) (n : ℕ) → n ≡ length (items_text front []) + length lead → InFirst lead is → before_offset n (front ++ is) ≡ before_offset n front
+front_only [] is lead n e h = ap (λ (m : ℕ). before_offset m is) (let same : n ≡ length lead = omega (arith, e) in same) ∙ none_before_offset lead is h
 front_only (f ∷ front) is lead n e h =
     let rest : n - length (item_text f) ≡ length (items_text front []) + length lead = omega (arith, e, size_one f front) in
     ap (λ (xs : List Item). cond (ltb (length (item_text f)) n) (f ∷ xs) []) (front_only front is lead (n - length (item_text f)) rest h)
 
-front_left : (n : ℕ) (is : List Item) → (more : List Item) × (is ≡ in_front n is ++ more)
+front_left : (n : ℕ) (is : List Item) → (more : List Item) × (is ≡ before_offset n is ++ more)
 front_left n [] = ([], refl)
 front_left n (i ∷ is) = go (front_left (n - length (item_text i)) is) (ltb (length (item_text i)) n)
   where
-    go : (more : List Item) × (is ≡ in_front (n - length (item_text i)) is ++ more) → (b : Bool) → (more : List Item) × (i ∷ is ≡ cond b (i ∷ in_front (n - length (item_text i)) is) [] ++ more)
+    go : (more : List Item) × (is ≡ before_offset (n - length (item_text i)) is ++ more) → (b : Bool) → (more : List Item) × (i ∷ is ≡ cond b (i ∷ before_offset (n - length (item_text i)) is) [] ++ more)
     go x true = (x.0, ap (λ (xs : List Item). i ∷ xs) x.1)
     go x false = (i ∷ is, refl)
 
@@ -61,9 +61,9 @@ back_only (i ∷ (j ∷ is)) back n trail e h =
     skipped i ((j ∷ is) ++ back) n (omega (arith, e, last_long trail (j ∷ is) h, size_joined (j ∷ is) back, size_one i ((j ∷ is) ++ back))) ∙ back_only (j ∷ is) back n trail e h
 
 -- the same with more items in front
-back_behind : (front is back : List Item) (n : ℕ) (trail : List ℕ) → n ≡ length trail + length (items_text back []) → InLast trail is → in_back n (front ++ (is ++ back)) ≡ in_back n back
-back_behind [] is back n trail e h = back_only is back n trail e h
-back_behind (f ∷ front) is back n trail e h = search (rules, arith, skipped, last_long, size_one, size_joined, back_behind front is back n trail e h)
+back_after : (front is back : List Item) (n : ℕ) (trail : List ℕ) → n ≡ length trail + length (items_text back []) → InLast trail is → in_back n (front ++ (is ++ back)) ≡ in_back n back
+back_after [] is back n trail e h = back_only is back n trail e h
+back_after (f ∷ front) is back n trail e h = search (rules, arith, skipped, last_long, size_one, size_joined, back_after front is back n trail e h)
 
 back_left : (n : ℕ) (is : List Item) → (more : List Item) × (is ≡ more ++ in_back n is)
 back_left n [] = ([], refl)
@@ -83,20 +83,20 @@ local_touches ss c new h =
     let n : ℕ = length (kept_front ss) in
     let m : ℕ = length (kept_back ss) in
     let before : n ≡ length (items_text h.front []) + length h.lead = ap length h.before_is ∙ size_rest h.front h.lead in
-    let behind : m ≡ length h.trail + length (items_text h.back []) = ap length h.behind_is ∙ length-append h.trail (items_text h.back []) in
-    let front_of : (is : List Item) → InFirst h.lead is → in_front n (h.front ++ (is ++ h.back)) ≡ in_front n h.front = λ is b. front_only h.front (is ++ h.back) h.lead n before (first_more h.lead is h.back b) in
-    let back_of : (is : List Item) → InLast h.trail is → in_back m (h.front ++ (is ++ h.back)) ≡ in_back m h.back = λ is b. back_behind h.front is h.back m h.trail behind b in
+    let after : m ≡ length h.trail + length (items_text h.back []) = ap length h.following_is ∙ length-append h.trail (items_text h.back []) in
+    let front_of : (is : List Item) → InFirst h.lead is → before_offset n (h.front ++ (is ++ h.back)) ≡ before_offset n h.front = λ is b. front_only h.front (is ++ h.back) h.lead n before (first_more h.lead is h.back b) in
+    let back_of : (is : List Item) → InLast h.trail is → in_back m (h.front ++ (is ++ h.back)) ≡ in_back m h.back = λ is b. back_after h.front is h.back m h.trail after b in
     let f = front_left n h.front in
     let z = back_left m h.back in
-    let old_front : in_front n h.front ≡ in_front n (items_of_cut c) = sym (ap (in_front n) h.old_are ∙ front_of h.gone h.begins.0) in
+    let old_front : before_offset n h.front ≡ before_offset n (items_of_cut c) = sym (ap (before_offset n) h.old_are ∙ front_of h.gone h.begins.0) in
     let old_back : in_back m h.back ≡ in_back m (items_of_cut c) = sym (ap (in_back m) h.old_are ∙ back_of h.gone h.ends.0) in
-    let split : (is : List Item) → h.front ++ (is ++ h.back) ≡ in_front n (items_of_cut c) ++ ((f.0 ++ (is ++ z.0)) ++ in_back m (items_of_cut c)) =
-    λ is. (λ i. f.1 i ++ (is ++ z.1 i)) ∙ (five (in_front n h.front) f.0 is z.0 (in_back m h.back) ∙ (λ i. old_front i ++ ((f.0 ++ (is ++ z.0)) ++ old_back i))) in
+    let split : (is : List Item) → h.front ++ (is ++ h.back) ≡ before_offset n (items_of_cut c) ++ ((f.0 ++ (is ++ z.0)) ++ in_back m (items_of_cut c)) =
+    λ is. (λ i. f.1 i ++ (is ++ z.1 i)) ∙ (five (before_offset n h.front) f.0 is z.0 (in_back m h.back) ∙ (λ i. old_front i ++ ((f.0 ++ (is ++ z.0)) ++ old_back i))) in
     record {
       touched = f.0 ++ (h.gone ++ z.0);
       written = f.0 ++ (h.come ++ z.0);
       old_are = h.old_are ∙ split h.gone;
       new_are = h.new_are ∙ split h.come;
-      front_same = ap (in_front n) h.new_are ∙ (front_of h.come h.begins.1 ∙ old_front);
+      front_same = ap (before_offset n) h.new_are ∙ (front_of h.come h.begins.1 ∙ old_front);
       back_same = ap (in_back m) h.new_are ∙ (back_of h.come h.ends.1 ∙ old_back);
     }

@@ -4,8 +4,8 @@ use Rattle.std.{proofs.Common.{append_assoc, arith}, proofs.lemmas.List.length-a
 use mathlib.Core.List.{tail-eq_of_cons-eq}
 use Rattle.yq_core.{specs.Text.is_empty, proofs.BlockPieceLaws.IsLf}
 use Rattle.yq_row_table.{specs.Grammar.IsCut, specs.Items.{Item, AreRowItems, items_of_cut, items_text, nothing_asked}, specs.Rows.Cut}
-use Rattle.yq_row_table.{specs.Touched.{in_back, in_front, item_text}, proofs.ItemLaws.{items_of_text, items_text-append, parts_are_items}}
-use Rattle.yq_row_table.proofs.KeptLaws.{items_apart}
+use Rattle.yq_row_table.specs.Touched.{in_back, before_offset, item_text}
+use Rattle.yq_row_table.{proofs.ItemLaws.{items_of_text, items_text-append, parts_are_items}, proofs.KeptLaws.items_apart}
 use Rattle.yq_documents.specs.Reading.{read_at}
 use Rattle.yq_text.specs.Script.{Segment, are_kept, kept_back, kept_front, new_text}
 use Rattle.yq_edit_laws.proofs.CutLaws.{cut_read}
@@ -38,56 +38,56 @@ module _ (ss : List Segment) (new : Cut) (near : IsLocalEdit ss) (kept : are_kep
       before : List ℕ
       before = items_text done []
 
-      behind : List ℕ
-      behind = items_text (w ∷ ws) []
+      after : List ℕ
+      after = items_text (w ∷ ws) []
 
-      whole : new_text ss ≡ before ++ behind
+      whole : new_text ss ≡ before ++ after
       whole = sym text ∙ (ap (λ (l : List Item). items_text l []) are ∙ (items_text-append done (w ∷ ws) [] ∙ items_apart done (items_text (w ∷ ws) [])))
 
-      size : length (new_text ss) ≡ length before + length behind
-      size = ap length whole ∙ length-append before behind
+      size : length (new_text ss) ≡ length before + length after
+      size = ap length whole ∙ length-append before after
 
-      ended : is_empty behind ≡ false → (before ≡ []) ⊎ IsLf before
+      ended : is_empty after ≡ false → (before ≡ []) ⊎ IsLf before
       ended some = search (rules, items_ended, items)
 
-      side : LiesInOne ss new → (length before ≤ length (kept_front ss)) ⊎ (length behind ≤ length (kept_back ss))
+      side : LiesInOne ss new → (length before ≤ length (kept_front ss)) ⊎ (length after ≤ length (kept_back ss))
       side one = search (rules, arith, apart)
 
-      by_side : (length before ≤ length (kept_front ss)) ⊎ (length behind ≤ length (kept_back ss)) → IsTouched (length before) (length before + length (item_text w)) (put_ranges ss)
+      by_side : (length before ≤ length (kept_front ss)) ⊎ (length after ≤ length (kept_back ss)) → IsTouched (length before) (length before + length (item_text w)) (put_ranges ss)
       by_side (inl k) = at_first 0 (length before) (length before + length (item_text w)) ss kept (omega (arith, k)) (omega (arith, front))
       by_side (inr k) = at_last 0 (length before) (length before + length (item_text w)) ss kept (omega (arith, size, back)) (omega (arith, size, k)) (omega arith)
 
       by_near : IsLocalEdit ss → IsTouched (length before) (length before + length (item_text w)) (put_ranges ss)
       by_near (inl lines) =
-          from_front before behind (length before + length (item_text w)) ended (omega arith) [] ss whole lines kept (omega (arith, front)) back (omega (arith, size_one w ws))
+          from_front before after (length before + length (item_text w)) ended (omega arith) [] ss whole lines kept (omega (arith, front)) back (omega (arith, size_one w ws))
       by_near (inr one) = by_side (side (one new read))
 
   -- items after what is kept in front
   later_touched : (back : List Item) → back ≡ in_back (length (kept_back ss)) (items_of_cut new) → (done ws : List Item) → items_of_cut new ≡ done ++ (ws ++ back) → length (kept_front ss) ≤ length (items_text done []) →
       AreTouched (length (items_text done [])) ws (put_ranges ss)
-  later_touched back behind done [] are front = tt
-  later_touched back behind done (w ∷ ws) are front =
+  later_touched back after done [] are front = tt
+  later_touched back after done (w ∷ ws) are front =
       let n : length (items_text (done ++ (w ∷ [])) []) ≡ length (items_text done []) + length (item_text w) = omega (arith, size_joined done (w ∷ []), size_one w []) in
       let back_long : length (kept_back ss) ≤ length (items_text (w ∷ (ws ++ back)) []) =
-      subst (λ (b : List Item). length (kept_back ss) ≤ length (items_text (w ∷ (ws ++ b)) [])) (sym behind)
-      (back_stop (length (kept_back ss)) (items_of_cut new) done w ws (are ∙ ap (λ (b : List Item). done ++ (w ∷ (ws ++ b))) behind)) in (
+      subst (λ (b : List Item). length (kept_back ss) ≤ length (items_text (w ∷ (ws ++ b)) [])) (sym after)
+      (back_stop (length (kept_back ss)) (items_of_cut new) done w ws (are ∙ ap (λ (b : List Item). done ++ (w ∷ (ws ++ b))) after)) in (
         item_touched done w (ws ++ back) are (omega (arith, front)) back_long,
-        subst (λ (k : ℕ). AreTouched k ws (put_ranges ss)) n (later_touched back behind (done ++ (w ∷ [])) ws (are ∙ sym (append_assoc done (w ∷ []) (ws ++ back))) (omega (arith, n, front))),
+        subst (λ (k : ℕ). AreTouched k ws (put_ranges ss)) n (later_touched back after (done ++ (w ∷ [])) ws (are ∙ sym (append_assoc done (w ∷ []) (ws ++ back))) (omega (arith, n, front))),
       )
 
   -- all of them
-  all_touched : (front back : List Item) → front ≡ in_front (length (kept_front ss)) (items_of_cut new) → back ≡ in_back (length (kept_back ss)) (items_of_cut new) → (ws : List Item) → items_of_cut new ≡ front ++ (ws ++ back) →
+  all_touched : (front back : List Item) → front ≡ before_offset (length (kept_front ss)) (items_of_cut new) → back ≡ in_back (length (kept_back ss)) (items_of_cut new) → (ws : List Item) → items_of_cut new ≡ front ++ (ws ++ back) →
       AreTouched (length (items_text front [])) ws (put_ranges ss)
-  all_touched front back before behind [] are = tt
-  all_touched front back before behind (w ∷ ws) are =
+  all_touched front back before after [] are = tt
+  all_touched front back before after (w ∷ ws) are =
       let n : length (items_text (front ++ (w ∷ [])) []) ≡ length (items_text front []) + length (item_text w) = omega (arith, size_joined front (w ∷ []), size_one w []) in
       let front_long : length (kept_front ss) ≤ length (items_text front []) + length (item_text w) = search (rules, front_stop) in
       let back_long : length (kept_back ss) ≤ length (items_text (w ∷ (ws ++ back)) []) =
-      subst (λ (b : List Item). length (kept_back ss) ≤ length (items_text (w ∷ (ws ++ b)) [])) (sym behind)
-      (back_stop (length (kept_back ss)) (items_of_cut new) front w ws (are ∙ ap (λ (b : List Item). front ++ (w ∷ (ws ++ b))) behind)) in (
+      subst (λ (b : List Item). length (kept_back ss) ≤ length (items_text (w ∷ (ws ++ b)) [])) (sym after)
+      (back_stop (length (kept_back ss)) (items_of_cut new) front w ws (are ∙ ap (λ (b : List Item). front ++ (w ∷ (ws ++ b))) after)) in (
         item_touched front w (ws ++ back) are front_long back_long,
-        subst (λ (k : ℕ). AreTouched k ws (put_ranges ss)) n (later_touched back behind (front ++ (w ∷ [])) ws (are ∙ sym (append_assoc front (w ∷ []) (ws ++ back))) (omega (arith, n, front_long))),
+        subst (λ (k : ℕ). AreTouched k ws (put_ranges ss)) n (later_touched back after (front ++ (w ∷ [])) ws (are ∙ sym (append_assoc front (w ∷ []) (ws ++ back))) (omega (arith, n, front_long))),
       )
 
 pub near_touched : NearAreTouched
-near_touched ss c new near kept read front back is behind t = search (rules, all_touched)
+near_touched ss c new near kept read front back is after t = search (rules, all_touched)

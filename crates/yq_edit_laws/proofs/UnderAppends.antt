@@ -11,24 +11,24 @@ use Rattle.yq_documents.specs.Reading.{read_at}
 use Rattle.yq_semantics.specs.Operations.{append}
 use Rattle.yq_places.{specs.CollectionEnds.CollectionEnd, specs.CommentPlaces.text_to_line_end, specs.FlowNodes.flow_collection}
 use Rattle.yq_places.{specs.PrintedLines.last_break, proofs.CommentEndLaws.row_text_parts}
-use Rattle.yq_places.specs.Standings.{RowsOfEntry, Standing, alone, before_entry, behind_entry, behind_mark, below, beside, compact_in}
-use Rattle.yq_places.specs.Standings.{entry_standing, held, is_alone, lone, rows_of_entry, under}
+use Rattle.yq_places.specs.Placements.{RowsOfEntry, Placement, alone, before_entry, after_entry, past_mark, below, beside, compact_in}
+use Rattle.yq_places.specs.Placements.{entry_placement, held, is_alone, lone, rows_of_entry, under}
 use Rattle.yq_edit_rules.{specs.declared.layout.Layout.Layout, specs.Edits.op_edits, specs.FlowParts.flow_more}
-use Rattle.yq_edit_rules.{specs.EntryEdits.{behind_held, block_more, more_lines}, specs.Layouts.layout_of, specs.RowChanges.PutsOne}
-use Rattle.yq_edit_rules.specs.StandingLaws.{StandsThere}
-use Rattle.yq_edit_laws.{proofs.CollectionStands.{end_at, front_there, headless_mark}, proofs.EntryAdds.AddsEntry}
+use Rattle.yq_edit_rules.{specs.EntryEdits.{after_held, block_more, more_lines}, specs.Layouts.layout_of, specs.RowChanges.PutsOne}
+use Rattle.yq_edit_rules.specs.PlacementLaws.{HasItsRows}
+use Rattle.yq_edit_laws.{proofs.CollectionIsThere.{end_at, front_there, headless_mark}, proofs.EntryAdds.AddsEntry}
 use Rattle.yq_edit_laws.{proofs.FinalBreaks.{feed_last, last_feed}, proofs.MoreLaws.{below_some, there, under_end, under_spelled}}
 use Rattle.yq_edit_laws.proofs.OnePutLaws.{lines_put_one}
 
 -- rows under a key or dash after which nothing is written are its collection
 pub under_there : (e : RowsOfEntry) (r : Row) (rs : List Row) → e.line ≡ length e.row.dashes → is_block e.row.content ≡ false → is_empty (slices e.row).head ≡ true → e.under ≡ r ∷ rs → is_alone r ≡ false →
-    entry_standing e ≡ under (held e) r.column
-under_there e r rs last plain none is single = ap (λ (b : Bool). cond b (behind_mark e e.row.content) (compact_in e)) (eq-eqb e.line (length e.row.dashes) last) ∙ go e.row.content refl
+    entry_placement e ≡ under (held e) r.column
+under_there e r rs last plain none is single = ap (λ (b : Bool). cond b (past_mark e e.row.content) (compact_in e)) (eq-eqb e.line (length e.row.dashes) last) ∙ go e.row.content refl
   where
     rows : below e e.under ≡ under (held e) r.column
-    rows = ap (below e) is ∙ ap (λ (b : Bool). cond b (alone (lone (before_entry e ++ print_row e.row []) r (rows_text rs (behind_entry e)))) (under (held e) r.column)) single
+    rows = ap (below e) is ∙ ap (λ (b : Bool). cond b (alone (lone (before_entry e ++ print_row e.row []) r (rows_text rs (after_entry e)))) (under (held e) r.column)) single
 
-    go : (x : Content) → e.row.content ≡ x → behind_mark e x ≡ under (held e) r.column
+    go : (x : Content) → e.row.content ≡ x → past_mark e x ≡ under (held e) r.column
     go (Nothing tail) same = rows
     go (Inline space node tail) same = ap (λ (b : Bool). cond b (below e e.under) (beside (held e))) none ∙ rows
     go (Block space anchor b) same = absurd (false≢true (sym plain ∙ ap is_block same))
@@ -72,10 +72,10 @@ module _ (m : ℕ) (s : Step) (ss : List Step) (key : List ℕ) (v : Node) (d : 
   lines = more_lines l (Some key) v r.column (10 ∷ [])
 
   abbrev segments : List Segment
-  segments = behind_held (held e) lines
+  segments = after_held (held e) lines
 
-  abbrev pub stands : StandsThere m s ss d e
-  stands = there m s ss (Some key) v d e read found
+  abbrev pub is_located : HasItsRows m s ss d e
+  is_located = there m s ss (Some key) v d e read found
 
   abbrev pub upto : List ℕ
   upto = before_entry e ++ print_row e.row (rows_text e.under [])
@@ -85,24 +85,24 @@ module _ (m : ℕ) (s : Step) (ss : List Step) (key : List ℕ) (v : Node) (d : 
 
   edited : op_edits (append m (s ∷ ss) (Some key) v) d ≡ Some segments
   edited =
-      ap (λ (o : Option Standing). option_or (o >>= block_more l (Some key) v) (flow_collection m (s ∷ ss) d >>= flow_more (cut_text d) (Some key) v))
-      (ap (option_map entry_standing) found ∙ ap Some (under_there e r rs last plain none is single))
-      ∙ ap (λ (t : List ℕ). Some (behind_held (held e) t)) more_is
+      ap (λ (o : Option Placement). option_or (o >>= block_more l (Some key) v) (flow_collection m (s ∷ ss) d >>= flow_more (cut_text d) (Some key) v))
+      (ap (option_map entry_placement) found ∙ ap Some (under_there e r rs last plain none is single))
+      ∙ ap (λ (t : List ℕ). Some (after_held (held e) t)) more_is
 
   abbrev x : CollectionEnd
-  x = end_at m s ss d e stands r.column (not (is_empty (held e).last))
+  x = end_at m s ss d e is_located r.column (not (is_empty (held e).last))
 
-  pub under_adds : AddsEntry m (s ∷ ss) key v d stands.part (e.front ++ (e.row ∷ e.under)) e.back r.column upto (behind_entry e)
+  pub under_adds : AddsEntry m (s ∷ ss) key v d is_located.part (e.front ++ (e.row ∷ e.under)) e.back r.column upto (after_entry e)
   under_adds = record {
     x = x;
-    place = record { part = stands.part; there = stands.old.there; end = under_end m s ss (Some key) v d e read found r rs last none is single };
+    place = record { part = is_located.part; there = is_located.old.there; end = under_end m s ss (Some key) v d e read found r rs last none is single };
     part = refl;
-    rows = λ y. front_there m s ss d e stands x y (headless_mark m s ss d e stands last none);
+    rows = λ y. front_there m s ss d e is_located x y (headless_mark m s ss d e is_located last none);
     column_is = refl;
     before = refl;
-    behind = refl;
+    after = refl;
     broken = ap not broken;
     segments = segments;
     edited = edited;
-    puts = subst (λ (t : List ℕ). PutsOne segments t [] lines (behind_entry e)) (under_spelled m s ss (Some key) v d e read found) (lines_put_one (held e) lines);
+    puts = subst (λ (t : List ℕ). PutsOne segments t [] lines (after_entry e)) (under_spelled m s ss (Some key) v d e read found) (lines_put_one (held e) lines);
   }

@@ -8,21 +8,21 @@ use Rattle.yq_outline.{specs.Comments.head_comment, specs.Lines.lines_of_rows}
 use Rattle.yq_row_table.specs.Gap.{IsLineEnd, IsGapLine, AreGapLines, IsGap}
 use Rattle.yq_row_table.specs.Grammar.{IsCut, IsMarkerLine, IsTail, unlimited, AreRows, AreParts, begins_document, ends_part}
 use Rattle.yq_row_table.{specs.Rows.{rows_text, part_text, Cut, last, marked, cut_text}, specs.SpliceFits.is_after}
-use Rattle.yq_row_table.{specs.Splices.{behind_part, first_gap, marker_before, nth_part}, proofs.LineEnds.{white_none, comment_none}}
+use Rattle.yq_row_table.{specs.Splices.{after_part, first_gap, marker_before, nth_part}, proofs.LineEnds.{white_none, comment_none}}
 use Rattle.yq_row_table.{proofs.seams.SeamLaws.line_by_break, proofs.NothingLaws.{gap_other, line_end_other}, proofs.PlaceLaws.part_then}
 use Rattle.yq_row_table.{proofs.seams.MarkerSeams.{marker_byte, three_lines, after_some}, proofs.splices.PartPlaces.part_ends}
 use Rattle.yq_row_table.proofs.GapLaws.{some_more}
 use Rattle.yq_edit_rules.{proofs.BlockEndLaws.break_tail, proofs.LaidRows.no_gap_here, specs.DocumentRows.IsDocumentPart}
-use Rattle.yq_edit_rules.{specs.PlacedParts.StandsAt, specs.Rooms.is_block_root, specs.TextPieces.IsPiece}
-use Rattle.yq_edit_rules.{proofs.PartLaws.{document_known, part_numbered}, proofs.PlacedPartLaws.document_stands_at}
+use Rattle.yq_edit_rules.{specs.PlacedParts.IsDocumentAt, specs.Rooms.is_block_root, specs.TextPieces.IsPiece}
+use Rattle.yq_edit_rules.{proofs.PartLaws.{document_known, part_numbered}, proofs.PlacedPartLaws.document_is_there_at}
 use Rattle.yq_edit_rules.{proofs.TextPieceLaws.text_is_piece, proofs.RemovalPieceLaws.seam_pieces, proofs.BlockLineLaws.break_uncommented}
 use Rattle.yq_edit_rules.specs.ClosedTexts.{is_closed_text}
 use Rattle.yq_documents.{specs.Documents.lead_of, specs.Pieces.TextPiece, specs.Reading.read_at, specs.Ready.begins_no_node}
 use Rattle.yq_documents.specs.PartNumbers.{part_number}
 use Rattle.yq_places.{specs.PlacedRows.{PlacedPart, before_part, placed_document}, proofs.CommentPieceLaws.gap_end}
-use Rattle.yq_places.{proofs.PlacedPartLaws.part_stands, proofs.RemovalLines.{LineSeam, LiesIn, lies_in, seam_join}}
-use Rattle.yq_edit_laws.{proofs.FirstRows.empty_cases, proofs.ClosedTexts.closed_behind, proofs.RootReadLaws.TakesValue}
-use Rattle.yq_edit_laws.{proofs.RootRows.HasRoom, proofs.StandingRoots.IsUnwrittenRoot}
+use Rattle.yq_places.{proofs.PlacedPartLaws.part_is_there, proofs.RemovalLines.{LineSeam, LiesIn, lies_in, seam_join}}
+use Rattle.yq_edit_laws.{proofs.FirstRows.empty_cases, proofs.ClosedTexts.closed_after, proofs.RootReadLaws.TakesValue}
+use Rattle.yq_edit_laws.{proofs.RootRows.HasRoom, proofs.PlacementRoots.IsUnwrittenRoot}
 use Rattle.yq_core.specs.declared.block_types.Break.TheVariants as breaks
 
 -- ---- texts that end in a break
@@ -59,17 +59,17 @@ closed_lines (l ∷ (k ∷ ls)) x h e =
         line = line_end_other h.0.white h.0.comment l ((k ++ joined ls) ++ []) ((k ++ joined ls) ++ x) (some_more (k ++ joined ls) [] some) h.0.line;
         some = h.0.some;
       },
-      closed_lines (k ∷ ls) x h.1 (sym (closed_behind l (k ++ joined ls) some) ∙ e),
+      closed_lines (k ∷ ls) x h.1 (sym (closed_after l (k ++ joined ls) some) ∙ e),
     )
 
 -- ---- the marker in front
 
-marker_at : (c : Cut) (k : ℕ) (started : Bool) → AreParts started c → (marker_before [] k c ≡ []) ⊎ IsMarkerLine (marker_before [] k c) (part_text (nth_part k c) (behind_part k c))
+marker_at : (c : Cut) (k : ℕ) (started : Bool) → AreParts started c → (marker_before [] k c ≡ []) ⊎ IsMarkerLine (marker_before [] k c) (part_text (nth_part k c) (after_part k c))
 marker_at (last p) k started h = inl refl
 marker_at (marked p marker c) zero started h = inl refl
 marker_at (marked p marker c) (suc k) started h = inr (go c k marker (begins_document marker) h.2 h.1)
   where
-    go : (c : Cut) (k : ℕ) (before : List ℕ) (started : Bool) → AreParts started c → IsMarkerLine before (cut_text c) → IsMarkerLine (marker_before before k c) (part_text (nth_part k c) (behind_part k c))
+    go : (c : Cut) (k : ℕ) (before : List ℕ) (started : Bool) → AreParts started c → IsMarkerLine before (cut_text c) → IsMarkerLine (marker_before before k c) (part_text (nth_part k c) (after_part k c))
     go (last p) k before started h line = line
     go (marked p marker c) zero before started h line = line
     go (marked p marker c) (suc k) before started h line = go c k marker (begins_document marker) h.2 h.1
@@ -88,13 +88,13 @@ ends_at_marker (suc i) (marked p marker c) before =
     )
 
 ends_in_marker : (n : ℕ) (c : Cut) (d : PlacedPart) → placed_document n c ≡ Some d → (pre : List ℕ) × (d.before ≡ pre ++ marker_before [] (part_number n c) c)
-ends_in_marker n c d e = let w = ends_at_marker (part_number n c) c [] in (w.0, ap (λ (y : PlacedPart). y.before) (sym (part_stands n c d e).is) ∙ w.1)
+ends_in_marker n c d e = let w = ends_at_marker (part_number n c) c [] in (w.0, ap (λ (y : PlacedPart). y.before) (sym (part_is_there n c d e).is) ∙ w.1)
 
 -- a marker's line that ends in a break
 open_tail : (a b c : ℕ) (p : List ℕ) (t : IsTail p []) → is_feed c ≡ false → is_closed_text (a ∷ (b ∷ (c ∷ p))) ≡ true → t.line.break ≡ [] → ⊥
 unfolding is_closed_text
 open_tail a b c [] t feed closed e = false≢true (sym feed ∙ closed)
-open_tail a b c (x ∷ p) t feed closed e = false≢true (sym (comment_open t.white t.comment (x ∷ p) [] t.line refl e) ∙ (sym (closed_behind (a ∷ (b ∷ (c ∷ []))) (x ∷ p) refl) ∙ closed))
+open_tail a b c (x ∷ p) t feed closed e = false≢true (sym (comment_open t.white t.comment (x ∷ p) [] t.line refl e) ∙ (sym (closed_after (a ∷ (b ∷ (c ∷ []))) (x ∷ p) refl) ∙ closed))
 
 closed_tail : (a b c : ℕ) (p : List ℕ) → is_feed c ≡ false → IsTail p [] → is_closed_text (a ∷ (b ∷ (c ∷ p))) ≡ true → is_line p ≡ true
 closed_tail a b c p feed t closed = ⊎_elim {0, 0, 0}
@@ -116,11 +116,11 @@ long_some (b ∷ m) h = refl
 -- ---- the root of a document without rows
 
 module _ (n : ℕ) (c : Cut) (w : TextPiece) (read : read_at (cut_text c) ≡ Some c) (h : IsUnwrittenRoot n c w) where
-  pub stands : StandsAt c n h.d
-  stands = document_stands_at c n h.d h.placed
+  pub is_located : IsDocumentAt c n h.d
+  is_located = document_is_there_at c n h.d h.placed
 
   pub there : IsDocumentPart (cut_text c) c n h.d.part
-  there = record { read = read; there = stands.there }
+  there = record { read = read; there = is_located.there }
 
   pub cut : IsCut (cut_text c) c
   cut = (document_known (cut_text c) c n h.d.part there).cut
@@ -128,23 +128,23 @@ module _ (n : ℕ) (c : Cut) (w : TextPiece) (read : read_at (cut_text c) ≡ So
   lies : LiesIn h.d
   lies = lies_in n c h.d cut.parts h.placed
 
-  pub gap_is : IsGap h.d.part.end h.d.behind
-  gap_is = subst (λ xs. AreRows unlimited xs h.d.part.end h.d.behind) h.rows_are lies.rows
+  pub gap_is : IsGap h.d.part.end h.d.after
+  gap_is = subst (λ xs. AreRows unlimited xs h.d.part.end h.d.after) h.rows_are lies.rows
 
   pub part_is : (rest : List ℕ) → part_text h.d.part rest ≡ h.d.part.end ++ rest
   part_is rest = ap (λ xs. rows_text xs (h.d.part.end ++ rest)) h.rows_are
 
   -- the old text
-  pub whole : w.before ++ w.behind ≡ cut_text c
-  whole = (λ i. h.before_is i ++ h.behind_is i) ∙ (append_assoc h.d.before h.d.part.end h.d.behind ∙ (ap (λ t. h.d.before ++ t) (sym (part_is h.d.behind)) ∙ sym stands.text))
+  pub whole : w.before ++ w.after ≡ cut_text c
+  whole = (λ i. h.before_is i ++ h.following_is i) ∙ (append_assoc h.d.before h.d.part.end h.d.after ∙ (ap (λ t. h.d.before ++ t) (sym (part_is h.d.after)) ∙ sym is_located.text))
 
-  pub seam : LineSeam (h.d.before ++ h.d.part.end) h.d.behind
-  seam = seam_join h.d.before h.d.part.end h.d.behind (subst (LineSeam h.d.before) (part_is h.d.behind) lies.seam) (gap_end h.d.part.end h.d.behind gap_is)
+  pub seam : LineSeam (h.d.before ++ h.d.part.end) h.d.after
+  seam = seam_join h.d.before h.d.part.end h.d.after (subst (LineSeam h.d.before) (part_is h.d.after) lies.seam) (gap_end h.d.part.end h.d.after gap_is)
 
-  pub pieces : IsPiece w.before × IsPiece w.behind
+  pub pieces : IsPiece w.before × IsPiece w.after
   pieces =
-      let both = seam_pieces (h.d.before ++ h.d.part.end) h.d.behind seam (subst IsPiece (sym ((λ i. sym h.before_is i ++ sym h.behind_is i) ∙ whole)) (text_is_piece c read)) in
-      (subst IsPiece (sym h.before_is) both.0, subst IsPiece (sym h.behind_is) both.1)
+      let both = seam_pieces (h.d.before ++ h.d.part.end) h.d.after seam (subst IsPiece (sym ((λ i. sym h.before_is i ++ sym h.following_is i) ∙ whole)) (text_is_piece c read)) in
+      (subst IsPiece (sym h.before_is) both.0, subst IsPiece (sym h.following_is) both.1)
 
   -- no rows are there
   pub no_rows_there : is_block_root h.d.part ≡ true
@@ -157,19 +157,19 @@ module _ (n : ℕ) (c : Cut) (w : TextPiece) (read : read_at (cut_text c) ≡ So
   marker = marker_before [] (part_number n c) c
 
   -- rows may come after the marker in front, where the text before them is closed or some comes after that
-  pub starts_at : (h.d.part.end ++ h.d.behind ≡ [] → is_closed_text (h.d.before ++ h.d.part.end) ≡ true) → (t : List ℕ) → is_after marker t ≡ true
+  pub starts_at : (h.d.part.end ++ h.d.after ≡ [] → is_closed_text (h.d.before ++ h.d.part.end) ≡ true) → (t : List ℕ) → is_after marker t ≡ true
   starts_at closed t = go (marker_at c (part_number n c) true cut.parts)
     where
-      ends_closed : IsMarkerLine marker (h.d.part.end ++ h.d.behind) → h.d.part.end ++ h.d.behind ≡ [] → is_closed_text marker ≡ true
-      ends_closed own h1 = search (rules, arith, ends_in_marker, append-nil, nil_from_length, length-append, closed_behind, long_some)
+      ends_closed : IsMarkerLine marker (h.d.part.end ++ h.d.after) → h.d.part.end ++ h.d.after ≡ [] → is_closed_text marker ≡ true
+      ends_closed own h1 = search (rules, arith, ends_in_marker, append-nil, nil_from_length, length-append, closed_after, long_some)
 
-      by_line : IsMarkerLine marker (h.d.part.end ++ h.d.behind) → is_after marker t ≡ true
-      by_line own = after_closed marker (h.d.part.end ++ h.d.behind) t own (empty_cases (h.d.part.end ++ h.d.behind)) (ends_closed own)
+      by_line : IsMarkerLine marker (h.d.part.end ++ h.d.after) → is_after marker t ≡ true
+      by_line own = after_closed marker (h.d.part.end ++ h.d.after) t own (empty_cases (h.d.part.end ++ h.d.after)) (ends_closed own)
 
-      go : (marker ≡ []) ⊎ IsMarkerLine marker (part_text (nth_part (part_number n c) c) (behind_part (part_number n c) c)) → is_after marker t ≡ true
+      go : (marker ≡ []) ⊎ IsMarkerLine marker (part_text (nth_part (part_number n c) c) (after_part (part_number n c) c)) → is_after marker t ≡ true
       go (inl e) = ap (λ m. is_after m t) e
       go (inr line) =
-          by_line ((subst (IsMarkerLine marker) ((λ i. part_text ((part_numbered c n h.d.part stands.there).0 i) (stands.behind i)) ∙ part_is h.d.behind)) line)
+          by_line ((subst (IsMarkerLine marker) ((λ i. part_text ((part_numbered c n h.d.part is_located.there).0 i) (is_located.after i)) ∙ part_is h.d.after)) line)
 
   module _ (closed : is_closed_text w.before ≡ true) (br : Break) where
     all_closed : is_closed_text (h.d.before ++ h.d.part.end) ≡ true
@@ -177,21 +177,21 @@ module _ (n : ℕ) (c : Cut) (w : TextPiece) (read : read_at (cut_text c) ≡ So
 
     gap_closed : (h.d.part.end ≡ []) ⊎ (is_empty h.d.part.end ≡ false) → (h.d.part.end ≡ []) ⊎ (is_closed_text h.d.part.end ≡ true)
     gap_closed (inl e) = inl e
-    gap_closed (inr some) = inr (sym (closed_behind h.d.before h.d.part.end some) ∙ all_closed)
+    gap_closed (inr some) = inr (sym (closed_after h.d.before h.d.part.end some) ∙ all_closed)
 
-    room : HasRoom h.d.part.end (break_text br) [] h.d.behind
+    room : HasRoom h.d.part.end (break_text br) [] h.d.after
     room = record {
-      front = λ x some. (search (rules, no_gap_here, gap_other, closed_lines, gap_is, gap_closed (empty_cases h.d.part.end), empty_cases h.d.behind));
-      tail = break_tail br h.d.behind;
+      front = λ x some. (search (rules, no_gap_here, gap_other, closed_lines, gap_is, gap_closed (empty_cases h.d.part.end), empty_cases h.d.after));
+      tail = break_tail br h.d.after;
       apart = apart br;
       uncommented = break_uncommented br;
-      back_is = no_gap_here h.d.behind;
-      ends = subst (λ t. ends_part t ≡ true) stands.behind (part_ends c (part_number n c) true cut.parts);
+      back_is = no_gap_here h.d.after;
+      ends = subst (λ t. ends_part t ≡ true) is_located.after (part_ends c (part_number n c) true cut.parts);
     }
       where
-        apart : (br : Break) → separates (break_text br ++ h.d.behind) ≡ true
+        apart : (br : Break) → separates (break_text br ++ h.d.after) ≡ true
         apart breaks.Lf = refl
         apart breaks.CrLf = refl
 
     pub takes_unwritten : TakesValue n c h.d h.d.part.end (break_text br) []
-    takes_unwritten = record { stands = stands; old = there; block = no_rows_there; room = room; lead = lead_is; starts = λ t e. starts_at (λ none. all_closed) t }
+    takes_unwritten = record { is_located = is_located; old = there; block = no_rows_there; room = room; lead = lead_is; starts = λ t e. starts_at (λ none. all_closed) t }

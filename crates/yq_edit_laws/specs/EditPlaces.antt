@@ -7,7 +7,7 @@ use Rattle.yq_flow_edits.specs.FlowPlaces.{PlacedEdit, remove_between}
 use Rattle.yq_inline.specs.Neighbours.{PartTexts, PartsAround}
 use Rattle.yq_row_table.specs.Rows.{Cut, cut_text}
 use Rattle.yq_documents.{specs.Located.steps_of, specs.declared.path.Path.Path}
-use Rattle.yq_places.{specs.FlowNodes.flow_collection, specs.Standings.last_step}
+use Rattle.yq_places.{specs.FlowNodes.flow_collection, specs.Placements.last_step}
 use Rattle.yq_lookup.{specs.RowFronts.IsFoundNode, specs.declared.node_at.FoundNode.FoundNode}
 use Rattle.yq_text.specs.Script.{Segment, keep, put}
 use Rattle.yq_edit_rules.specs.FlowParts.{flow_more}

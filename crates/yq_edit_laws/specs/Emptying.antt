@@ -4,7 +4,7 @@ use Rattle.yq_core.{specs.Answers.◌>>=◌, specs.Paths.Step, specs.Tree.{Node,
 use Rattle.yq_core.specs.declared.value.Value.{Value}
 use Rattle.yq_row_table.specs.Rows.{Cut}
 use Rattle.yq_documents.{specs.Located.steps_of, specs.Reading.cut_of, specs.declared.path.Path.Path}
-use Rattle.yq_places.{specs.NodesAt.{NodeAt, node_in, node_summary, node_view}, specs.Standings.last_step}
+use Rattle.yq_places.{specs.NodesAt.{NodeAt, node_in, node_summary, node_view}, specs.Placements.last_step}
 use Rattle.yq_edit_rules.specs.Edits.{empty_collection, replace_segments, sole_removed}
 use Rattle.yq_places.specs.NodesAt as nodes
 use Rattle.yq_places.specs.declared.places.node_at.NodeAt as declared

@@ -5,7 +5,8 @@ use Rattle.yq_core.{specs.declared.piece.Piece.Piece, specs.declared.inline.Inli
 use Rattle.yq_core.{specs.Entries.{entry_view, flow_part_at, parts_of, tree_step}, specs.Keys.{AreDistinct, HasUniqueKeys, keys_of}}
 use Rattle.yq_core.{specs.Paths.{Step, is_here, further}, specs.Places.{Parts, Placed, end, part}, specs.Tree.key_label}
 use Rattle.yq_core.{specs.Trees.{parts_tree, placed_tree, unplaced_key}, specs.View.{entries_end, inline_view}}
-use Rattle.yq_places.{specs.FlowViews.{behind_anchor, collection_along, collection_view}, specs.declared.places.flow_node.FlowHead.FlowHead}
+use Rattle.yq_places.specs.FlowViews.{following_anchor, collection_along, collection_view}
+use Rattle.yq_places.specs.declared.places.flow_node.FlowHead.{FlowHead}
 use Rattle.yq_core.specs.declared.path.Step as declared
 
 -- an entry of the code: its key, where that is written, and its node (own)
@@ -31,7 +32,7 @@ pub record HasKeyAt (i : ℕ) (key : List ℕ) (es : List Field) : Type 0 where
 
 -- the collection to which the steps lead that the code tells with a node has no key twice (3.2.1.3)
 abbrev pub HasUniqueCollection : FlowHead → Type 0
-HasUniqueCollection x = (q : Placed) → Some (behind_anchor q) ≡ collection_view x → HasUniqueKeys (placed_tree q)
+HasUniqueCollection x = (q : Placed) → Some (following_anchor q) ≡ collection_view x → HasUniqueKeys (placed_tree q)
 
 -- whether a node is a collection (7.4)
 abbrev pub is_collection : Placed → Bool
@@ -47,7 +48,7 @@ IsPartAt found s node = option_map entry_view found ≡ flow_part_at (tree_step 
 
 -- what it found from a node on is the collection to which steps lead (own)
 abbrev pub IsCollectionFrom : Option (Bor Inline) → List declared.Step → Inline → Type 0
-IsCollectionFrom found steps node = option_map (λ n. behind_anchor (inline_view n.now)) found ≡ collection_along (map tree_step steps) (inline_view node)
+IsCollectionFrom found steps node = option_map (λ n. following_anchor (inline_view n.now)) found ≡ collection_along (map tree_step steps) (inline_view node)
 
 -- a head with the steps that lead on in it to another collection (own)
 abbrev pub head_with : FlowHead → Bor (List declared.Step) → FlowHead

@@ -4,11 +4,11 @@ use Rattle.std.{specs.Prelude.{false, if◌then◌else◌, String, string_bytes}
 use Rattle.yq_core.{specs.Answers.◌>>=◌, specs.Paths.Step, specs.Tree.Node, specs.Collections.CollPieces}
 use Rattle.yq_core.{specs.Entries.{EntryPieces, item_at}, specs.NodesWritten.{flow_key, flow_of, flow_text}, specs.Nodes.key_text}
 use Rattle.yq_core.{specs.Places.Placed, specs.Trees.placed_tree, specs.declared.style.Place.TheVariants.Flow as InFlow}
-use Rattle.yq_flow_edits.specs.FlowEdits.{FlowEdit, appending, behind_appended, is_none, replacing}
+use Rattle.yq_flow_edits.specs.FlowEdits.{FlowEdit, appending, after_appended, is_none, replacing}
 use Rattle.yq_flow_edits.specs.FlowPlaces.{PlacedEdit, append_place, edit_view, place_edit, replace_place}
 use Rattle.yq_flow_edits.specs.declared.flow_place.EditPlace.{EditPlace}
 use Rattle.yq_row_table.specs.Rows.{Cut, cut_text}
-use Rattle.yq_places.{specs.FlowNodes.flow_collection, specs.NodesAt.node_in, specs.Standings.{FlowPart, flow_standing, last_step}}
+use Rattle.yq_places.{specs.FlowNodes.flow_collection, specs.NodesAt.node_in, specs.Placements.{FlowPart, flow_placement, last_step}}
 use Rattle.yq_text.specs.Script.{Segment, keep}
 use Rattle.yq_edit_rules.{specs.FlowParts.{content_written, flow_more, flow_put, flow_value, takes_key}, specs.Replacing.keeps_scalar}
 use Rattle.yq_edit_rules.specs.WrittenValues.{value_text}
@@ -20,7 +20,7 @@ part_put t kept v x = if kept then keep t ∷ [] else flow_put t v x
 
 -- the same where steps lead in document n; an equal scalar is kept
 abbrev pub part_replaced : ℕ → List Step → Node → Cut → Option (List Segment)
-part_replaced n steps v c = option_map (part_put (cut_text c) (keeps_scalar (node_in n steps c) v) v) (flow_standing n c (last_step steps))
+part_replaced n steps v c = option_map (part_put (cut_text c) (keeps_scalar (node_in n steps c) v) v) (flow_placement n c (last_step steps))
 
 -- the edit that puts a value in the place of the content of a part
 abbrev pub put_edit : Node → FlowPart → FlowEdit
@@ -31,7 +31,7 @@ pub record IsEditPlace (t : List ℕ) (e : FlowEdit) (place : PlacedEdit) : Type
   pub lies : LiesIn t place
   pub place_is : place ≡ place_edit (length t) e
   pub before : List ℕ
-  pub text : t ≡ before ++ (e.old ++ e.behind)
+  pub text : t ≡ before ++ (e.old ++ e.after)
 
 -- a place is that of the edit that puts a value at a part
 abbrev pub IsPlaceOf : List ℕ → Node → FlowPart → PlacedEdit → Type 0
@@ -49,7 +49,7 @@ IsWrittenPart old v z (Some s) = (keeps_scalar old v ≡ false) × (string_bytes
 -- a value is put at this place, at the part where steps lead in document n, and this is written
 abbrev pub IsValuePut : ℕ → List Step → Node → Cut → PlacedEdit → Option (String Global) → Type 0
 IsValuePut n steps v c place written =
-    (z : FlowPart) × (flow_standing n c (last_step steps) ≡ Some z) × IsPlaceOf (cut_text c) v z place × IsWrittenPart (node_in n steps c) v z written
+    (z : FlowPart) × (flow_placement n c (last_step steps) ≡ Some z) × IsPlaceOf (cut_text c) v z place × IsWrittenPart (node_in n steps c) v z written
 
 -- what is written in the place of a content: nothing, if it is kept
 abbrev pub IsWrittenFor : (kept : Bool) → List ℕ → Option (String Global) → Type 0
@@ -96,7 +96,7 @@ PutsMoreIn q key v (Some p) =
 pub record EndsAs (w z : CollPieces) : Type 0 where
   pub close : z.close ≡ w.close
   pub none : is_none z.items ≡ is_none w.items
-  pub behind : behind_appended z ≡ behind_appended w
+  pub after : after_appended z ≡ after_appended w
 
 -- the collection to which steps lead in document n of a cut ends as this one (own)
 abbrev pub EndsAsIn : CollPieces → Cut → ℕ → List Step → Type 0
@@ -104,7 +104,7 @@ EndsAsIn w c n steps = (z : CollPieces) × (flow_collection n steps c ≡ Some z
 
 -- one more item or entry of a collection comes in the last n bytes of a text; if it has none, with more bytes before it there (own)
 abbrev pub EndsAfter : ℕ → CollPieces → Type 0
-EndsAfter n w = (length (behind_appended w) ≤ n) × (is_none w.items ≡ true → length (behind_appended w) < n)
+EndsAfter n w = (length (after_appended w) ≤ n) × (is_none w.items ≡ true → length (after_appended w) < n)
 
 -- a part of document n comes before a text, and is in a cut, before another one in its place (7.4; own)
 abbrev pub IsPartBefore : Cut → ℕ → List Step → Step → EntryPieces → List ℕ → List ℕ → Type 0

@@ -5,7 +5,7 @@ use Rattle.yq_text.specs.Script.{Extent, Segment, are_kept, extents, from_first,
 use Rattle.yq_text.specs.Script.{swapped_segments}
 use Rattle.yq_core.specs.Text.{is_empty, is_feed}
 use Rattle.yq_row_table.{specs.Items.{Item, items_of_cut, items_text}, specs.Rows.{Cut, cut_text}}
-use Rattle.yq_row_table.specs.Touched.{TouchesOnly, in_front, item_text}
+use Rattle.yq_row_table.specs.Touched.{TouchesOnly, before_offset, item_text}
 use Rattle.yq_documents.specs.Reading.{documents, read_at}
 use Rattle.yq_semantics.{specs.Fits.Fits, specs.Operations.Operation, specs.Rooms.room_of}
 use Rattle.yq_edit_rules.{specs.Edits.op_edits, specs.Operands.HasOperand}
@@ -28,7 +28,7 @@ AreTouched from (i ∷ is) es = IsTouched from (from + length (item_text i)) es 
 
 -- each item that is written, after those in front of an offset, is touched by a range of what segments put (own)
 abbrev pub PutAreTouched : (ss : List Segment) (front back : ℕ) (c new : Cut) → TouchesOnly front back c new → Type 0
-PutAreTouched ss front back c new t = AreTouched (length (items_text (in_front front (items_of_cut c)) [])) t.written (put_ranges ss)
+PutAreTouched ss front back c new t = AreTouched (length (items_text (before_offset front (items_of_cut c)) [])) t.written (put_ranges ss)
 
 -- ---- what segments keep between two that they exchange
 

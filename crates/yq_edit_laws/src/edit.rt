@@ -6,19 +6,19 @@ ghost use Rattle.yq_flow_edits.specs.FlowPlaces.{edit_view};
 ghost use Rattle.yq_row_table.specs.Rows.{cut_text};
 ghost use Rattle.yq_documents.specs.Reading.{cut_of};
 ghost use Rattle.yq_edit_rules.specs.Answers.{GivesSegments};
-ghost use Rattle.yq_places.specs.Standings as standings;
+ghost use Rattle.yq_places.specs.Placements as placements;
 ghost use Rattle.yq_edit_laws.specs.EditPlaces as spec;
 
 use std::alloc::{AllocError, Global};
 use yq_core::Step;
-use yq_flow_edits::{EditPlace, behind};
+use yq_flow_edits::{EditPlace, bytes_after};
 use yq_lookup::CutText;
 use yq_text::{Halves, Segment, Segments};
 
 /// The steps to the collection in which a path ends, and the last one.
 pub fn last_step(steps: &[Step]) -> Option<(&[Step], &Step)>
     ensures { option_map (λ x. (map tree_step x.0.now, tree_step x.1.now)) result ≡
-        standings.last_step (map tree_step steps.now) }
+        placements.last_step (map tree_step steps.now) }
 {
     match steps {
         [] => None,
@@ -48,14 +48,14 @@ pub(crate) fn edit_at<'d>(
     ensures { GivesSegments result (Some (spec.edit_segments (whole text.entry)
         (spec.moved_on before (edit_view place)) (string_bytes written))) }
 {
-    let (front, behind) = text.split_at(before + place.end);
+    let (front, after) = text.split_at(before + place.end);
     let (kept, old) = front.split_at(before + place.start);
     let lead = String::from_str(alloc, place.lead)?;
     let segments = vec![in alloc;
         Segment::Keep(kept),
         Segment::Put(old, lead),
         Segment::Put(Halves::of(""), written),
-        Segment::Keep(behind),
+        Segment::Keep(after),
     ]?;
     Ok(Some(Segments::new(segments)))
 }
@@ -73,8 +73,8 @@ pub(crate) fn bytes_at(text: &str, place: EditPlace) -> &[u8]
 {
     let bytes = text.as_bytes();
     if place.end <= bytes.len() {
-        behind(bytes.split_at(place.end).0, place.start)
+        bytes_after(bytes.split_at(place.end).0, place.start)
     } else {
-        behind(bytes, place.start)
+        bytes_after(bytes, place.start)
     }
 }

@@ -1,5 +1,5 @@
 //! Laws on what operations exchange.
-ghost use Rattle.yq_edit_rules.{specs.StandingLaws.HeldSpells, specs.Local.LocalTouches};
+ghost use Rattle.yq_edit_rules.{specs.PlacementLaws.HeldSpells, specs.Local.LocalTouches};
 ghost use Rattle.yq_edit_rules.specs.RowChanges.{HeadCommentsChangeRows, LineCommentsChangeRows, RowEdits};
 ghost use Rattle.yq_edit_laws.specs.TouchedRanges.{EditsAreNear, NearAreTouched};
 ghost use Rattle.yq_edit_rules.specs.EditLaws as laws;

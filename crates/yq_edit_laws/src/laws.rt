@@ -1,5 +1,5 @@
 //! Laws on edits of flow collections, and on what is where a node is.
-ghost use Rattle.yq_edit_rules.specs.StandingLaws.{EntriesStand, RootsStand};
+ghost use Rattle.yq_edit_rules.specs.PlacementLaws.{EntriesOccur, RootsOccur};
 ghost use Rattle.yq_edit_rules.specs.EditLaws.{FlowMoreIsPut, FlowPartIsRemoved, FlowValuesArePut, SoleIsRemoved, AppendHasEdit};
 ghost use Rattle.yq_edit_laws.specs.Emptying.{SoleByEmptying};
 
@@ -17,9 +17,9 @@ pub fn emptying_removes()
 {}
 
 /// Where a node is, something is.
-pub fn nodes_stand()
-    ensures roots { RootsStand }
-    ensures entries { EntriesStand }
+pub fn nodes_are_there()
+    ensures roots { RootsOccur }
+    ensures entries { EntriesOccur }
 {}
 
 /// A collection that takes one more item or entry has a place for it.

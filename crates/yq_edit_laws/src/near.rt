@@ -3,7 +3,7 @@
 ghost use Rattle.std.specs.Prelude.{◌≡◌, IfSome, Some, map, option_map, true};
 ghost use Rattle.yq_core.{specs.Entries.{entry_view, flow_part_at, parts_of, tree_step}, specs.Keys.HasUniqueKeys, specs.Paths.To};
 ghost use Rattle.yq_core.{specs.Trees.placed_tree, specs.View.{entries_end, inline_view, items_end}};
-ghost use Rattle.yq_places.specs.FlowViews.{behind_anchor, collection_along};
+ghost use Rattle.yq_places.specs.FlowViews.{following_anchor, collection_along};
 ghost use Rattle.yq_edit_laws.specs.NearParts as spec;
 
 use yq_core::{Entry, Form, Inline, Piece, Step};

@@ -7,7 +7,7 @@ ghost use Rattle.yq_lookup.specs.RowFronts.{found_summary};
 ghost use Rattle.yq_places.specs.NodesAt.{node_view};
 ghost use Rattle.yq_inline.specs.Neighbours as inline;
 ghost use Rattle.yq_places.specs.NodesAt as nodes;
-ghost use Rattle.yq_places.specs.Standings as standings;
+ghost use Rattle.yq_places.specs.Placements as placements;
 ghost use Rattle.yq_edit_laws.specs.EditPlaces as spec;
 
 use crate::edit::{edit_at, last_step, place_in};
@@ -64,7 +64,7 @@ pub fn remove_in_flow<'d>(
 ) -> Result<Option<Segments<'d>>, AllocError>
     requires { spec.IsFoundAbove cut.now path.now above.now }
     ensures { GivesSegments result (part_removed path.now.doc (cut_of cut.now)
-        (standings.last_step (steps_of path.now))) }
+        (placements.last_step (steps_of path.now))) }
 {
     let Some((_, last)) = last_step(&path.steps) else {
         return Ok(None);

@@ -1,7 +1,7 @@
 //! The empty collection that is put in the place of one whose sole item or entry is removed.
 ghost use Rattle.std.specs.Prelude.{◌≡◌, IfOk, List, ℕ, option_map};
 ghost use Rattle.yq_documents.{specs.Located.steps_of, specs.Reading.cut_of};
-ghost use Rattle.yq_places.{specs.NodesAt.node_view, specs.Standings.last_step as last_of};
+ghost use Rattle.yq_places.{specs.NodesAt.node_view, specs.Placements.last_step as last_of};
 ghost use Rattle.yq_core.specs.Values as values;
 ghost use Rattle.yq_edit_laws.specs.Emptying as spec;
 

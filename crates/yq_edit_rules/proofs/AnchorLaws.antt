@@ -50,9 +50,9 @@ lines_among n o (s ∷ ss) h even e = found (lines_found s ss o h e)
         let old = under_even n o s ss f even w.is in
         let entry : allowing.IsEntry f.line.mark = headless_entry f.line.mark f.line.head f.after w.open' (old.1).2 in
         let after : BeginsEntry (flatten f.after) = collection_anew f.after (next (level f.line) f.line f.after entry refl (old.1).4) in
-        let behind : BeginsEntry (lines_after (under_line f).place) = search (rules, after_under, both_anew, after_anew) in
+        let following : BeginsEntry (lines_after (under_line f).place) = search (rules, after_under, both_anew, after_anew) in
         let anchor : last_anchor (lines_before (under_line f).place) ≡ f.line.anchor = ap last_anchor (before_under f.place f.line f.after) ∙ last_is (lines_before f.place) f.line in
-        subst (λ (x : NodeLines). BeginsEntry (lines_after x.place) × (last_anchor (lines_before x.place) ≡ x.anchor)) w.place_is (behind, anchor)
+        subst (λ (x : NodeLines). BeginsEntry (lines_after x.place) × (last_anchor (lines_before x.place) ≡ x.anchor)) w.place_is (following, anchor)
 
 -- keys
 pub fit_parts : (xs ys : List Row) → HaveFitKeys (xs ++ ys) → HaveFitKeys xs × HaveFitKeys ys

@@ -12,7 +12,7 @@ use Rattle.yq_row_table.specs.Rows.{Content, Row}
 use Rattle.yq_places.proofs.RowPathLaws.{allowed_level}
 use Rattle.yq_edit_rules.specs.Siblings.{HasEntries, NodeLines, lines_at}
 use Rattle.yq_edit_rules.proofs.NodeLineLaws.{Under, lines_found, lines_even, under_even, after_under}
-use Rattle.yq_edit_rules.specs.LineRows.{Begins, StandApart, RowBegins, LinesApart, lines_behind, EntriesApart, AreDeep, AreClosed}
+use Rattle.yq_edit_rules.specs.LineRows.{Begins, AreApartLines, RowBegins, LinesApart, following_lines, EntriesApart, AreDeep, AreClosed}
 use Rattle.yq_edit_rules.specs.LineRows.{EvenClosed}
 use Rattle.yq_row_table.specs.Rows as rows
 
@@ -40,13 +40,13 @@ pub even_begins : (n : ℕ) (o : Outline) → IsEven n o → Begins n (flatten o
 even_begins n end e = tt
 even_begins n (row l u a) e = let same = e.0 in omega (arith, same)
 
-pub apart_skip : (a b z : List Line) → (b ≡ [] → ⊥) → StandApart b z → StandApart (a ++ b) z
+pub apart_skip : (a b z : List Line) → (b ≡ [] → ⊥) → AreApartLines b z → AreApartLines (a ++ b) z
 apart_skip [] b z some h = h
 apart_skip (x ∷ []) [] z some h = absurd (some refl)
 apart_skip (x ∷ []) (k ∷ b) z some h = h
 apart_skip (x ∷ (y ∷ a)) b z some h = apart_skip (y ∷ a) b z some h
 
-pub apart_deep : (n : ℕ) (b z : List Line) → AreDeep n b → Begins n z → StandApart b z
+pub apart_deep : (n : ℕ) (b z : List Line) → AreDeep n b → Begins n z → AreApartLines b z
 apart_deep n [] z d h = tt
 apart_deep n (l ∷ []) z d h = begins_less n (level l) z d.0 h
 apart_deep n (l ∷ (k ∷ b)) z d h = apart_deep n (k ∷ b) z d.1 h
@@ -104,7 +104,7 @@ entries_apart n o steps s h f even e =
     let own = w.even in
     let lt = deep.0 in
     let same : level f.line ≡ m = own.0 in
-    let behind : Begins m (lines_behind h f) = search (rules, arith, begins_both, even_begins, begins_less, lines_begin) in
+    let after : Begins m (following_lines h f) = search (rules, arith, begins_both, even_begins, begins_less, lines_begin) in
     search (rules, deep_less, even_deep, apart_skip, apart_deep, begins_less)
 
 -- closed lines
@@ -129,12 +129,12 @@ first_level above column (k ∷ ns) m c rest n h = omega (arith, h)
 
 -- Lines in front of others are none of a row's lines, or all of them.
 abbrev Around : List Line → List Line → List Line → List Line → Type 0
-Around ls rest a z = (a ≡ []) ⊎ ((b : List Line) × (a ≡ ls ++ b) × (rest ≡ b ++ z) × StandApart b z)
+Around ls rest a z = (a ≡ []) ⊎ ((b : List Line) × (a ≡ ls ++ b) × (rest ≡ b ++ z) × AreApartLines b z)
 
-apart_rest : (x : Line) (a z : List Line) → StandApart (x ∷ a) z → StandApart a z
+apart_rest : (x : Line) (a z : List Line) → AreApartLines (x ∷ a) z → AreApartLines a z
 apart_rest x a z h = search rules
 
-row_around : (above : List (List ℕ)) (column : ℕ) (ns : List ℕ) (m : rows.RowMark) (c : Content) (rest a z : List Line) → lines_from above column ns m c ++ rest ≡ a ++ z → StandApart a z →
+row_around : (above : List (List ℕ)) (column : ℕ) (ns : List ℕ) (m : rows.RowMark) (c : Content) (rest a z : List Line) → lines_from above column ns m c ++ rest ≡ a ++ z → AreApartLines a z →
     Around (lines_from above column ns m c) rest a z
 unfolding level
 row_around above column ns m c rest [] z e h = inl refl
@@ -147,7 +147,7 @@ row_around above column (n ∷ ns) m c rest (x ∷ a) z e h =
   where
     deep : a ≡ [] → ⊥
     deep none =
-        let one : StandApart (x ∷ []) z = subst (λ (b : List Line). StandApart (x ∷ b) z) none h in
+        let one : AreApartLines (x ∷ []) z = subst (λ (b : List Line). AreApartLines (x ∷ b) z) none h in
         let is : z ≡ lines_from [] (suc (column + n)) ns m c ++ rest = ap (λ (b : List Line). b ++ z) (sym none) ∙ sym (tail-eq_of_cons-eq e) in
         let first = first_level [] (suc (column + n)) ns m c rest (level x) (subst (Begins (level x)) is one) in
         let same : level x ≡ 3 * column + 3 = ap level (sym (head-eq_of_cons-eq e)) in

@@ -12,7 +12,7 @@ use Rattle.yq_places.{specs.CollectionEnds.CollectionEnd, specs.RowPaths.IsReada
 use Rattle.yq_documents.specs.Reading.{read_at}
 use Rattle.yq_edit_rules.{specs.declared.layout.Layout.Layout, specs.Alone.singleton, specs.BlockRows.node_rows}
 use Rattle.yq_edit_rules.{proofs.TextLaws.value_spelled, specs.Changed.put_document, specs.CollectionPlaces.IsCollectionEnd}
-use Rattle.yq_edit_rules.{specs.DocumentRows.behind_document, proofs.TextPieceLaws.pieces_joined, specs.Local.{IsLocal, IsLocalTo}}
+use Rattle.yq_edit_rules.{specs.DocumentRows.after_document, proofs.TextPieceLaws.pieces_joined, specs.Local.{IsLocal, IsLocalTo}}
 use Rattle.yq_edit_rules.{proofs.ItemsLocal.{first_within, last_nothing}, proofs.LocalLaws.{cut_known, rows_local}, specs.Layouts.layout_of}
 use Rattle.yq_edit_rules.{specs.EntryEdits.entry_lines, specs.ReadsAfter.ReadsAfter, proofs.CommentPieceLaws.break_piece}
 use Rattle.yq_edit_rules.{proofs.SegmentLaws.segments_readable, specs.BlockValues.IsEnd, specs.Ends.{TakesRowsLast, closed_with}}
@@ -40,7 +40,7 @@ module _ (doc : ℕ) (steps : List Step) (key : Option (List ℕ)) (v : Node) (c
   l = layout_of doc c
 
   abbrev rest : List ℕ
-  rest = behind_document doc c
+  rest = after_document doc c
 
   abbrev part : Part
   part = p doc steps c x read at
@@ -69,7 +69,7 @@ module _ (doc : ℕ) (steps : List Step) (key : Option (List ℕ)) (v : Node) (c
       ∙ (ap (λ z. place.start ++ z) (closed_text part place.others new place.last (break_text l.br) rest lines ends.inline ends.rest_is new_lines)
       ∙ (sym (append_assoc place.start (rows_text (place.others ++ (place.last ∷ [])) []) (break_text l.br ++ lines))
       ∙ (ap (λ z. z ++ (break_text l.br ++ lines)) (ap (λ rs. place.start ++ rows_text rs []) (sym place.front_is) ∙ sym place.before_is)
-      ∙ ap (λ z. x.before ++ z) (sym (append-nil (break_text l.br ++ lines)) ∙ ap (λ z. (break_text l.br ++ lines) ++ z) (sym (ap (λ z. z ++ []) ends.behind_is))))))
+      ∙ ap (λ z. x.before ++ z) (sym (append-nil (break_text l.br ++ lines)) ∙ ap (λ z. (break_text l.br ++ lines) ++ z) (sym (ap (λ z. z ++ []) ends.following_is))))))
 
   readable : length (new_text (put_segments x (break_text l.br ++ lines))) ≤ text_limit → IsReadable (cut_text (put_document doc q c))
   readable size =
@@ -122,9 +122,9 @@ module _ (doc : ℕ) (steps : List Step) (key : Option (List ℕ)) (v : Node) (c
         lead = print_row place.last [];
         trail = [];
         before_is = append-nil x.before ∙ before_last;
-        behind_is = append-nil x.behind ∙ (ends.behind_is ∙ sym (λ i. ends.end_is i ++ ends.rest_is i));
+        following_is = append-nil x.after ∙ (ends.following_is ∙ sym (λ i. ends.end_is i ++ ends.rest_is i));
         puts = refl;
-        old_is = ap (λ z. x.before ++ z) (append-nil x.behind) ∙ old_is doc steps c x read at;
+        old_is = ap (λ z. x.before ++ z) (append-nil x.after) ∙ old_is doc steps c x read at;
         new_is = sym new_is;
       }) (omega arith) longer (omega arith) (last_nothing (rows_items (closed_by (break_text l.br) place.last ∷ new) [])) in (
         subst (ReadsAfter (append doc steps key v) c) new_is

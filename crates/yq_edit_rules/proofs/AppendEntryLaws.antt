@@ -4,13 +4,13 @@ use Rattle.yq_core.{specs.Text.upto, specs.Tree.{Node, Children, none, child, ke
 use Rattle.yq_flow_edits.specs.Valued.{IsValueTree}
 use Rattle.yq_outline.{specs.LineAnchors.HaveOneAnchorEach, specs.Comments.line_comment}
 use Rattle.yq_outline.specs.Outline.{LineMark, Line, level, rank, Outline, end, row, flatten, IsOpen, IsEven, label, outline_node, children}
-use Rattle.yq_outline.{specs.Outline.{value, Stands}, specs.Places.content_under, proofs.ByRules.rules_give, specs.Lines.lines_of_rows}
+use Rattle.yq_outline.{specs.Outline.{value, IsLocatedAt}, specs.Places.content_under, proofs.ByRules.rules_give, specs.Lines.lines_of_rows}
 use Rattle.yq_row_table.{specs.Gap.IsGap, specs.Grammar.{Limit, limit_after, AreRows}, specs.Rows.Row, specs.Splices.first_gap}
 use Rattle.yq_documents.specs.Documents.{HaveFitKeys}
 use Rattle.yq_edit_rules.{specs.declared.layout.Layout.Layout, specs.Alone.singleton}
 use Rattle.yq_edit_rules.specs.BlockRows.{inline_of, node_rows, children_rows, entry_rows, rows_on_dash, end_of_line_before, column_below}
 use Rattle.yq_edit_rules.specs.BlockValues.{IsEnd, IsFilledValue, IsNear, HasNearKeys, IsWritable, level_at}
-use Rattle.yq_edit_rules.{proofs.FitLaws.{node_fit, keys_fit, anchors_fit}, proofs.BlockLineLaws.node_stands, specs.Operands.KeyIsUtf8}
+use Rattle.yq_edit_rules.{proofs.FitLaws.{node_fit, keys_fit, anchors_fit}, proofs.BlockLineLaws.node_is_there, specs.Operands.KeyIsUtf8}
 use Rattle.yq_core.specs.Tree as tree
 use Rattle.yq_core.specs.Nodes as inline
 
@@ -70,9 +70,9 @@ pub entry_of : (key : Option (List ℕ)) (v : Node) (l : Layout) (column : ℕ) 
 entry_of key v l column last uncommented step u h =
     let w = alone_value key v u h in
     let rs : List Row = node_rows l column last (singleton key v) in
-    let s : Stands (lines_of_rows rs) (singleton key v) (level_at column (singleton key v)) =
+    let s : IsLocatedAt (lines_of_rows rs) (singleton key v) (level_at column (singleton key v)) =
     rules_give (level_at column (singleton key v)) (lines_of_rows rs) (singleton key v)
-    (node_stands (singleton key v) l column last step w.filled w.value uncommented) in
+    (node_is_there (singleton key v) l column last step w.filled w.value uncommented) in
     one_row key v column s.outline rs (subst (λ n. IsEven n s.outline) (search rules) s.even) s.lines_are s.node_is
 
 -- its keys and anchors

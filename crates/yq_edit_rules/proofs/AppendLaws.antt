@@ -2,10 +2,10 @@
 use Rattle.std.proofs.Common.{◌≡◌, ℕ, ◌<◌, List, [], ◌∷◌, ◌++◌, Option, Some, None, true, false, refl, sym, ap, ◌∙◌, subst, arith}
 use Rattle.std.{proofs.Common.{append_assoc, length-append, rules}, proofs.lemmas.Bool.false≢true}
 use mathlib.Core.List.{head-eq_of_cons-eq}
-use Rattle.yq_core.{specs.Block.{BlockText, ends_block, keeps}, specs.Text.text_lines, proofs.BlockRepairLaws.ends_behind}
-use Rattle.yq_row_table.{specs.Exchange.asked_behind, specs.Grammar.{Limit, unlimited, AreRows, no_rows}}
+use Rattle.yq_core.{specs.Block.{BlockText, ends_block, keeps}, specs.Text.text_lines, proofs.BlockRepairLaws.following_ends}
+use Rattle.yq_row_table.{specs.Exchange.asked_after, specs.Grammar.{Limit, unlimited, AreRows, no_rows}}
 use Rattle.yq_row_table.{specs.Rows.{Content, Row, rows_text, Part}, specs.Seams.{are_seamed, ends_in_block, ends_in_line}}
-use Rattle.yq_row_table.{specs.Splices.{behind_first, first_gap}, specs.Removal.last_block, proofs.seams.LessLaws.starts_less}
+use Rattle.yq_row_table.{specs.Splices.{after_first, first_gap}, specs.Removal.last_block, proofs.seams.LessLaws.starts_less}
 use Rattle.yq_row_table.{proofs.RowAgain.row_starts, proofs.splices.PartPlaces.part_in, proofs.seams.FrontSeams.{seams_any, seams_line}}
 use Rattle.yq_row_table.{proofs.splices.SpliceTexts.own_gap, proofs.seams.BlockFronts.last_none}
 use Rattle.yq_documents.{specs.Documents.{HaveFitKeys, HasShortRoot}, specs.Reading.part_outline, specs.PartNumbers.part_number}
@@ -14,8 +14,8 @@ use Rattle.yq_outline.{specs.Places.{lines_before, lines_after}, proofs.Decides.
 use Rattle.yq_places.proofs.UnderExchange.{lines_append}
 use Rattle.yq_edit_rules.{specs.Siblings.put_lines, proofs.AnchorLaws.{fit_parts, fit_from}, proofs.CollectionLaws.appended}
 use Rattle.yq_edit_rules.{proofs.NodeLineLaws.lines_even, proofs.BlockChangeLaws.entry_appended, proofs.PlacedLaws.same_parts}
-use Rattle.yq_edit_rules.{specs.Appends.{inserted, BlockAppended}, specs.LineRows.{Begins, StandApart, AreDeep}}
-use Rattle.yq_edit_rules.specs.DocumentRows.{behind_document, RowsFit}
+use Rattle.yq_edit_rules.{specs.Appends.{inserted, BlockAppended}, specs.LineRows.{Begins, AreApartLines, AreDeep}}
+use Rattle.yq_edit_rules.specs.DocumentRows.{after_document, RowsFit}
 use Rattle.yq_edit_rules.proofs.ApartLaws.{apart_skip, apart_deep, deep_less, even_deep, lines_apart, block_some}
 use Rattle.yq_edit_rules.proofs.ColumnLaws.{block_is_deeper, next_allowed}
 use Rattle.yq_edit_rules.proofs.PartLaws.{part_numbered, document_known, document_spliced, is_put, short_stays}
@@ -36,15 +36,15 @@ first_column above column (n ∷ ns) m c rest l ls e = ap (λ (x : Line). x.colu
 less_rows : (new : List Row) (limit : Limit) (gap rest : List ℕ) (b : BlockText) (l : Line) (ls : List Line) → AreRows limit new gap rest → first_gap new [] ≡ [] → lines_of_rows new ≡ l ∷ ls →
     l.column < b.indent.columns → ends_block (keeps b.chomping) b.indent (text_lines (rows_text new (gap ++ rest))) ≡ true
 less_rows [] limit gap rest b l ls h bare e less = absurd (cc)
-less_rows (r ∷ more) limit gap rest b l ls h bare e less = search (rules, first_column, starts_less, row_starts, ends_behind)
+less_rows (r ∷ more) limit gap rest b l ls h bare e less = search (rules, first_column, starts_less, row_starts, following_ends)
 
-pub append_seam : (front back new : List Row) (end rest gap behind : List ℕ) (l : Line) (ls : List Line) → AreRows unlimited (front ++ back) end rest →
-    AreRows (asked_behind unlimited front) new gap behind → first_gap new [] ≡ [] → lines_of_rows new ≡ l ∷ ls →
-    StandApart (lines_of_rows front) (l ∷ []) → (no_rows back ≡ true → ends_in_block front ≡ false → ends_in_line front ≡ true) → are_seamed front (rows_text new (gap ++ behind)) ≡ true
-append_seam front back new tail rest gap behind l ls old is bare lines apart ends = go (last_block front) refl
+pub append_seam : (front back new : List Row) (end rest gap after : List ℕ) (l : Line) (ls : List Line) → AreRows unlimited (front ++ back) end rest →
+    AreRows (asked_after unlimited front) new gap after → first_gap new [] ≡ [] → lines_of_rows new ≡ l ∷ ls →
+    AreApartLines (lines_of_rows front) (l ∷ []) → (no_rows back ≡ true → ends_in_block front ≡ false → ends_in_line front ≡ true) → are_seamed front (rows_text new (gap ++ after)) ≡ true
+append_seam front back new tail rest gap after l ls old is bare lines apart ends = go (last_block front) refl
   where
     u : List ℕ
-    u = rows_text new (gap ++ behind)
+    u = rows_text new (gap ++ after)
 
     plain : (bs : List Row) → back ≡ bs → ends_in_block front ≡ false → are_seamed front u ≡ true
     plain [] e n = seams_line front u (ends (ap no_rows e) n) n
@@ -52,7 +52,7 @@ append_seam front back new tail rest gap behind l ls old is bare lines apart end
 
     go : (o : Option BlockText) → last_block front ≡ o → are_seamed front u ≡ true
     go None e = plain back refl (last_none front e)
-    go (Some b) e = block_seam front b u e (less_rows new (asked_behind unlimited front) gap behind b l ls is bare lines (block_is_deeper unlimited front back tail rest b l old e apart))
+    go (Some b) e = block_seam front b u e (less_rows new (asked_after unlimited front) gap after b l ls is bare lines (block_is_deeper unlimited front back tail rest b l old e apart))
 
 -- rows with lines
 pub rows_with : (front : List Row) (a b : List Line) → lines_of_rows front ≡ a ++ b → (b ≡ [] → ⊥) → no_rows front ≡ false
@@ -63,9 +63,9 @@ rows_with [] a b e some = absurd (some (none a b e))
     none (x ∷ a) b e = absurd (cc)
 rows_with (r ∷ front) a b e some = refl
 
-pub rows_behind_some : (a b : List Row) → no_rows a ≡ false → no_rows (a ++ b) ≡ false
-rows_behind_some [] b n = absurd (false≢true (sym n))
-rows_behind_some (x ∷ a) b n = refl
+pub following_rows_some : (a b : List Row) → no_rows a ≡ false → no_rows (a ++ b) ≡ false
+following_rows_some [] b n = absurd (false≢true (sym n))
+following_rows_some (x ∷ a) b n = refl
 
 pub around : (a x y z : List Line) → (a ++ x) ++ (y ++ z) ≡ a ++ ((x ++ y) ++ z)
 around a x y z = append_assoc a x (y ++ z) ∙ ap (λ (v : List Line). a ++ v) (sym (append_assoc x y z))
@@ -76,7 +76,7 @@ block_appended t c k p steps h front back new m l u old there_is size w takes te
     let o : Outline = part_outline p in
     let n : ℕ = level_or 0 h.lines in
     let q : Part = inserted front new back p in
-    let rest : List ℕ = behind_document k c in
+    let rest : List ℕ = after_document k c in
     let deep = lines_even (level_or 0 o) o steps h known.even there_is.place_is there_is.block in
     let apart = lines_apart (level_or 0 o) o steps h known.even there_is.place_is there_is.block in
     let olds : flatten o ≡ put_lines h (flatten h.lines) = (appended (level_or 0 o) m o u l steps h known.even there_is w.fits).0 in
@@ -90,21 +90,21 @@ block_appended t c k p steps h front back new m l u old there_is size w takes te
     let less = w.fits.deep in
     let above : h.above < n = deep.0 in
     let new_deep : AreDeep n (lines_of_rows new) = subst (AreDeep n) (sym w.lines) (omega (arith, level_is), deep_less n m (flatten u) (omega (arith, level_is, less)) (even_deep m u w.fits.even)) in
-    let first : StandApart (lines_of_rows front) (l ∷ []) = search (rules, arith, apart_skip, block_some, apart_deep, even_deep) in
+    let first : AreApartLines (lines_of_rows front) (l ∷ []) = search (rules, arith, apart_skip, block_some, apart_deep, even_deep) in
     let part : AreRows unlimited (front ++ back) p.end rest =
     subst (λ (rs : List Row). AreRows unlimited rs p.end rest) takes.rows_are (subst (λ (x : Part). AreRows unlimited x.rows x.end rest) (part_numbered c k p old.there).0 (part_in c (part_number k c) true known.cut.parts).rows) in
     let gap : List ℕ = first_gap back p.end in
-    let behind : List ℕ = behind_first back p.end rest in
+    let after : List ℕ = after_first back p.end rest in
     let fits : RowsFit front new back gap p rest = record {
       rows = takes.new_are;
-      next = next_allowed n (asked_behind unlimited front) new back gap behind takes.new_are (rows_with new [] (l ∷ flatten u) w.lines (λ none. cc)) new_deep h.above above (subst (Begins h.above) (sym parts.2) apart.1);
-      seam = append_seam front back new p.end rest gap behind l (flatten u) part takes.new_are w.bare w.lines first takes.closed;
+      next = next_allowed n (asked_after unlimited front) new back gap after takes.new_are (rows_with new [] (l ∷ flatten u) w.lines (λ none. cc)) new_deep h.above above (subst (Begins h.above) (sym parts.2) apart.1);
+      seam = append_seam front back new p.end rest gap after l (flatten u) part takes.new_are w.bare w.lines first takes.closed;
     } in
-    let has : no_rows p.rows ≡ false = ap no_rows takes.rows_are ∙ rows_behind_some front back some in
+    let has : no_rows p.rows ≡ false = ap no_rows takes.rows_are ∙ following_rows_some front back some in
     let cut = document_spliced t c k p front [] back new gap old known.cut takes.rows_are has fits text in
     let keys = fit_parts front back (subst HaveFitKeys takes.rows_are known.document.keys) in
     let put =
-    is_put t c k p q old (ap no_rows there ∙ rows_behind_some front (new ++ back) some) text cut (subst HaveFitKeys (sym there) (fit_from front (new ++ back) keys.0 (fit_from new back w.keys keys.1)))
+    is_put t c k p q old (ap no_rows there ∙ following_rows_some front (new ++ back) some) text cut (subst HaveFitKeys (sym there) (fit_from front (new ++ back) keys.0 (fit_from new back w.keys keys.1)))
     (subst HasShortRoot (sym there) (short_stays front back (new ++ back) some (subst HasShortRoot takes.rows_are known.document.short))) in
     let lines : lines_of_rows q.rows ≡ put_lines h (flatten h.lines ++ (l ∷ flatten u)) = search (rules, lines_append, around, there, parts) in
     entry_appended t c k p q steps h m l u put there_is w.fits w.anchors lines w.value_is w.key

@@ -6,15 +6,15 @@ use Rattle.yq_outline.{specs.Comments.head_comment, specs.Group.level_or, specs.
 use Rattle.yq_outline.{specs.Places.{lines_before, lines_after}, proofs.Decides.flatten-group}
 use Rattle.yq_outline.specs.Lines.{mark_line, lines_from, row_lines, lines_of_rows}
 use Rattle.yq_core.specs.Paths.{Step}
-use Rattle.yq_row_table.{specs.Exchange.{allows_first, asked_behind}, specs.Gap.IsGap}
+use Rattle.yq_row_table.{specs.Exchange.{allows_first, asked_after}, specs.Gap.IsGap}
 use Rattle.yq_row_table.{specs.Grammar.{Limit, unlimited, allows, limit_after, AreRows}, specs.Rows.{Row, mark_column, Part, Cut}}
-use Rattle.yq_row_table.{specs.Splices.{first_gap, behind_first}, proofs.PlainEnds.{AtLine, rows_line}, proofs.seams.SeamLaws.part_line}
+use Rattle.yq_row_table.{specs.Splices.{first_gap, after_first}, proofs.PlainEnds.{AtLine, rows_line}, proofs.seams.SeamLaws.part_line}
 use Rattle.yq_row_table.{proofs.splices.PartPlaces.{part_in, part_ends}, proofs.splices.SpliceTexts.first_is}
 use Rattle.yq_places.{specs.CollectionEnds.CollectionEnd, proofs.UnderExchange.lines_append}
 use Rattle.yq_documents.{specs.Reading.part_outline, specs.PartNumbers.part_number}
-use Rattle.yq_edit_rules.{specs.CollectionPlaces.IsCollectionEnd, specs.DocumentRows.{IsDocumentPart, behind_document}}
+use Rattle.yq_edit_rules.{specs.CollectionPlaces.IsCollectionEnd, specs.DocumentRows.{IsDocumentPart, after_document}}
 use Rattle.yq_edit_rules.{specs.LineRows.{Begins, AreDeep}, specs.Moved.dash_lines, proofs.ApartLaws.{even_deep, lines_apart, block_some}}
-use Rattle.yq_edit_rules.{proofs.ColumnLaws.{allowed_content, below_node, high_level, next_low}, proofs.LineLaws.{above_mark, mark_behind}}
+use Rattle.yq_edit_rules.{proofs.ColumnLaws.{allowed_content, below_node, high_level, next_low}, proofs.LineLaws.{above_mark, mark_after}}
 use Rattle.yq_edit_rules.{proofs.NodeLineLaws.lines_even, proofs.PartLaws.{document_known, part_numbered}}
 use Rattle.yq_edit_rules.proofs.PlacedLaws.{same_parts, whole_lines}
 
@@ -36,7 +36,7 @@ deep_last n (x ∷ []) l h e = subst (λ (y : Line). n ≤ level y) (same_Some _
 deep_last n (x ∷ (z ∷ ls)) l h e = deep_last n (z ∷ ls) l h.1 e
 
 row_last : (r : Row) → last_line (row_lines r) ≡ Some (mark_line (above_mark (head_comment r.gap) r.dashes) (mark_column r) r.mark r.content)
-row_last r = ap last_line (mark_behind (head_comment r.gap) r.column r.dashes r.mark r.content) ∙ last_of (dash_lines (head_comment r.gap) r.column r.dashes) _ []
+row_last r = ap last_line (mark_after (head_comment r.gap) r.column r.dashes r.mark r.content) ∙ last_of (dash_lines (head_comment r.gap) r.column r.dashes) _ []
 
 -- an entry or item in a column less deep than the last line of a row may come after that row
 mark_limit : (n column : ℕ) (r : Row) → 3 * column + 1 < n → n ≤ level (mark_line (above_mark (head_comment r.gap) r.dashes) (mark_column r) r.mark r.content) → allows (limit_after r) column ≡ true
@@ -44,7 +44,7 @@ unfolding level
 mark_limit n column r low deep = search (rules, allowed_content, above_mark, high_level, below_node)
 
 -- after the last of rows
-pub last_limit : (limit : Limit) (others : List Row) (r : Row) → asked_behind limit (others ++ (r ∷ [])) ≡ limit_after r
+pub last_limit : (limit : Limit) (others : List Row) (r : Row) → asked_after limit (others ++ (r ∷ [])) ≡ limit_after r
 last_limit limit [] r = refl
 last_limit limit (x ∷ others) r = last_limit (limit_after x) others r
 
@@ -69,16 +69,16 @@ low_first : (n column : ℕ) (back : List Row) → n ≤ 3 * column + 3 → (m :
 low_first n column [] high m less next = refl
 low_first n column (b ∷ bs) high m less next = let low = next_low m (b ∷ bs) b bs refl next in lt-ltb b.column (suc column) (omega (arith, high, less, low))
 
-pub rows_behind : (front back : List Row) (limit : Limit) (gap rest : List ℕ) → AreRows limit (front ++ back) gap rest → AreRows (asked_behind limit front) back gap rest
-rows_behind [] back limit gap rest h = h
-rows_behind (r ∷ front) back limit gap rest h = rows_behind front back (limit_after r) gap rest h.1
+pub following_rows : (front back : List Row) (limit : Limit) (gap rest : List ℕ) → AreRows limit (front ++ back) gap rest → AreRows (asked_after limit front) back gap rest
+following_rows [] back limit gap rest h = h
+following_rows (r ∷ front) back limit gap rest h = following_rows front back (limit_after r) gap rest h.1
 
 -- What may be at the end of a collection.
 pub record EndAllows (c : Cut) (k : ℕ) (p : Part) (x : CollectionEnd) (front back : List Row) : Type 0 where
-  pub rows : AreRows unlimited (front ++ back) p.end (behind_document k c)
-  pub allowed : allows (asked_behind unlimited front) x.column ≡ true
-  pub line : AtLine (suc x.column) x.behind
-  pub gap : IsGap (first_gap back p.end) (behind_first back p.end (behind_document k c))
+  pub rows : AreRows unlimited (front ++ back) p.end (after_document k c)
+  pub allowed : allows (asked_after unlimited front) x.column ≡ true
+  pub line : AtLine (suc x.column) x.after
+  pub gap : IsGap (first_gap back p.end) (after_first back p.end (after_document k c))
 
 pub end_allows : (t : List ℕ) (c : Cut) (k : ℕ) (p : Part) (steps : List Step) (x : CollectionEnd) → IsDocumentPart t c k p → (e : IsCollectionEnd c k p steps x) → EndAllows c k p x e.front e.back
 unfolding level
@@ -86,7 +86,7 @@ end_allows t c k p steps x h e =
     let known = document_known t c k p h in
     let o = part_outline p in
     let n : ℕ = level_or 0 e.h.lines in
-    let rest : List ℕ = behind_document k c in
+    let rest : List ℕ = after_document k c in
     let deep = lines_even (level_or 0 o) o steps e.h known.even e.collection.place_is e.collection.block in
     let apart = lines_apart (level_or 0 o) o steps e.h known.even e.collection.place_is e.collection.block in
     let lev : (3 * x.column + 1 < level_or 0 e.h.lines) × (level_or 0 e.h.lines ≤ 3 * x.column + 3) = search rules in
@@ -102,13 +102,13 @@ end_allows t c k p steps x h e =
     let all : AreRows unlimited (e.front ++ e.back) p.end rest =
     subst (λ (rs : List Row). AreRows unlimited rs p.end rest) e.rows_are
     (subst (λ (y : Part). AreRows unlimited y.rows y.end rest) (part_numbered c k p h.there).0 (part_in c (part_number k c) true known.cut.parts).rows) in
-    let behind : AreRows (asked_behind unlimited e.front) e.back p.end rest = rows_behind e.front e.back unlimited p.end rest all in
+    let after : AreRows (asked_after unlimited e.front) e.back p.end rest = following_rows e.front e.back unlimited p.end rest all in
     let next : allows_first (record { column = Some (suc x.column) }) e.back ≡ true = low_first n x.column e.back lev.1 e.h.above deep.0 (subst (Begins e.h.above) (sym parts.2) apart.1) in
     record {
       rows = all;
-      allowed = ap (λ (y : Limit). allows y x.column) (ap (asked_behind unlimited) e.front_is ∙ last_limit unlimited e.others e.last)
+      allowed = ap (λ (y : Limit). allows y x.column) (ap (asked_after unlimited) e.front_is ∙ last_limit unlimited e.others e.last)
           ∙ mark_limit n x.column e.last lev.0 (deep_last n (flatten e.h.lines) _ (even_deep n e.h.lines deep.1) last);
-      line = subst (AtLine (suc x.column)) (sym e.behind_is)
-          (rows_line (suc x.column) e.back (asked_behind unlimited e.front) p.end rest behind next (part_line (suc x.column) rest (part_ends c (part_number k c) true known.cut.parts)));
-      gap = first_is (asked_behind unlimited e.front) e.back p.end rest behind;
+      line = subst (AtLine (suc x.column)) (sym e.following_is)
+          (rows_line (suc x.column) e.back (asked_after unlimited e.front) p.end rest after next (part_line (suc x.column) rest (part_ends c (part_number k c) true known.cut.parts)));
+      gap = first_is (asked_after unlimited e.front) e.back p.end rest after;
     }

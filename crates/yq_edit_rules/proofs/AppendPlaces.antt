@@ -14,7 +14,7 @@ use Rattle.yq_edit_rules.{proofs.AppendEntryLaws.entry_bare, proofs.LaidRows.lai
 use Rattle.yq_edit_rules.{specs.declared.layout.Layout.Layout, specs.Alone.singleton, specs.BlockRows.node_rows}
 use Rattle.yq_edit_rules.{specs.BlockValues.{IsFilledValue, IsEnd}, proofs.CharacterLaws.value_sound, specs.Appends.AreAppendedRows}
 use Rattle.yq_edit_rules.{specs.Changed.{IsChanged, put_document}, specs.CollectionPlaces.IsCollectionEnd}
-use Rattle.yq_edit_rules.{specs.DocumentRows.{IsDocumentPart, behind_document}, specs.Rooms.is_block_root, specs.TextPieces.IsPiece}
+use Rattle.yq_edit_rules.{specs.DocumentRows.{IsDocumentPart, after_document}, specs.Rooms.is_block_root, specs.TextPieces.IsPiece}
 use Rattle.yq_edit_rules.{proofs.AppendPlaceLaws.{EndAllows, end_allows}, proofs.EditedLaws.lines_are_there}
 use Rattle.yq_edit_rules.{proofs.EndedRowLaws.{rows_ended, rows_then}, proofs.LeadLaws.same_lead_goes}
 use Rattle.yq_edit_rules.{proofs.TextPieceLaws.{text_is_piece, pieces_joined, line_cut}, specs.Layouts.layout_of}
@@ -33,14 +33,14 @@ pub record IsAppendPlace (doc : ℕ) (steps : List Step) (c : Cut) (x : Collecti
 
 -- the segments of a text in which another one is put there
 abbrev pub put_segments : CollectionEnd → List ℕ → List Segment
-put_segments x new = keep x.before ∷ (put [] new ∷ (keep x.behind ∷ []))
+put_segments x new = keep x.before ∷ (put [] new ∷ (keep x.after ∷ []))
 
 module _ (doc : ℕ) (steps : List Step) (c : Cut) (x : CollectionEnd) (read : read_at (cut_text c) ≡ Some c) (at : IsAppendPlace doc steps c x) where
   abbrev t : List ℕ
   t = cut_text c
 
   abbrev rest : List ℕ
-  rest = behind_document doc c
+  rest = after_document doc c
 
   abbrev pub p : Part
   p = at.part
@@ -55,24 +55,24 @@ module _ (doc : ℕ) (steps : List Step) (c : Cut) (x : CollectionEnd) (read : r
   allows_there = end_allows t c doc p steps x there e
 
   -- the old text
-  pub old_is : x.before ++ x.behind ≡ t
+  pub old_is : x.before ++ x.after ≡ t
   old_is = search (rules, append_assoc, rows_then, rows_text-append)
 
-  pub kept_pieces : IsPiece x.before × IsPiece x.behind
+  pub kept_pieces : IsPiece x.before × IsPiece x.after
   kept_pieces = go (subst (λ z. Ended z (rows_text e.back (p.end ++ rest))) (ap (λ rs. rows_text rs []) (sym e.front_is)) (rows_ended unlimited e.others e.last e.back p.end rest rows_there))
     where
       rows_there : AreRows unlimited (e.others ++ (e.last ∷ e.back)) p.end rest
       rows_there = subst (λ rs. AreRows unlimited rs p.end rest) (ap (λ rs. rs ++ e.back) e.front_is ∙ append_assoc e.others (e.last ∷ []) e.back) allows_there.rows
 
-      whole : IsPiece (x.before ++ x.behind)
+      whole : IsPiece (x.before ++ x.after)
       whole = subst IsPiece (sym old_is) (text_is_piece c read)
 
-      go : Ended (rows_text e.front []) (rows_text e.back (p.end ++ rest)) → IsPiece x.before × IsPiece x.behind
+      go : Ended (rows_text e.front []) (rows_text e.back (p.end ++ rest)) → IsPiece x.before × IsPiece x.after
       go (inl lf) =
           let text : x.before ≡ (e.start ++ lf.0) ++ 10 ∷ [] = e.before_is ∙ (ap (λ z. e.start ++ z) lf.1 ∙ sym (append_assoc e.start lf.0 (10 ∷ []))) in
-          subst (λ z. IsPiece z × IsPiece x.behind) (sym text) (line_cut (e.start ++ lf.0) x.behind (subst (λ z. IsPiece (z ++ x.behind)) text whole))
-      go (inr none_behind) =
-          let no_rest : x.behind ≡ [] = e.behind_is ∙ none_behind in
+          subst (λ z. IsPiece z × IsPiece x.after) (sym text) (line_cut (e.start ++ lf.0) x.after (subst (λ z. IsPiece (z ++ x.after)) text whole))
+      go (inr none_following) =
+          let no_rest : x.after ≡ [] = e.following_is ∙ none_following in
           (subst IsPiece (ap (λ z. x.before ++ z) no_rest ∙ append-nil x.before) whole, subst IsPiece (sym no_rest) nothing)
 
 -- What is known of an operation that appends, and of the node to which its steps lead in a part.

@@ -7,7 +7,7 @@ use Rattle.yq_outline.{specs.Outline.{Line, Outline, flatten, anchored, label, c
 use Rattle.yq_outline.{specs.Comments.head_comment, proofs.Finding.{FoundNode, path_node, row_child}, proofs.Plug.entry_whole}
 use Rattle.yq_outline.{proofs.Values.{same_rank, same_entry}, proofs.NodeLaws.anchored_none}
 use Rattle.yq_documents.{specs.Reading.{part_outline, root_of}, specs.TreeEdits.replaced_node}
-use Rattle.yq_row_table.specs.Rows.{Row, behind_columns}
+use Rattle.yq_row_table.specs.Rows.{Row, after_columns}
 use Rattle.yq_edit_rules.specs.Conditions.{last_anchor}
 use Rattle.yq_edit_rules.specs.BlockChanges.{NodeReplaced, RootReplaced, EntryAppended, EntryRemoved, EntryRelabelled, FirstRemoved}
 use Rattle.yq_edit_rules.{specs.BlockChanges.FirstDropped, specs.Moved.dash_lines, specs.SoundRoots.IsNewKey, specs.Siblings.HasEntries}
@@ -61,20 +61,20 @@ front_length : (before : List Row) (above : List (List ℕ)) (column : ℕ) (ds 
 front_length before above column ds size e = let same = dashes_count above column ds in omega (arith, same, e, length-append (lines_of_rows before) (dash_lines above column ds))
 
 pub first_removed : FirstRemoved
-first_removed t c k p q steps h s f before gone behind r b n ns es put entry left old new moves counts spared =
-    let law = first_moved before gone behind r b n ns es moves.dashes moves.column moves.bare in
+first_removed t c k p q steps h s f before gone after r b n ns es put entry left old new moves counts spared =
+    let law = first_moved before gone after r b n ns es moves.dashes moves.column moves.bare in
     let a : List Line = lines_of_rows before ++ dash_lines (head_comment r.gap) r.column (n ∷ ns) in
     let x : List Line = lines_from [] b.column es r.mark r.content ++ lines_of_rows gone in
-    let parts = entry_placed (level_or 0 (part_outline p)) p steps h s f a x (lines_of_rows (b ∷ behind)) (old_is_even t c k p q put) entry
+    let parts = entry_placed (level_or 0 (part_outline p)) p steps h s f a x (lines_of_rows (b ∷ after)) (old_is_even t c k p q put) entry
     (record { parts_are = ap lines_of_rows old ∙ law.0; before_are = front_length before (head_comment r.gap) r.column (n ∷ ns) _ counts.before_are; size_is = counts.size_is }) in
     entry_removed t c k p q steps h s f put entry left (ap lines_of_rows new ∙ (law.1 ∙ sym (parts.1 []))) spared
 
 pub first_dropped : FirstDropped
-first_dropped t c k p q steps h s f before gone behind r n ns es tail put entry left old new stays counts spared =
-    let law = first_emptied before gone behind r n ns es tail stays.dashes stays.bare in
+first_dropped t c k p q steps h s f before gone after r n ns es tail put entry left old new stays counts spared =
+    let law = first_emptied before gone after r n ns es tail stays.dashes stays.bare in
     let ds : List ℕ = ns ++ (n ∷ []) in
     let a : List Line = lines_of_rows before ++ dash_lines (head_comment r.gap) r.column ds in
-    let x : List Line = lines_from [] (behind_columns r.column ds) es r.mark r.content ++ lines_of_rows gone in
-    let parts = entry_placed (level_or 0 (part_outline p)) p steps h s f a x (lines_of_rows behind) (old_is_even t c k p q put) entry
+    let x : List Line = lines_from [] (after_columns r.column ds) es r.mark r.content ++ lines_of_rows gone in
+    let parts = entry_placed (level_or 0 (part_outline p)) p steps h s f a x (lines_of_rows after) (old_is_even t c k p q put) entry
     (record { parts_are = ap lines_of_rows old ∙ law.0; before_are = front_length before (head_comment r.gap) r.column ds _ counts.before_are; size_is = counts.size_is }) in
     entry_removed t c k p q steps h s f put entry left (ap lines_of_rows new ∙ (law.1 ∙ sym (parts.1 []))) spared

@@ -55,8 +55,8 @@ mutual
       (entry_begun l column (end_of_line_before l end cs) label.key n (inline_of n) _ (heads n h.1) (λ b. node_begun n l (column_below l column label.key n) (end_of_line_before l end cs) b h.1))
 
 -- a dash before rows is a line more
-behind_lines : (column : ℕ) (rs : List Row) → BeginAt (item_column column) rs → lines_of_rows (rows_on_dash column rs) ≡ dash_line [] column ∷ lines_of_rows rs
-behind_lines column rs h1 = search (rules, no_comments)
+after_lines : (column : ℕ) (rs : List Row) → BeginAt (item_column column) rs → lines_of_rows (rows_on_dash column rs) ≡ dash_line [] column ∷ lines_of_rows rs
+after_lines column rs h1 = search (rules, no_comments)
 
 -- an entry or item
 pub unanchored : (a : Option (List ℕ)) (n : tree.Node) → a ≡ None → anchored a n ≡ n
@@ -100,7 +100,7 @@ entry_lines l column end false own_label n None below after cs step is h uncomme
     let begun : BeginAt at below = subst (λ (x : tree.Label). BeginAt (column_below l column x.key n) below) is (held h).0 in
     let under : IsNodeOutline (level_at at n) (lines_of_rows below) n = subst (λ (x : tree.Label). IsNodeOutline (level_at (column_below l column x.key n) n) (lines_of_rows below) n) is (held h).1 in
     subst (λ (x : tree.Label). AreEntryLines (keyed_level false column) (lines_of_rows (entry_rows l column end x.key None below) ++ after) (tree.child x n cs)) (sym is)
-    (subst (λ (ls : List Line). AreEntryLines (keyed_level false column) (ls ++ after) (tree.child (key_label None) n cs)) (sym (behind_lines column below begun))
+    (subst (λ (ls : List Line). AreEntryLines (keyed_level false column) (ls ++ after) (tree.child (key_label None) n cs)) (sym (after_lines column below begun))
     (one_more _ (dash_line [] column) (lines_of_rows below) after n _ cs (omega arith) (λ e. cc) (deeper_lines refl (search rules) under) rest refl refl))
 
 -- all of them
@@ -125,28 +125,28 @@ as_list column e b (entry {l} lev mark under more all) = sequence (search (rules
 mutual
   unfolding node_rows children_rows
 
-  pub node_stands : (n : tree.Node) (l : Layout) (column : ℕ) (end : List ℕ) → 1 ≤ l.mapping → IsFilled n → IsValueTree n → line_comment end ≡ None → IsNodeOutline (level_at column n) (lines_of_rows (node_rows l column end n)) n
-  node_stands (tree.alias name) l column end step b h uncommented = absurd b
-  node_stands (tree.scalar a kind t) l column end step b h uncommented = absurd b
-  node_stands (tree.list a tree.none) l column end step b h uncommented = absurd b
-  node_stands (tree.list a (tree.child label n cs)) l column end step b h uncommented =
-      rw h.0 (as_list column refl tt (children_stand (tree.child label n cs) l column end false step h.1 uncommented))
-  node_stands (tree.map a tree.none) l column end step b h uncommented = absurd b
-  node_stands (tree.map a (tree.child label n cs)) l column end step b h uncommented =
-      rw h.0 (as_map column refl tt (children_stand (tree.child label n cs) l column end true step h.1 uncommented))
+  pub node_is_there : (n : tree.Node) (l : Layout) (column : ℕ) (end : List ℕ) → 1 ≤ l.mapping → IsFilled n → IsValueTree n → line_comment end ≡ None → IsNodeOutline (level_at column n) (lines_of_rows (node_rows l column end n)) n
+  node_is_there (tree.alias name) l column end step b h uncommented = absurd b
+  node_is_there (tree.scalar a kind t) l column end step b h uncommented = absurd b
+  node_is_there (tree.list a tree.none) l column end step b h uncommented = absurd b
+  node_is_there (tree.list a (tree.child label n cs)) l column end step b h uncommented =
+      rw h.0 (as_list column refl tt (children_are_there (tree.child label n cs) l column end false step h.1 uncommented))
+  node_is_there (tree.map a tree.none) l column end step b h uncommented = absurd b
+  node_is_there (tree.map a (tree.child label n cs)) l column end step b h uncommented =
+      rw h.0 (as_map column refl tt (children_are_there (tree.child label n cs) l column end true step h.1 uncommented))
 
-  children_stand : (cs : Children) (l : Layout) (column : ℕ) (end : List ℕ) (keyed : Bool) → 1 ≤ l.mapping → AreValueTrees keyed cs →
+  children_are_there : (cs : Children) (l : Layout) (column : ℕ) (end : List ℕ) (keyed : Bool) → 1 ≤ l.mapping → AreValueTrees keyed cs →
       line_comment end ≡ None → AreEntryLines (keyed_level keyed column) (lines_of_rows (children_rows l column end cs)) cs
-  children_stand tree.none l column end keyed step h uncommented = no_more
-  children_stand (tree.child label n cs) l column end keyed step h uncommented =
+  children_are_there tree.none l column end keyed step h uncommented = no_more
+  children_are_there (tree.child label n cs) l column end keyed step h uncommented =
       let below : ℕ = column_below l column label.key n in
       let last : List ℕ = end_of_line_before l end cs in
       let still = end_uncommented l end cs uncommented in
       let here : List Row = entry_rows l column last label.key (inline_of n) (node_rows l below last n) in
       subst (λ (ls : List Line). AreEntryLines (keyed_level keyed column) ls (tree.child label n cs)) (sym (lines_append here (children_rows l column end cs)))
       (entry_lines l column last keyed label n (inline_of n) (node_rows l below last n) (lines_of_rows (children_rows l column end cs)) cs step h.0 (heads n h.1) still
-      (λ b. (node_begun n l below last b h.1, node_stands n l below last step b h.1 still))
-      (children_stand cs l column end keyed step h.2 uncommented))
+      (λ b. (node_begun n l below last b h.1, node_is_there n l below last step b h.1 still))
+      (children_are_there cs l column end keyed step h.2 uncommented))
 
 pub lines_deeper : (v : tree.Node) (l : Layout) (column : ℕ) (key : Option (List ℕ)) → 1 ≤ l.mapping → IsFilled v → entry_level key column < level_at (column_below l column key v) v
 lines_deeper v l column key h1 h2 = search (rules, under_key)

@@ -5,31 +5,31 @@ use mathlib.Core.List.{cons≢nil}
 use Rattle.yq_core.specs.Paths.{Step, is_here, further, child_at, node_at, change_child, within, changed_at}
 use Rattle.yq_core.specs.Tree.{Node, alias, scalar, list, map, Children, none, child, children_of}
 use Rattle.yq_core.specs.Anchors.{Name, Anchors, Refers, anchor_names, names_of, names_in, IsAmong, AreBound}
-use Rattle.yq_edit_rules.specs.Conditions.{anchors_in, aliases_in, known_behind, BoundStays, Around, NamesAround, BoundChanged}
+use Rattle.yq_edit_rules.specs.Conditions.{anchors_in, aliases_in, known_after, BoundStays, Around, NamesAround, BoundChanged}
 
 -- names in two parts
-pub bound_parts : (known : List (List ℕ)) (xs ys : List Name) → AreBound known (xs ++ ys) → AreBound known xs × AreBound (known_behind known xs) ys
+pub bound_parts : (known : List (List ℕ)) (xs ys : List Name) → AreBound known (xs ++ ys) → AreBound known xs × AreBound (known_after known xs) ys
 bound_parts known [] ys h = (tt, h)
 bound_parts known (Anchors a ∷ xs) ys h = bound_parts (a ∷ known) xs ys h
 bound_parts known (Refers a ∷ xs) ys h = let r = bound_parts known xs ys h.1 in ((h.0, r.0), r.1)
 
-pub bound_from : (known : List (List ℕ)) (xs ys : List Name) → AreBound known xs → AreBound (known_behind known xs) ys → AreBound known (xs ++ ys)
+pub bound_from : (known : List (List ℕ)) (xs ys : List Name) → AreBound known xs → AreBound (known_after known xs) ys → AreBound known (xs ++ ys)
 bound_from known [] ys h k = k
 bound_from known (Anchors a ∷ xs) ys h k = bound_from (a ∷ known) xs ys h k
 bound_from known (Refers a ∷ xs) ys h k = (h.0, bound_from known xs ys h.1 k)
 
 -- what is known after names was known before them, or is anchored by them
-known_from : (a : List ℕ) (known : List (List ℕ)) (xs : List Name) → IsAmong a (known_behind known xs) → IsAmong a known ⊎ IsAmong a (anchors_in xs)
+known_from : (a : List ℕ) (known : List (List ℕ)) (xs : List Name) → IsAmong a (known_after known xs) → IsAmong a known ⊎ IsAmong a (anchors_in xs)
 known_from a known [] h = inl h
 known_from a known (Anchors b ∷ xs) h = ⊎_elim {0, 0, 0} (λ k. ⊎_elim {0, 0, 0} (λ e. inr (inl e)) (λ m. inl m) k) (λ k. inr (inr k)) (known_from a (b ∷ known) xs h)
 known_from a known (Refers b ∷ xs) h = known_from a known xs h
 
-known_stays : (a : List ℕ) (known : List (List ℕ)) (xs : List Name) → IsAmong a known → IsAmong a (known_behind known xs)
+known_stays : (a : List ℕ) (known : List (List ℕ)) (xs : List Name) → IsAmong a known → IsAmong a (known_after known xs)
 known_stays a known [] h = h
 known_stays a known (Anchors b ∷ xs) h = known_stays a (b ∷ known) xs (inr h)
 known_stays a known (Refers b ∷ xs) h = known_stays a known xs h
 
-known_new : (a : List ℕ) (known : List (List ℕ)) (xs : List Name) → IsAmong a (anchors_in xs) → IsAmong a (known_behind known xs)
+known_new : (a : List ℕ) (known : List (List ℕ)) (xs : List Name) → IsAmong a (anchors_in xs) → IsAmong a (known_after known xs)
 known_new a known [] h = absurd h
 known_new a known (Anchors b ∷ xs) h = ⊎_elim {0, 0, 0} (λ e. known_stays a (b ∷ known) xs (inl e)) (λ m. known_new a (b ∷ known) xs m) h
 known_new a known (Refers b ∷ xs) h = known_new a known xs h
@@ -43,10 +43,10 @@ bound_again one two (Refers b ∷ names) h k = (k b h.0 (inl refl), bound_again 
 pub bound_stays : BoundStays
 bound_stays known before gone come after h new spared =
     let p = bound_parts known before (gone ++ after) h in
-    let mid = known_behind known before in
+    let mid = known_after known before in
     let q = bound_parts mid gone after p.1 in
     bound_from known before (come ++ after) p.0 (bound_from mid come after new
-    (bound_again (known_behind mid gone) (known_behind mid come) after q.1
+    (bound_again (known_after mid gone) (known_after mid come) after q.1
     (λ a known used. ⊎_elim {0, 0, 0} (λ m. known_stays a mid come m) (λ m. known_new a mid come (spared a m used)) (known_from a mid gone known))))
 
 -- names without aliases are bound

@@ -32,7 +32,7 @@ comment_other (b ∷ c) old rest new p h e =
     more = (Rattle.yq_places.proofs.LineEndLaws.comment_more (b ∷ c) old rest h e).1
 
 -- the end of a line, with another break after its white space and its comment
-module _ (tail more : List ℕ) (h : IsTail tail more) (pairs : pairs_returns (tail ++ more) ≡ true) (break behind : List ℕ) (ends : IsBreak break behind) where
+module _ (tail more : List ℕ) (h : IsTail tail more) (pairs : pairs_returns (tail ++ more) ≡ true) (break after : List ℕ) (ends : IsBreak break after) where
   alone : (b z : List ℕ) → IsBreak b z → IsBreak b []
   alone b z h1 = search rules
 
@@ -42,7 +42,7 @@ module _ (tail more : List ℕ) (h : IsTail tail more) (pairs : pairs_returns (t
   as_comment : IsComment h.comment break
   as_comment = comment_other h.comment h.line.break more break (pairs_back h.white (h.comment ++ (h.line.break ++ more)) (ap pairs_returns (sym split) ∙ pairs)) h.line.as_comment h.line.ends
 
-  pub other_tail : IsTail (h.white ++ (h.comment ++ break)) behind
+  pub other_tail : IsTail (h.white ++ (h.comment ++ break)) after
   other_tail = record { white = h.white; comment = h.comment; line = record { break = break; spelled = refl; blank = h.line.blank; as_comment = as_comment; ends = ends }; apart = h.apart }
 
   -- it has the same comment

@@ -7,8 +7,8 @@ use Rattle.yq_documents.specs.Documents.{Document, parts_from, has_begin, begins
 use Rattle.yq_documents.{specs.PartNumbers.number_from, specs.Reading.{root_of, part_document, is_document, all_documents, read_at}}
 use Rattle.yq_documents.{proofs.DocumentLaws.is_document_of, proofs.ReadLaws.{text_takes, text_again}, specs.TreeEdits.change_nth}
 use Rattle.yq_core.proofs.Bools.{guard_then}
-use Rattle.yq_edit_rules.specs.Changed.{put_part, put_document, KeepsRows, DocumentPut, changed, PartStands, DocumentChanged, first_comment}
-use Rattle.yq_edit_rules.specs.Changed.{LeadIsFirst}
+use Rattle.yq_edit_rules.specs.Changed.{put_part, put_document, KeepsRows, DocumentPut, changed, PartIsThere, DocumentChanged}
+use Rattle.yq_edit_rules.specs.Changed.{first_comment, LeadIsFirst}
 
 -- parts
 from_put : (is : Bool) (k : ℕ) (p q : Part) (c : Cut) → slice_get (parts_from is c) k ≡ Some p → parts_from is (put_part (number_from is k c) q c) ≡ change_nth k (λ x. q) (parts_from is c)
@@ -35,8 +35,8 @@ first_stays c k p q there keeps = search (rules, same_Some, begin_stays)
 pub document_put : DocumentPut
 document_put c k p q there keeps = ap (λ b. parts_from b (put_document k q c)) (first_stays c k p q there keeps) ∙ from_put (begins_bare c || not (has_begin c)) k p q c there
 
-pub part_stands : PartStands
-part_stands q root h = search (rules, rules_from)
+pub part_is_there : PartIsThere
+part_is_there q root h = search (rules, rules_from)
 
 -- members of lists
 all_with : (test : Part → Bool) (k : ℕ) (q : Part) (ps : List Part) → test q ≡ true → list_all test ps ≡ true → list_all test (change_nth k (λ x. q) ps) ≡ true
@@ -55,7 +55,7 @@ unfolding read_at
 document_changed t c k p q f read there keeps utf8 cut root =
     let new : Cut = put_document k q c in
     let old = text_takes t c (guard_then _ read).1 in
-    let doc = is_document_of q (record { lead = lead_of q; root = f (root_of p) }) (part_stands q (f (root_of p)) root) in
+    let doc = is_document_of q (record { lead = lead_of q; root = f (root_of p) }) (part_is_there q (f (root_of p)) root) in
     let parts = document_put c k p q there keeps in
     let all : all_documents new ≡ true = ap (list_all is_document) parts ∙ all_with is_document k q (document_parts c) doc.0 old.1 in
     record {

@@ -7,7 +7,7 @@ use Rattle.yq_outline.{specs.Group.level_or, specs.Laws.with_lines}
 use Rattle.yq_outline.specs.Outline.{Line, level, Outline, end, row, flatten, IsEven, anchored, head_or, label, children, value}
 use Rattle.yq_outline.{specs.Places.{here, plug, FoundLine, next_to, find_row, content_under}, proofs.PlaceLaws.at, proofs.Plug.entry_whole}
 use Rattle.yq_outline.proofs.Values.{If, same_rank, same_entry, anchored-within}
-use Rattle.yq_edit_rules.specs.Siblings.{append_outline, HasEntries, put_lines, StandsSomewhere, CollectionReplaced, Appended, Removed}
+use Rattle.yq_edit_rules.specs.Siblings.{append_outline, HasEntries, put_lines, AreSomewhere, CollectionReplaced, Appended, Removed}
 use Rattle.yq_edit_rules.specs.Siblings.{Relabelled, NodeLines, IsCollectionAt, IsEntryAt}
 use Rattle.yq_edit_rules.proofs.SiblingLaws.{entries, even_append, entry_in, entry_out, flatten-append, children-append, even_right}
 use Rattle.yq_edit_rules.{proofs.SiblingLaws.{even_replaced, block_value}, proofs.NodeLineLaws.{lines_even, lines_replaced}}
@@ -65,7 +65,7 @@ removed n o steps h s f even entry left =
     let lines : flatten (append_outline w.front f.after) ≡ with_lines f [] = flatten-append w.front f.after ∙ sym (w.lines []) in
     let olds : flatten h.lines ≡ with_lines f (f.line ∷ flatten f.under) =
     ap flatten (sym w.whole) ∙ (flatten-append w.front (row f.line f.under f.after) ∙ sym (w.lines (f.line ∷ flatten f.under))) in
-    (law.0 ∙ ap (put_lines h) olds, subst (λ ls. StandsSomewhere (put_lines h ls) (changed_at steps (within (remove_child s)) (value o))) lines law.1)
+    (law.0 ∙ ap (put_lines h) olds, subst (λ ls. AreSomewhere (put_lines h ls) (changed_at steps (within (remove_child s)) (value o))) lines law.1)
 
 pub relabelled : Relabelled
 relabelled n o steps h s f g l even entry new_line =
@@ -85,7 +85,7 @@ relabelled n o steps h s f g l even entry new_line =
     let lines : flatten u ≡ with_lines f (l ∷ flatten f.under) = flatten-append w.front (row l f.under f.after) ∙ sym (w.lines (l ∷ flatten f.under)) in
     let olds : flatten h.lines ≡ with_lines f (f.line ∷ flatten f.under) =
     ap flatten (sym w.whole) ∙ (flatten-append w.front (row f.line f.under f.after) ∙ sym (w.lines (f.line ∷ flatten f.under))) in
-    (law.0 ∙ ap (put_lines h) olds, subst (λ ls. StandsSomewhere (put_lines h ls) (changed_at steps (within (relabel_child s g)) (value o))) lines law.1)
+    (law.0 ∙ ap (put_lines h) olds, subst (λ ls. AreSomewhere (put_lines h ls) (changed_at steps (within (relabel_child s g)) (value o))) lines law.1)
   where
     -- the line entry.place_is an entry's
     mark : (a : Outline) (m : ℕ) → IsEven m (append_outline a (row f.line f.under f.after)) → HasEntries (append_outline a (row f.line f.under f.after)) → allowing.IsEntry l.mark
@@ -117,4 +117,4 @@ appended n m o v l steps h even there fits =
     let new : IsEven k u = even_append k h.lines (row l v end) (entries u block) deep.1 one in
     let law = collection_replaced n o u steps h (append_child (label l) (content_under l v)) even there block new (last_child h.lines v l) in
     let lines : flatten u ≡ flatten h.lines ++ (l ∷ flatten v) = flatten-append h.lines (row l v end) ∙ ap (λ x. flatten h.lines ++ (l ∷ x)) (append-nil (flatten v)) in
-    (law.0, subst (λ ls. StandsSomewhere (put_lines h ls) (changed_at steps (within (append_child (label l) (content_under l v))) (value o))) lines law.1)
+    (law.0, subst (λ ls. AreSomewhere (put_lines h ls) (changed_at steps (within (append_child (label l) (content_under l v))) (value o))) lines law.1)

@@ -7,18 +7,18 @@ use Rattle.yq_core.{specs.Block.{BlockText, RawLines, IsDigit, IsTextIndent}, sp
 use Rattle.yq_core.specs.Piece.{deeper}
 use Rattle.yq_outline.{specs.Comments.head_comment, specs.Lines.{mark_line, lines_from, row_lines, lines_of_rows, head_of}}
 use Rattle.yq_outline.{specs.Outline.{Line, level}, proofs.Values.rank_small}
-use Rattle.yq_row_table.specs.Grammar.{allows, limit_after, limit_behind, AreDashes}
-use Rattle.yq_row_table.specs.Rows.{Content, Row, behind_columns, before_column, mark_column, parent_of, parent_indent}
-use Rattle.yq_row_table.specs.Removal.{block_of, last_block, next_column, StandsLess}
-use Rattle.yq_edit_rules.{specs.Moved.dash_lines, specs.Columns.{NextAllowed, NextStays, BlockIsDeeper, ClosedStandsLess}}
-use Rattle.yq_edit_rules.{specs.LineRows.{Begins, StandApart, AreDeep, AreClosed}, proofs.ApartLaws.{apart_skip, closed_back, first_level}}
-use Rattle.yq_edit_rules.proofs.LineLaws.{above_mark, mark_behind}
+use Rattle.yq_row_table.specs.Grammar.{allows, limit_after, limit_after_content, AreDashes}
+use Rattle.yq_row_table.specs.Rows.{Content, Row, after_columns, before_column, mark_column, parent_of, parent_indent}
+use Rattle.yq_row_table.specs.Removal.{block_of, last_block, next_column, IsLessDeep}
+use Rattle.yq_edit_rules.{specs.Moved.dash_lines, specs.Columns.{NextAllowed, NextStays, BlockIsDeeper, ClosedIsLessDeep}}
+use Rattle.yq_edit_rules.specs.LineRows.{Begins, AreApartLines, AreDeep, AreClosed}
+use Rattle.yq_edit_rules.{proofs.ApartLaws.{apart_skip, closed_back, first_level}, proofs.LineLaws.{above_mark, mark_after}}
 use Rattle.yq_row_table.specs.Rows as rows
 
 -- columns and levels
-pub behind_more : (column : ℕ) (ns : List ℕ) → column ≤ behind_columns column ns
-behind_more column [] = omega arith
-behind_more column (n ∷ ns) = let more = behind_more (suc (column + n)) ns in omega (arith, more)
+pub after_more : (column : ℕ) (ns : List ℕ) → column ≤ after_columns column ns
+after_more column [] = omega arith
+after_more column (n ∷ ns) = let more = after_more (suc (column + n)) ns in omega (arith, more)
 
 pub next_low : (n : ℕ) (back : List Row) (b : Row) (bs : List Row) → back ≡ b ∷ bs → Begins n (lines_of_rows back) → 3 * b.column + 1 ≤ n
 next_low n back b bs e h = first_level (head_comment b.gap) b.column b.dashes b.mark b.content (lines_of_rows bs) n (subst (λ (x : List Row). Begins n (lines_of_rows x)) e h)
@@ -37,7 +37,7 @@ unfolding level
 bare_high n above column c rest h = h.0
 
 -- limits
-pub allowed_content : (n : ℤ) (c : Content) (column : ℕ) → column < deeper n → allows (limit_behind n c) column ≡ true
+pub allowed_content : (n : ℤ) (c : Content) (column : ℕ) → column < deeper n → allows (limit_after_content n c) column ≡ true
 allowed_content n c column h1 = search (rules, lt-ltb)
 
 pub below_node : (column n : ℕ) → column < n → column < deeper (before_column n)
@@ -57,7 +57,7 @@ row_limit n m column r rest d deep less low = allowed_content (parent_indent r) 
     high (l ∷ ls) h e = let own = first_high (head_comment r.gap) r.column r.dashes r.mark r.content rest l ls (sym e) in let least = h.0 in omega (arith, own, least)
 
     entry : column ≤ mark_column r
-    entry = let up = high (row_lines r ++ rest) deep refl in let more = behind_more r.column r.dashes in omega (arith, up, less, low, more)
+    entry = let up = high (row_lines r ++ rest) deep refl in let more = after_more r.column r.dashes in omega (arith, up, less, low, more)
 
     node : (ns : List ℕ) → r.dashes ≡ ns → r.mark ≡ rows.Bare → column < mark_column r
     node [] e b = search (rules, arith, bare_high)
@@ -97,15 +97,15 @@ indent_least least None f (l ∷ raw) small h =
 abbrev last_line : Row → Line
 last_line r = mark_line (above_mark (head_comment r.gap) r.dashes) (mark_column r) r.mark r.content
 
-last_apart : (r : Row) (zs : List Line) → StandApart (row_lines r) zs → Begins (level (last_line r)) zs
-last_apart r zs h = skip (dash_lines (head_comment r.gap) r.column r.dashes) (subst (λ (ls : List Line). StandApart ls zs) (mark_behind (head_comment r.gap) r.column r.dashes r.mark r.content) h)
+last_apart : (r : Row) (zs : List Line) → AreApartLines (row_lines r) zs → Begins (level (last_line r)) zs
+last_apart r zs h = skip (dash_lines (head_comment r.gap) r.column r.dashes) (subst (λ (ls : List Line). AreApartLines ls zs) (mark_after (head_comment r.gap) r.column r.dashes r.mark r.content) h)
   where
-    skip : (a : List Line) → StandApart (a ++ (last_line r ∷ [])) zs → Begins (level (last_line r)) zs
+    skip : (a : List Line) → AreApartLines (a ++ (last_line r ∷ [])) zs → Begins (level (last_line r)) zs
     skip [] h = h
     skip (x ∷ []) h = h
     skip (x ∷ (y ∷ a)) h = skip (y ∷ a) h
 
-pub apart_later : (a b z : List Line) → (b ≡ [] → ⊥) → StandApart (a ++ b) z → StandApart b z
+pub apart_later : (a b z : List Line) → (b ≡ [] → ⊥) → AreApartLines (a ++ b) z → AreApartLines b z
 apart_later [] b z some h = h
 apart_later (x ∷ []) [] z some h = absurd (some refl)
 apart_later (x ∷ []) (k ∷ b) z some h = h
@@ -123,7 +123,7 @@ unfolding level
 block_is_deeper limit [] rows end rest b l h e apart = absurd (cc)
 block_is_deeper limit (r ∷ []) rows end rest b l h e apart =
     let own : level l ≤ level (last_line r) =
-    last_apart r (l ∷ []) (subst (λ (ls : List Line). StandApart ls (l ∷ [])) (Rattle.std.proofs.Common.append-nil (row_lines r)) apart) in
+    last_apart r (l ∷ []) (subst (λ (ls : List Line). AreApartLines ls (l ∷ [])) (Rattle.std.proofs.Common.append-nil (row_lines r)) apart) in
     let low : 3 * l.column + 1 ≤ level l = omega (arith, rank_small l.mark) in
     let high = high_level (last_line r) in
     let deep : mark_column r < b.indent.columns = search (rules, same_Some, indent_least, false≢true, none-some) in
@@ -134,28 +134,28 @@ block_is_deeper limit (r ∷ (q ∷ front)) rows end rest b l h e apart = block_
 block_head : (c : Content) (b : BlockText) → block_of c ≡ Some b → is_some (head_of c) ≡ true
 block_head c b h1 = search rules
 
-pub last_closed : (front : List Row) (b : BlockText) (zs : List Line) → last_block front ≡ Some b → AreClosed (lines_of_rows front ++ zs) → StandApart (lines_of_rows front) zs
+pub last_closed : (front : List Row) (b : BlockText) (zs : List Line) → last_block front ≡ Some b → AreClosed (lines_of_rows front ++ zs) → AreApartLines (lines_of_rows front) zs
 last_closed [] b zs e h = absurd (cc)
-last_closed (r ∷ []) b zs e h = search (rules, mark_behind, append_assoc, apart_skip, closed_back, block_head)
+last_closed (r ∷ []) b zs e h = search (rules, mark_after, append_assoc, apart_skip, closed_back, block_head)
 last_closed (r ∷ (q ∷ front)) b zs e h =
     apart_skip (row_lines r) (lines_of_rows (q ∷ front)) zs (rows_lines q front) (last_closed (q ∷ front) b zs e
     (closed_back (row_lines r) (lines_of_rows (q ∷ front) ++ zs) (subst AreClosed (append_assoc (row_lines r) (lines_of_rows (q ∷ front)) zs) h)))
 
-pub apart_first : (a : List Line) (l : Line) (ls : List Line) → StandApart a (l ∷ ls) → StandApart a (l ∷ [])
+pub apart_first : (a : List Line) (l : Line) (ls : List Line) → AreApartLines a (l ∷ ls) → AreApartLines a (l ∷ [])
 apart_first [] l ls h = tt
 apart_first (x ∷ []) l ls h = h
 apart_first (x ∷ (y ∷ a)) l ls h = apart_first (y ∷ a) l ls h
 
-bare : (l : Line) (column : ℕ) (a : List Line) → StandApart a (l ∷ []) → 3 * column + 1 ≤ level l → StandApart a (record l { column = column; mark = Rattle.yq_outline.specs.Outline.Bare } ∷ [])
+bare : (l : Line) (column : ℕ) (a : List Line) → AreApartLines a (l ∷ []) → 3 * column + 1 ≤ level l → AreApartLines a (record l { column = column; mark = Rattle.yq_outline.specs.Outline.Bare } ∷ [])
 unfolding level
 bare l column [] h low = tt
 bare l column (x ∷ []) h low = omega (arith, h, low)
 bare l column (x ∷ (y ∷ a)) h low = bare l column (y ∷ a) h low
 
-pub closed_stands_less : ClosedStandsLess
-closed_stands_less limit front gone back end rest l ls h closed next = go (last_block front) refl back next
+pub closed_is_there_less : ClosedIsLessDeep
+closed_is_there_less limit front gone back end rest l ls h closed next = go (last_block front) refl back next
   where
-    go : (o : Option BlockText) → last_block front ≡ o → (back : List Row) → Begins (level l) (lines_of_rows back) → StandsLess o (next_column back)
+    go : (o : Option BlockText) → last_block front ≡ o → (back : List Row) → Begins (level l) (lines_of_rows back) → IsLessDeep o (next_column back)
     go None e back n = tt
     go (Some b) e [] n = let deep = block_is_deeper limit front gone end rest b l h e (apart_first (lines_of_rows front) l ls (last_closed front b (l ∷ ls) e closed)) in omega (arith, deep)
     go (Some b) e (r ∷ rs) n =
@@ -165,4 +165,4 @@ closed_stands_less limit front gone back end rest l ls h closed next = go (last_
         deep
 
 -- where rows may be
-pub ruleset columns = (next_allowed, next_stays, block_is_deeper, closed_stands_less)
+pub ruleset columns = (next_allowed, next_stays, block_is_deeper, closed_is_there_less)

@@ -16,8 +16,8 @@ use Rattle.yq_places.{specs.RowPaths.IsReadable, proofs.RemovalLines.front_some,
 use Rattle.yq_edit_rules.{specs.Changed.put_document, specs.Moved.dash_lines, specs.Siblings.{IsEntryAt, NodeLines, put_lines}}
 use Rattle.yq_edit_rules.{proofs.AnchorLaws.{fit_parts, fit_from}, proofs.CollectionLaws.relabelled, proofs.EditedLaws.led_as}
 use Rattle.yq_edit_rules.{proofs.BlockChangeLaws.entry_relabelled, proofs.PlacedLaws.{around, same_parts}}
-use Rattle.yq_edit_rules.{specs.LineRows.lines_before_entry, specs.DocumentRows.{IsDocumentPart, Known, behind_document}}
-use Rattle.yq_edit_rules.{specs.LineComments.{retailed, LineCommented}, proofs.LineLaws.{above_mark, mark_behind, dashes_count}}
+use Rattle.yq_edit_rules.{specs.LineRows.lines_before_entry, specs.DocumentRows.{IsDocumentPart, Known, after_document}}
+use Rattle.yq_edit_rules.{specs.LineComments.{retailed, LineCommented}, proofs.LineLaws.{above_mark, mark_after, dashes_count}}
 use Rattle.yq_edit_rules.proofs.PartLaws.{part_numbered, rows_put, document_known, is_put}
 
 -- The line of an item or entry, and the lines with another in its place.
@@ -54,11 +54,11 @@ lead_retail (x ∷ front) r back tail p q e n = ap (λ (rs : List Row). head_com
 pub last_lines : (front : List Row) (r : Row) (back : List Row) (c : Content) →
     lines_of_rows (front ++ (record r { content = c } ∷ back)) ≡ (lines_of_rows front ++ dash_lines (head_comment r.gap) r.column r.dashes)
     ++ (mark_line (above_mark (head_comment r.gap) r.dashes) (mark_column r) r.mark c ∷ lines_of_rows back)
-last_lines front r back c = simp (above_mark, lines_append, mark_behind, append_assoc)
+last_lines front r back c = simp (above_mark, lines_append, mark_after, append_assoc)
 
 -- the cut
 tail_cut : (t : List ℕ) (c : Cut) (k : ℕ) (p : Part) (front back : List Row) (r : Row) (tail : List ℕ) → IsDocumentPart t c k p → IsCut t c → p.rows ≡ front ++ (r ∷ back) →
-    TailFits (parent_indent r) tail r.content (rows_text back (p.end ++ behind_document k c)) → IsReadable (cut_text (put_document k (retailed front r back tail p) c)) →
+    TailFits (parent_indent r) tail r.content (rows_text back (p.end ++ after_document k c)) → IsReadable (cut_text (put_document k (retailed front r back tail p) c)) →
     IsCut (cut_text (put_document k (retailed front r back tail p) c)) (put_document k (retailed front r back tail p) c)
 tail_cut t c k p front back r tail old cut rows fits new =
     let j = part_number k c in
@@ -69,7 +69,7 @@ tail_cut t c k p front back r tail old cut rows fits new =
     let same : splice j (length front) (Rattle.std.proofs.Common.suc (length front)) (retail tail r ∷ []) (first_gap back (nth_part j c).end) c ≡ put_document k (retailed front r back tail p) c =
     (λ i. splice j (length front) (sym one i) (retail tail r ∷ []) (first_gap back (is i).end) c) ∙ whole_is in
     subst (λ (x : Cut). IsCut (cut_text x) x) same
-    (tail_replaced t c j front r back tail cut (ap (λ (x : Part). x.rows) is ∙ rows) (subst (λ (x : Part). TailFits (parent_indent r) tail r.content (rows_text back (x.end ++ behind_document k c))) (sym is) fits)
+    (tail_replaced t c j front r back tail cut (ap (λ (x : Part). x.rows) is ∙ rows) (subst (λ (x : Part). TailFits (parent_indent r) tail r.content (rows_text back (x.end ++ after_document k c))) (sym is) fits)
     (ap (λ (x : Cut). is_text (cut_text x)) same ∙ new.characters) (subst (λ (x : Cut). length (cut_text x) ≤ text_limit) (sym same) new.size))
 
 pub line_commented : LineCommented

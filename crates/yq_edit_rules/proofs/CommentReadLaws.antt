@@ -21,8 +21,8 @@ no_white_there : (r : List ℕ) → past_white (35 ∷ r) ≡ 35 ∷ r
 unfolding text.upto
 no_white_there r = refl
 
-pub comment_behind : (white rest t : List ℕ) → IsWhite white → comment_text (white ++ (35 ∷ (t ++ rest))) ≡ comment_text (35 ∷ (t ++ rest))
-comment_behind white rest t h = search (rules, ap (λ (x : List ℕ × List ℕ). x.1) (white_again white (35 ∷ (t ++ rest)) h refl), no_white_there)
+pub comment_after : (white rest t : List ℕ) → IsWhite white → comment_text (white ++ (35 ∷ (t ++ rest))) ≡ comment_text (35 ∷ (t ++ rest))
+comment_after white rest t h = search (rules, ap (λ (x : List ℕ × List ℕ). x.1) (white_again white (35 ∷ (t ++ rest)) h refl), no_white_there)
 
 -- the text after a `#`, up to a break
 pub comment_is : (t rest : List ℕ) → NoneIn ends_line t rest → ends_line rest ≡ true → comment_text (35 ∷ (t ++ rest)) ≡ Some (less_space t)
@@ -30,10 +30,10 @@ unfolding text.upto
 comment_is t rest none here = ap (λ (x : List ℕ × List ℕ). Some (less_space x.0)) (cut-append ends_line t rest none here)
 
 -- what comes after the `#` of a line
-abbrev behind_hash : List ℕ → List ℕ
-behind_hash t = cond (is_empty t) [] (32 ∷ t)
+abbrev past_hash : List ℕ → List ℕ
+past_hash t = cond (is_empty t) [] (32 ∷ t)
 
-hash_none : (t rest : List ℕ) → Each no_break t → NoneIn ends_line (behind_hash t) rest
+hash_none : (t rest : List ℕ) → Each no_break t → NoneIn ends_line (past_hash t) rest
 hash_none t rest h1 = search (rules, no_breaks_none)
 
 pub break_is : (br : Break) → (is_break (break_text br) && is_line (break_text br)) ≡ true
@@ -44,16 +44,16 @@ break_is br = search rules
 line_is : (column : ℕ) (br : Break) (t : List ℕ) → Each no_break t → is_line (comment_line column (break_text br) t) ≡ true
 line_is column br t h =
     let white : List ℕ = replicate column 32 in
-    let comment : List ℕ = 35 ∷ behind_hash t in
+    let comment : List ℕ = 35 ∷ past_hash t in
     let none : NoneIn ends_line comment (break_text br) = (refl, hash_none t (break_text br) h) in
     ap is_line (sym (append_assoc white comment (break_text br)))
     ∙ (text_line (white ++ comment) (break_text br) (white_none white comment (break_text br) (white_spaces column) none) ∙ (and_parts (is_break (break_text br)) (is_line (break_text br)) (break_is br)).1)
 
 line_agrees_with : (column : ℕ) (br : Break) (t : List ℕ) → Each no_break t → comment_text (comment_line column (break_text br) t) ≡ Some t
-line_agrees_with column br t h = search (rules, comment_behind, white_spaces, comment_is, hash_none, append-nil)
+line_agrees_with column br t h = search (rules, comment_after, white_spaces, comment_is, hash_none, append-nil)
 
 line_begins : (column : ℕ) (br : Break) (t : List ℕ) → front (λ b. eqb b 35) (past_white (comment_line column (break_text br) t)) ≡ true
-line_begins column br t = ap (λ (x : List ℕ × List ℕ). front (λ b. eqb b 35) x.1) (white_again (replicate column 32) (35 ∷ (behind_hash t ++ break_text br)) (white_spaces column) refl)
+line_begins column br t = ap (λ (x : List ℕ × List ℕ). front (λ b. eqb b 35) x.1) (white_again (replicate column 32) (35 ∷ (past_hash t ++ break_text br)) (white_spaces column) refl)
 
 lines_are : (column : ℕ) (br : Break) (t : List ℕ) (ts : List (List ℕ)) → Each no_break t → text_lines (head_lines column (break_text br) (t ∷ ts)) ≡ comment_line column (break_text br) t ∷ text_lines (head_lines column (break_text br) ts)
 lines_are column br t ts h = lines_again (comment_line column (break_text br) t) (head_lines column (break_text br) ts) (line_is column br t h)
@@ -82,7 +82,7 @@ lines_joined column br (t ∷ ts) = ap (λ l. comment_line column br t ++ l) (li
 gap_line : (column : ℕ) (br : Break) (t rest : List ℕ) → Each no_break t → IsGapLine (comment_line column (break_text br) t) rest
 gap_line column br t rest h = record {
   white = replicate column 32;
-  comment = 35 ∷ behind_hash t;
+  comment = 35 ∷ past_hash t;
   line = record { break = break_text br; spelled = refl; blank = white_spaces column; as_comment = (refl, hash_none t (break_text br) h); ends = inl (break_is br) };
   some = search rules;
 }
@@ -94,6 +94,6 @@ gap_lines column br (t ∷ ts) rest h = (gap_line column br t _ h.0, gap_lines c
 pub lines_gap : (column : ℕ) (br : Break) (ts : List (List ℕ)) (rest : List ℕ) → AreParts ts → IsGap (head_lines column (break_text br) ts) rest
 lines_gap column br ts rest h = record { lines = all_lines column (break_text br) ts; spelled = lines_joined column (break_text br) ts; each = gap_lines column br ts rest h }
 
-pub lines_stand : (column : ℕ) (br : List ℕ) (ts : List (List ℕ)) → (head_lines column br ts ≡ []) ⊎ ((v : List ℕ) × (head_lines column br ts ≡ replicate column 32 ++ (35 ∷ v)))
-lines_stand column br [] = inl refl
-lines_stand column br (t ∷ ts) = inr ((behind_hash t ++ br) ++ head_lines column br ts, append_assoc (replicate column 32) (35 ∷ (behind_hash t ++ br)) (head_lines column br ts))
+pub lines_are_in : (column : ℕ) (br : List ℕ) (ts : List (List ℕ)) → (head_lines column br ts ≡ []) ⊎ ((v : List ℕ) × (head_lines column br ts ≡ replicate column 32 ++ (35 ∷ v)))
+lines_are_in column br [] = inl refl
+lines_are_in column br (t ∷ ts) = inr ((past_hash t ++ br) ++ head_lines column br ts, append_assoc (replicate column 32) (35 ∷ (past_hash t ++ br)) (head_lines column br ts))

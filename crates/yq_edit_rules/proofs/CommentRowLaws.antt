@@ -8,16 +8,16 @@ use Rattle.yq_core.{specs.Text.{is_empty, ends_line, no_white, past_white}, proo
 use Rattle.yq_outline.{specs.Ends.{found_line, line_at_steps}, specs.Places.{FoundLine, bare_or}, specs.Outline.{LineMark, Bare, Line}}
 use Rattle.yq_outline.specs.Lines.{lines_from, lines_of_rows}
 use Rattle.yq_row_table.{specs.Exchange.row_front, specs.Grammar.{IsTail, IsRow, Limit}}
-use Rattle.yq_row_table.specs.Rows.{Row, behind_indent, dashes_text, mark_text, print_row, rows_text, Cut, Part, cut_text}
-use Rattle.yq_row_table.{specs.View.slices, proofs.Fronts.Starts, proofs.LineEnds.line_end_behind, proofs.PlaceLaws.row_then}
+use Rattle.yq_row_table.specs.Rows.{Row, after_indent, dashes_text, mark_text, print_row, rows_text, Cut, Part, cut_text}
+use Rattle.yq_row_table.{specs.View.slices, proofs.Fronts.Starts, proofs.LineEnds.following_line_end, proofs.PlaceLaws.row_then}
 use Rattle.yq_row_table.{proofs.RowAgain.row_starts, proofs.seams.SeamLaws.rows_text-append, proofs.splices.ContentPlaces.count_front}
 use Rattle.yq_places.specs.CommentPlaces.{end_in_line, text_to_line_end}
 use Rattle.yq_places.specs.PlacedRows.{PlacedPart, PlacedRow, placed_document, placed_row, row_of_path}
-use Rattle.yq_places.specs.Standings.{RowsOfEntry, before_entry, behind_entry, entry_rows_at, rows_of_entry, under_count}
+use Rattle.yq_places.specs.Placements.{RowsOfEntry, before_entry, after_entry, entry_rows_at, rows_of_entry, under_count}
 use Rattle.yq_places.{proofs.CommentEndLaws.row_text_parts, proofs.CommentPieceLaws.row_place, proofs.PlacedRowLaws.{IsAt, part_at}}
 use Rattle.yq_places.{proofs.PrintedTexts.map_some, proofs.RowLineSpans.steps_row}
 use Rattle.yq_documents.{specs.Documents.document_parts, specs.Ready.begins_no_node, specs.LinesInRows.{RowLine, row_line_of, document_row}}
-use Rattle.yq_edit_rules.{proofs.RemovalPieceLaws.front_none, proofs.PlacedPartLaws.document_stands_at}
+use Rattle.yq_edit_rules.{proofs.RemovalPieceLaws.front_none, proofs.PlacedPartLaws.document_is_there_at}
 use Rattle.yq_core.specs.Text as text
 use Rattle.yq_row_table.specs.Rows as rows
 
@@ -26,14 +26,14 @@ rows_front [] rs rest = refl
 rows_front (r ∷ front) rs rest = ap (print_row r) (rows_front front rs rest) ∙ row_then r (rows_text front []) (rows_text rs rest)
 
 -- the rows after a row are those under it, and the further ones
-behind_rows : (d : PlacedPart) (k : ℕ) (rs : List Row) → rows_text rs (d.part.end ++ d.behind) ≡ rows_text (take k rs) (rows_text (drop k rs) (d.part.end ++ d.behind))
-behind_rows d k rs = ap (λ (xs : List Row). rows_text xs (d.part.end ++ d.behind)) (sym (take-append-drop k rs)) ∙ rows_text-append (take k rs) (drop k rs) (d.part.end ++ d.behind)
+after_rows : (d : PlacedPart) (k : ℕ) (rs : List Row) → rows_text rs (d.part.end ++ d.after) ≡ rows_text (take k rs) (rows_text (drop k rs) (d.part.end ++ d.after))
+after_rows d k rs = ap (λ (xs : List Row). rows_text xs (d.part.end ++ d.after)) (sym (take-append-drop k rs)) ∙ rows_text-append (take k rs) (drop k rs) (d.part.end ++ d.after)
 
 -- What is known of the rows of an item or entry to which steps lead: their first row is that of the line, in its document and in the text.
 pub record IsEntryRow (n : ℕ) (steps : List Step) (c : Cut) (e : RowsOfEntry) : Type 0 where
   pub line_is : (p : Part) → slice_get (document_parts c) n ≡ Some p → row_line_of steps p.rows ≡ Some (record { before = length e.front; row = e.row; line = e.line })
   pub index : ℕ
-  pub at : IsAt c index (before_entry e) e.row (rows_text e.under (behind_entry e))
+  pub at : IsAt c index (before_entry e) e.row (rows_text e.under (after_entry e))
 
 pub entry_found : (n : ℕ) (steps : List Step) (c : Cut) (e : RowsOfEntry) → rows_of_entry n steps c ≡ Some e → IsEntryRow n steps c e
 entry_found n steps c e is =
@@ -47,23 +47,23 @@ entry_found n steps c e is =
         let own = part_at n c d at x.before x.row row in
         let rs : List Row = drop (suc x.before) d.part.rows in
         let k : ℕ = under_count x rs in
-        let same = (document_stands_at c n d at).there in
+        let same = (document_is_there_at c n d at).there in
         record {
           line_is = λ p is. ap (λ (q : Part). row_line_of steps q.rows) (same_Some _ _ (sym is ∙ same)) ∙ (line ∙ ap (λ m. Some (record { before = m; row = x.row; line = x.line })) (sym (count_front d.part.rows x.before x.row row)));
           index = document_row n c + x.before;
-          at = record { there = own.there; before_is = own.before_is; behind_is = own.behind_is ∙ behind_rows d k rs };
+          at = record { there = own.there; before_is = own.before_is; following_is = own.following_is ∙ after_rows d k rs };
         }
 
 -- the row of an item or entry
 abbrev pub entry_row : RowsOfEntry → PlacedRow
-entry_row e = record { before = before_entry e; row = e.row; line = e.line; behind = rows_text e.under (behind_entry e) }
+entry_row e = record { before = before_entry e; row = e.row; line = e.line; after = rows_text e.under (after_entry e) }
 
 -- a row of a path is that of its item or entry
 pub rows_same : (n : ℕ) (steps : List Step) (c : Cut) → row_of_path n steps c ≡ option_map entry_row (rows_of_entry n steps c)
 rows_same n steps c = go (placed_document n c)
   where
     printed_line : (d : PlacedPart) (o : Option RowLine) → option_map (placed_row d) o ≡ option_map entry_row (option_map (entry_rows_at d) o)
-    printed_line d o = search (rules, behind_rows)
+    printed_line d o = search (rules, after_rows)
 
     go : (o : Option PlacedPart) → (o >>= λ d. option_map (placed_row d) (row_line_of steps d.part.rows)) ≡ option_map entry_row (o >>= λ d. option_map (entry_rows_at d) (row_line_of steps d.part.rows))
     go o = search (rules, printed_line)
@@ -72,15 +72,15 @@ pub entry_is_row : (n : ℕ) (steps : List Step) (c : Cut) (e : RowsOfEntry) →
 entry_is_row n steps c e is = rows_same n steps c ∙ ap (option_map entry_row) is
 
 -- the text of the cut, by that row
-pub cut_spelled : (n : ℕ) (steps : List Step) (c : Cut) (e : RowsOfEntry) → rows_of_entry n steps c ≡ Some e → cut_text c ≡ before_entry e ++ print_row e.row (rows_text e.under (behind_entry e))
-cut_spelled n steps c e is = let f = entry_found n steps c e is in row_place c f.index e.row f.at.there ∙ (λ j. f.at.before_is j ++ print_row e.row (f.at.behind_is j))
+pub cut_spelled : (n : ℕ) (steps : List Step) (c : Cut) (e : RowsOfEntry) → rows_of_entry n steps c ≡ Some e → cut_text c ≡ before_entry e ++ print_row e.row (rows_text e.under (after_entry e))
+cut_spelled n steps c e is = let f = entry_found n steps c e is in row_place c f.index e.row f.at.there ∙ (λ j. f.at.before_is j ++ print_row e.row (f.at.following_is j))
 
 -- the text up to the end of the line, and after
-pub line_whole : (w : PlacedRow) → w.before ++ print_row w.row w.behind ≡ (w.before ++ text_to_line_end w.row) ++ ((slices w.row).tail ++ ((slices w.row).raw ++ w.behind))
-line_whole w = ap (λ l. w.before ++ l) (row_text_parts w.row w.behind) ∙ sym (append_assoc w.before (text_to_line_end w.row) ((slices w.row).tail ++ ((slices w.row).raw ++ w.behind)))
+pub line_whole : (w : PlacedRow) → w.before ++ print_row w.row w.after ≡ (w.before ++ text_to_line_end w.row) ++ ((slices w.row).tail ++ ((slices w.row).raw ++ w.after))
+line_whole w = ap (λ l. w.before ++ l) (row_text_parts w.row w.after) ∙ sym (append_assoc w.before (text_to_line_end w.row) ((slices w.row).tail ++ ((slices w.row).raw ++ w.after)))
 
 -- a rest is the end of its line and what is after
-pub end_parts : (before rest : List ℕ) → rest ≡ (end_in_line before rest).white ++ ((end_in_line before rest).comment ++ (end_in_line before rest).behind)
+pub end_parts : (before rest : List ℕ) → rest ≡ (end_in_line before rest).white ++ ((end_in_line before rest).comment ++ (end_in_line before rest).after)
 end_parts before rest = cut_takes no_white rest ∙ ap (λ x. (text.cut no_white rest).0 ++ x) (cut_takes ends_line (past_white rest))
 
 -- ---- something is written on the line of a row
@@ -94,12 +94,12 @@ line_some limit r rest h tail = go (cases_Bool (is_empty (text_to_line_end r)))
         let gap : r.gap ≡ [] = front_none r.gap (replicate r.column 32 ++ dashes_text r.dashes (mark_text r.mark [])) first in
         let rest_none : replicate r.column 32 ++ dashes_text r.dashes (mark_text r.mark []) ≡ [] = sym (ap (λ g. g ++ (replicate r.column 32 ++ dashes_text r.dashes (mark_text r.mark []))) gap) ∙ first in
         let spaces : replicate r.column 32 ≡ [] = front_none (replicate r.column 32) (dashes_text r.dashes (mark_text r.mark [])) rest_none in
-        let whole : behind_indent r rest ≡ (slices r).tail ++ ((slices r).raw ++ rest) =
-        sym (λ i. gap i ++ (spaces i ++ behind_indent r rest)) ∙ (row_text_parts r rest ∙ ap (λ l. l ++ ((slices r).tail ++ ((slices r).raw ++ rest))) e) in
+        let whole : after_indent r rest ≡ (slices r).tail ++ ((slices r).raw ++ rest) =
+        sym (λ i. gap i ++ (spaces i ++ after_indent r rest)) ∙ (row_text_parts r rest ∙ ap (λ l. l ++ ((slices r).tail ++ ((slices r).raw ++ rest))) e) in
         subst Starts whole (row_starts limit r rest h)
 
     go : (is_empty (text_to_line_end r) ≡ true) ⊎ (is_empty (text_to_line_end r) ≡ false) → is_empty (text_to_line_end r) ≡ false
-    go h1 = search (rules, line_end_behind, false≢true, ⊎_elim, or_cases, is_empty_is, starts)
+    go h1 = search (rules, following_line_end, false≢true, ⊎_elim, or_cases, is_empty_is, starts)
 
 -- ---- a path to a line
 

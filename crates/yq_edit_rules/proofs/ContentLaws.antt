@@ -10,22 +10,22 @@ use Rattle.yq_outline.specs.Outline.{Line, level, Outline, end, row, flatten, Is
 use Rattle.yq_outline.specs.Places.{lines_before, lines_after, FoundLine, find, content_under}
 use Rattle.yq_outline.{specs.Lines.{content_anchor, head_of, line_mark, mark_line, lines_of_rows}, proofs.Decides.flatten-group}
 use Rattle.yq_outline.{proofs.NodeLaws.anchored_twice, proofs.NameLaws.each_back}
-use Rattle.yq_row_table.{specs.Exchange.{asked_behind, with_content}, specs.Grammar.{unlimited, IsContent, IsCut, no_rows}}
-use Rattle.yq_row_table.{specs.Rows.{Content, Row, mark_column, parent_indent, rows_text, Part, Cut, cut_text}, specs.SpliceFits.StandsFor}
-use Rattle.yq_row_table.{specs.Splices.{first_gap, nth_part, splice}, proofs.splices.RowReplaced.row_exchanged}
-use Rattle.yq_row_table.proofs.splices.SpliceTexts.{own_gap}
+use Rattle.yq_row_table.{specs.Exchange.{asked_after, with_content}, specs.Grammar.{unlimited, IsContent, IsCut, no_rows}}
+use Rattle.yq_row_table.specs.Rows.{Content, Row, mark_column, parent_indent, rows_text, Part, Cut, cut_text}
+use Rattle.yq_row_table.{specs.SpliceFits.RemovalMeans, specs.Splices.{first_gap, nth_part, splice}}
+use Rattle.yq_row_table.{proofs.splices.RowReplaced.row_exchanged, proofs.splices.SpliceTexts.own_gap}
 use Rattle.yq_documents.{specs.Documents.{HaveFitKeys, HasShortRoot, lead_of}, specs.TreeEdits.replaced_node}
 use Rattle.yq_documents.{specs.Reading.{part_outline, root_of}, specs.PartNumbers.part_number}
 use Rattle.yq_places.specs.RowPaths.{spelled_node, IsReadable}
 use Rattle.yq_edit_rules.specs.Changed.{IsChanged, put_document}
 use Rattle.yq_edit_rules.{specs.Contents.{recontent, TakesContent, LowerContentReplaced, RootContentReplaced}, specs.Appends.inserted}
-use Rattle.yq_edit_rules.{specs.DocumentRows.{IsDocumentPart, behind_document}, specs.Edited.IsPut, specs.Moved.dash_lines}
+use Rattle.yq_edit_rules.{specs.DocumentRows.{IsDocumentPart, after_document}, specs.Edited.IsPut, specs.Moved.dash_lines}
 use Rattle.yq_edit_rules.{specs.SoundRoots.MayReplace, proofs.AnchorLaws.{fit_parts, fit_from}}
 use Rattle.yq_edit_rules.{proofs.BlockChangeLaws.{node_replaced, root_replaced}, proofs.EditedLaws.led_as, proofs.FirstRowLaws.short_first}
 use Rattle.yq_edit_rules.{proofs.LineLaws.{above_mark, dashes_count}, proofs.NodeLineLaws.{low_level, under_even}}
 use Rattle.yq_edit_rules.proofs.PartLaws.{document_known, is_put, part_numbered, part_rows, rows_put, take_front}
 use Rattle.yq_edit_rules.{proofs.PlacedLaws.{same_parts, whole_line}, proofs.CommentPutLaws.last_lines, proofs.ReplaceLaws.rows_before_some}
-use Rattle.yq_edit_rules.proofs.RowCommentLaws.{rows_behind, lead_content}
+use Rattle.yq_edit_rules.proofs.RowCommentLaws.{following_rows, lead_content}
 use Rattle.yq_core.specs.Trees as trees
 use Rattle.yq_outline.specs.Outline as outline
 use Rattle.yq_row_table.specs.Rows as rows
@@ -89,9 +89,9 @@ bare_line m e = ap line_mark e
 
 -- the cut in which one row means another
 row_cut : (t : List ℕ) (c : Cut) (k : ℕ) (p : Part) (front back : List Row) (r s : Row) → IsDocumentPart t c k p → IsCut t c → p.rows ≡ front ++ (r ∷ back) →
-    StandsFor (asked_behind unlimited front) r s back (rows_text back (p.end ++ behind_document k c)) → IsReadable (cut_text (put_document k (inserted front (s ∷ []) back p) c)) →
+    RemovalMeans (asked_after unlimited front) r s back (rows_text back (p.end ++ after_document k c)) → IsReadable (cut_text (put_document k (inserted front (s ∷ []) back p) c)) →
     IsCut (cut_text (put_document k (inserted front (s ∷ []) back p) c)) (put_document k (inserted front (s ∷ []) back p) c)
-row_cut t c k p front back r s old cut rows stands new =
+row_cut t c k p front back r s old cut rows is_located new =
     let j = part_number k c in
     let is : nth_part j c ≡ p = (part_numbered c k p old.there).0 in
     let whole_is : splice j (length front) (length front + 1) (s ∷ []) (first_gap back p.end) c ≡ put_document k (inserted front (s ∷ []) back p) c =
@@ -141,8 +141,8 @@ module _ (t : List ℕ) (c : Cut) (k : ℕ) (p : Part) (front : List Row) (r : R
 
   named : anchor_of (spelled_node r.content) ≡ content_anchor r.content
   named =
-      rows_behind front (r ∷ back) p.end (behind_document k c) p h.rows_are (part_rows t c k p h.old (document_known t c k p h.old).cut) (λ rs. anchor_of (spelled_node r.content) ≡ content_anchor r.content)
-      (λ limit rs. content_named (parent_indent r) r.content (rows_text back (p.end ++ behind_document k c)) rs.0.content)
+      following_rows front (r ∷ back) p.end (after_document k c) p h.rows_are (part_rows t c k p h.old (document_known t c k p h.old).cut) (λ rs. anchor_of (spelled_node r.content) ≡ content_anchor r.content)
+      (λ limit rs. content_named (parent_indent r) r.content (rows_text back (p.end ++ after_document k c)) rs.0.content)
 
   spelled_new : spelled_node new ≡ anchored (content_anchor r.content) v
   spelled_new = (λ i. anchored (h.anchor_is i) (head_or (h.head_is i) null_node))

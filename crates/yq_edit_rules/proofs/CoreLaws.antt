@@ -60,12 +60,12 @@ front_again q g t u some h = search rules
 name_again : (n g t u : List ℕ) → is_empty g ≡ false → IsName n (g ++ t) → IsName n (g ++ u)
 name_again n g t u some h = record { some = h.some; inside = none_unless in_name n (g ++ t) (g ++ u) h.inside; ends = front_again in_name g t u some h.ends }
 
-module _ (spaces : Option ℕ) (d : ℕ) (core : FlowNode) (rest : List ℕ) (unnamed : node_anchor core ≡ None) (some : is_empty_node core ≡ false) (takes : takes_anchor core ≡ true) (stands : IsFlowNode false spaces d core rest) where
+module _ (spaces : Option ℕ) (d : ℕ) (core : FlowNode) (rest : List ℕ) (unnamed : node_anchor core ≡ None) (some : is_empty_node core ≡ false) (takes : takes_anchor core ≡ true) (is_located : IsFlowNode false spaces d core rest) where
   starts : no_white (node_text core rest) ≡ true
-  starts = (node_starts (node_text core rest) (or_right (begins_with 38 (node_text core rest)) (begins_content false (node_text core rest)) (begins spaces d core rest unnamed some stands))).no_white
+  starts = (node_starts (node_text core rest) (or_right (begins_with 38 (node_text core rest)) (begins_content false (node_text core rest)) (begins spaces d core rest unnamed some is_located))).no_white
 
   lead_again : (g t : List ℕ) → is_empty g ≡ false → IsLead false (begins_content false) g t → IsLead false (begins_content false) g (node_text core rest)
-  lead_again g t gap (inl h) = inl ((none_unless _ g t (node_text core rest) h.0.0, starts), begins spaces d core rest unnamed some stands)
+  lead_again g t gap (inl h) = inl ((none_unless _ g t (node_text core rest) h.0.0, starts), begins spaces d core rest unnamed some is_located)
   lead_again g t gap (inr h) = absurd (none_is g gap h.0)
 
   -- after an anchor

@@ -16,7 +16,7 @@ use Rattle.yq_places.proofs.RowPathLaws.{document_fine}
 use Rattle.yq_edit_rules.{specs.Changed.{IsChanged, put_document, first_comment}, specs.Conditions.{last_anchor, BeginsEntry}}
 use Rattle.yq_edit_rules.specs.Edited.{IsPut, OldIsEven, OldIsSound, LinesAreThere, LineExchanged, LinesExchanged, LinesAppended}
 use Rattle.yq_edit_rules.{specs.Edited.{LinesRemoved, LineRelabelled, LeadIsAbove, RootHasLead}, specs.SoundRoots.IsSoundRoot}
-use Rattle.yq_edit_rules.specs.Siblings.{HasEntries, NodeLines, put_lines, StandsSomewhere}
+use Rattle.yq_edit_rules.specs.Siblings.{HasEntries, NodeLines, put_lines, AreSomewhere}
 use Rattle.yq_edit_rules.proofs.AnchorLaws.{any_free, anchors_stay, after_anew, both_anew, collection_anew, lines_among}
 use Rattle.yq_edit_rules.proofs.ChangedLaws.{document_changed, lead_is_first}
 use Rattle.yq_edit_rules.proofs.CollectionLaws.{Splits, some_at, level_mark, appended, removed, relabelled}
@@ -52,12 +52,12 @@ pub old_is_even : OldIsEven
 old_is_even t c k p q h = (known t c k p q h).even
 
 -- the new text reads as the document changed
-finish : (t : List ℕ) (c : Cut) (k : ℕ) (p q : Part) (f : Node → Node) → IsPut t c k p q → StandsSomewhere (lines_of_rows q.rows) (f (root_of p)) → HaveOneAnchorEach (lines_of_rows q.rows) →
+finish : (t : List ℕ) (c : Cut) (k : ℕ) (p q : Part) (f : Node → Node) → IsPut t c k p q → AreSomewhere (lines_of_rows q.rows) (f (root_of p)) → HaveOneAnchorEach (lines_of_rows q.rows) →
     IsSoundRoot (f (root_of p)) →
     IsChanged c (put_document k q c) k (lead_of q) f
-finish t c k p q f h stands each sound =
+finish t c k p q f h is_located each sound =
     document_changed t c k p q f h.read h.there h.rows h.utf8 h.cut
-    (record { stands = stands; keys = h.keys; unique = sound.unique; nested = sound.nested; anchors = each; bound = sound.bound; short = h.short })
+    (record { is_located = is_located; keys = h.keys; unique = sound.unique; nested = sound.nested; anchors = each; bound = sound.bound; short = h.short })
 
 pub lines_are_there : LinesAreThere
 lines_are_there [] o h e = subst (λ (x : NodeLines). Some (value o) ≡ Some (anchored x.anchor (value x.lines))) (same_Some _ _ e) (ap Some (sym (anchored_none (value o))))
@@ -93,7 +93,7 @@ line_exchanged t c k p q s ss rest f g m l u put found fits whole anchors lines 
     let head : l.head_comment ≡ f.line.head_comment = ap (λ (x : Label). x.head_comment) fits.label_is in
     led_as c (put_document k q c) k (lead_of q) (lead_of p) (changed_at (s ∷ ss) g)
     (lead_from p q (lines_before f.place) f.line l (flatten f.under ++ (flatten f.after ++ lines_after f.place)) (flatten u ++ (flatten f.after ++ lines_after f.place)) was lines head)
-    (finish t c k p q (changed_at (s ∷ ss) g) put (subst (λ ls. StandsSomewhere ls (changed_at (s ∷ ss) g (root_of p))) (sym lines) (n, law.1)) (subst HaveOneAnchorEach (sym lines) one) sound)
+    (finish t c k p q (changed_at (s ∷ ss) g) put (subst (λ ls. AreSomewhere ls (changed_at (s ∷ ss) g (root_of p))) (sym lines) (n, law.1)) (subst HaveOneAnchorEach (sym lines) one) sound)
 
 pub lines_exchanged : LinesExchanged
 lines_exchanged t c k p q steps h g m u put is fits anchors lines sound =
@@ -104,7 +104,7 @@ lines_exchanged t c k p q steps h g m u put is fits anchors lines sound =
     let among = lines_among n o steps h w.even is in
     let was : lines_of_rows p.rows ≡ put_lines h (flatten h.lines) = sym w.lines ∙ law.0 in
     let one : HaveOneAnchorEach (put_lines h (flatten u)) = search (rules, anchors_stay) in
-    finish t c k p q (changed_at steps g) put (subst (λ ls. StandsSomewhere ls (changed_at steps g (root_of p))) (sym lines) law.1) (subst HaveOneAnchorEach (sym lines) one) sound
+    finish t c k p q (changed_at steps g) put (subst (λ ls. AreSomewhere ls (changed_at steps g (root_of p))) (sym lines) law.1) (subst HaveOneAnchorEach (sym lines) one) sound
 
 pub lines_appended : LinesAppended
 lines_appended t c k p q steps h m l v put there fits each lines sound =
@@ -123,7 +123,7 @@ lines_appended t c k p q steps h m l v put there fits each lines sound =
     subst HaveOneAnchorEach (sym split) (anchors_stay (lines_before h.place ++ old) [] d (lines_after h.place)
     (subst HaveOneAnchorEach (was ∙ sym (append_assoc (lines_before h.place) old (lines_after h.place))) w.each) each (any_free (last_anchor (lines_before h.place ++ old)) d mark) among.0) in
     led_as c (put_document k q c) k (lead_of q) (lead_of p) f (lead h.lines there.block was lines)
-    (finish t c k p q f put (subst (λ ls. StandsSomewhere ls (f (root_of p))) (sym lines) law.1) (subst HaveOneAnchorEach (sym lines) one) sound)
+    (finish t c k p q f put (subst (λ ls. AreSomewhere ls (f (root_of p))) (sym lines) law.1) (subst HaveOneAnchorEach (sym lines) one) sound)
   where
     lead : (x : Outline) → HasEntries x → lines_of_rows p.rows ≡ lines_before h.place ++ (flatten x ++ lines_after h.place) →
         lines_of_rows q.rows ≡ lines_before h.place ++ ((flatten x ++ (l ∷ flatten v)) ++ lines_after h.place) → lead_of q ≡ lead_of p
@@ -132,8 +132,8 @@ lines_appended t c k p q steps h m l v put there fits each lines sound =
         lead_from p q (lines_before h.place) i i ((flatten u ++ flatten a) ++ lines_after h.place) (((flatten u ++ flatten a) ++ (l ∷ flatten v)) ++ lines_after h.place) was new refl
 
 -- the items or entries after one begin anew
-behind_split : (s : Step) (o : Outline) (f : FoundLine) → Splits s o f → HasEntries o → IsEven (level_or 0 o) o → BeginsEntry (flatten f.after) × allowing.IsEntry f.line.mark
-behind_split s o f w block even = search (rules, rest_entries, entries, even_right, collection_anew, next)
+after_split : (s : Step) (o : Outline) (f : FoundLine) → Splits s o f → HasEntries o → IsEven (level_or 0 o) o → BeginsEntry (flatten f.after) × allowing.IsEntry f.line.mark
+after_split s o f w block even = search (rules, rest_entries, entries, even_right, collection_anew, next)
 
 pub lines_removed : LinesRemoved
 lines_removed t c k p q steps h s f put entry left lines sound =
@@ -154,8 +154,8 @@ lines_removed t c k p q steps h s f put entry left lines sound =
     let was : lines_of_rows p.rows ≡ (a ++ x) ++ (e ++ (y ++ z)) = sym w.lines ∙ (law.0 ∙ place e) in
     let one : HaveOneAnchorEach (put_lines h (with_lines f [])) =
     subst HaveOneAnchorEach (sym (place [])) (anchors_stay (a ++ x) e [] (y ++ z) (subst HaveOneAnchorEach was w.each) tt (any_free (last_anchor (a ++ x)) [] tt)
-    (both_anew y z (behind_split s h.lines f r entry.block deep.1).0 among.0)) in
-    finish t c k p q g put (subst (λ ls. StandsSomewhere ls (g (root_of p))) (sym lines) law.1) (subst HaveOneAnchorEach (sym lines) one) sound
+    (both_anew y z (after_split s h.lines f r entry.block deep.1).0 among.0)) in
+    finish t c k p q g put (subst (λ ls. AreSomewhere ls (g (root_of p))) (sym lines) law.1) (subst HaveOneAnchorEach (sym lines) one) sound
 
 pub line_relabelled : LineRelabelled
 line_relabelled t c k p q steps h s f g l put entry new_line lines sound =
@@ -177,11 +177,11 @@ line_relabelled t c k p q steps h s f g l put entry new_line lines sound =
     let was : HaveOneAnchorEach ((a ++ x) ++ (e ++ (y ++ z))) = subst HaveOneAnchorEach (sym w.lines ∙ (law.0 ∙ place e)) w.each in
     let olds : HaveOneAnchorEach e = each_front e (y ++ z) (each_back (a ++ x) (e ++ (y ++ z)) was) in
     let news : HaveOneAnchorEach d = (subst (λ b. IsFree b (flatten f.under)) (sym new_line.anchor_is) olds.0, olds.1) in
-    let around_it = behind_split s h.lines f r entry.block deep.1 in
+    let around_it = after_split s h.lines f r entry.block deep.1 in
     let mark = entry_out l.mark (same_entry f.line.mark l.mark around_it.1 (same_rank f.line l (sym new_line.level_is))) in
     let one : HaveOneAnchorEach (put_lines h (with_lines f d)) =
     subst HaveOneAnchorEach (sym (place d)) (anchors_stay (a ++ x) e d (y ++ z) was news (any_free (last_anchor (a ++ x)) d mark) (both_anew y z around_it.0 among.0)) in
-    finish t c k p q i put (subst (λ ls. StandsSomewhere ls (i (root_of p))) (sym lines) law.1) (subst HaveOneAnchorEach (sym lines) one) sound
+    finish t c k p q i put (subst (λ ls. AreSomewhere ls (i (root_of p))) (sym lines) law.1) (subst HaveOneAnchorEach (sym lines) one) sound
 
 -- a block collection under a lead
 pub lead_is_above : LeadIsAbove

@@ -11,16 +11,16 @@ use Rattle.yq_outline.proofs.HeadLaws.{end_no_hash}
 use Rattle.yq_row_table.{specs.Exchange.row_front, specs.Gap.{IsBreak, IsComment, IsWhite}}
 use Rattle.yq_row_table.specs.Grammar.{Limit, IsTail, unlimited, AreRows, IsCut, no_rows}
 use Rattle.yq_row_table.specs.Rows.{Row, content_text, parent_indent, print_row, rows_text, Part, Cut, cut_text}
-use Rattle.yq_row_table.{specs.Splices.{before_rows, behind_part, nth_part, splice}, specs.Appending.closed_by, specs.Seams.tail_behind}
+use Rattle.yq_row_table.{specs.Splices.{before_rows, after_part, nth_part, splice}, specs.Appending.closed_by, specs.Seams.tail_after}
 use Rattle.yq_row_table.{proofs.splices.AppendLaws.end_appended, proofs.splices.SpliceTexts.front_text, proofs.CharacterLaws.pairs_back}
-use Rattle.yq_row_table.{proofs.LineEnds.{behind_comment, white_again}, proofs.PlaceLaws.row_front-append}
+use Rattle.yq_row_table.{proofs.LineEnds.{after_comment, white_again}, proofs.PlaceLaws.row_front-append}
 use Rattle.yq_row_table.{proofs.seams.ScalarSeams.ends_return, proofs.seams.SeamLaws.{line_by_break, rows_drop}}
 use Rattle.yq_row_table.{proofs.splices.PartPlaces.part_in, proofs.seams.TailLaws.{comment_closed, no_end_return, content_tail, tail_pairs}}
 use Rattle.yq_documents.{specs.Documents.{HaveFitKeys, HasShortRoot}, specs.Reading.part_outline, specs.PartNumbers.part_number}
 use Rattle.yq_places.{specs.RowPaths.IsReadable, proofs.RemovalLines.front_some, proofs.UnderExchange.lines_append}
 use Rattle.yq_edit_rules.{specs.Changed.put_document, specs.Siblings.put_lines, proofs.AnchorLaws.{fit_parts, fit_from}}
 use Rattle.yq_edit_rules.{proofs.CollectionLaws.appended, proofs.BlockChangeLaws.entry_appended, proofs.PlacedLaws.same_parts}
-use Rattle.yq_edit_rules.{specs.Ends.{TakesRowsLast, closed_with, EndAppended}, specs.DocumentRows.{IsDocumentPart, behind_document}}
+use Rattle.yq_edit_rules.{specs.Ends.{TakesRowsLast, closed_with, EndAppended}, specs.DocumentRows.{IsDocumentPart, after_document}}
 use Rattle.yq_edit_rules.{proofs.AppendLaws.around, proofs.PartLaws.{part_numbered, rows_put, document_known, is_put, drop_front}}
 use Rattle.yq_edit_rules.proofs.CommentPutLaws.{fit_retail, short_retail, last_lines}
 
@@ -30,11 +30,11 @@ after_hash [] = None
 after_hash (b ∷ cs) = Some (less_space cs)
 
 break_ends : (break : List ℕ) → IsBreak break [] → ends_line break ≡ true
-break_ends break e = ap ends_line (sym (append-nil break)) ∙ (behind_comment [] break [] tt e).2
+break_ends break e = ap ends_line (sym (append-nil break)) ∙ (after_comment [] break [] tt e).2
 
 pub comment_is : (white comment break : List ℕ) → IsWhite white → IsComment comment break → IsBreak break [] → comment_text (white ++ (comment ++ break)) ≡ after_hash comment
 comment_is white comment break w c e =
-    let parts = behind_comment comment break [] c e in
+    let parts = after_comment comment break [] c e in
     let first : no_white (comment ++ break) ≡ true = ap (λ (x : List ℕ). no_white (comment ++ x)) (sym (append-nil break)) ∙ parts.0 in
     let past : past_white (white ++ (comment ++ break)) ≡ comment ++ break = ap (λ (y : List ℕ × List ℕ). y.1) (white_again white (comment ++ break) w first) in
     ap (λ (x : List ℕ). cond (is_hash x) (Some (less_space (cut ends_line (drop 1 x)).0)) None) past ∙ go comment c
@@ -57,7 +57,7 @@ comment_stays tail break b bare pairs h = ⊎_elim {0, 0, 0}
     h.line.ends
 
 -- the cut
-end_cut : (t : List ℕ) (c : Cut) (k : ℕ) (p : Part) (front new : List Row) (r : Row) (break : List ℕ) → IsDocumentPart t c k p → IsCut t c → TakesRowsLast p front r break new (behind_document k c) →
+end_cut : (t : List ℕ) (c : Cut) (k : ℕ) (p : Part) (front new : List Row) (r : Row) (break : List ℕ) → IsDocumentPart t c k p → IsCut t c → TakesRowsLast p front r break new (after_document k c) →
     IsReadable (cut_text (put_document k (closed_with front r break new p) c)) →
     IsCut (cut_text (put_document k (closed_with front r break new p) c)) (put_document k (closed_with front r break new p) c)
 end_cut t c k p front new r break old cut takes text =
@@ -72,22 +72,22 @@ end_cut t c k p front new r break old cut takes text =
 
 -- the comment of the last row
 last_comment : (t : List ℕ) (c : Cut) (k : ℕ) (p : Part) (front new : List Row) (r : Row) (break : List ℕ) → IsDocumentPart t c k p → IsCut t c →
-    TakesRowsLast p front r break new (behind_document k c) →
-    line_comment (tail_behind r.content ++ break) ≡ line_comment (tail_behind r.content)
+    TakesRowsLast p front r break new (after_document k c) →
+    line_comment (tail_after r.content ++ break) ≡ line_comment (tail_after r.content)
 last_comment t c k p front new r break old cut takes =
     let j = part_number k c in
     let i : ℕ = length front in
     let here : nth_part j c ≡ p = (part_numbered c k p old.there).0 in
     let end_is : drop i p.rows ≡ r ∷ [] = drop_front p front (r ∷ []) takes.rows_are in
-    let place : rows_text (drop i (nth_part j c).rows) ((nth_part j c).end ++ behind_part j c) ≡ print_row r [] = search (rules, i, j, here, end_is) in
+    let place : rows_text (drop i (nth_part j c).rows) ((nth_part j c).end ++ after_part j c) ≡ print_row r [] = search (rules, i, j, here, end_is) in
     let whole : cut_text c ≡ before_rows j i c ++ print_row r [] = front_text c j i ∙ ap (λ (x : List ℕ). before_rows j i c ++ x) place in
     let pairs : pairs_returns (print_row r []) ≡ true = search (rules, pairs_back, and_parts, whole, i, j) in
     let content : pairs_returns (content_text r.content []) ≡ true = pairs_back (row_front r) (content_text r.content []) (ap pairs_returns (sym (row_front-append r [])) ∙ pairs) in
-    let tail : pairs_returns (tail_behind r.content) ≡ true = ap pairs_returns (sym (append-nil (tail_behind r.content))) ∙ tail_pairs r.content [] takes.takes.inline content in
-    let own = rows_drop i p.rows unlimited p.end (behind_part j c) (subst (λ (x : Part). AreRows unlimited x.rows x.end (behind_part j c)) here (part_in c j true cut.parts).rows) in
-    let asked : Limit = Rattle.yq_row_table.specs.Exchange.asked_behind unlimited (Rattle.std.specs.Prelude.take i p.rows) in
+    let tail : pairs_returns (tail_after r.content) ≡ true = ap pairs_returns (sym (append-nil (tail_after r.content))) ∙ tail_pairs r.content [] takes.takes.inline content in
+    let own = rows_drop i p.rows unlimited p.end (after_part j c) (subst (λ (x : Part). AreRows unlimited x.rows x.end (after_part j c)) here (part_in c j true cut.parts).rows) in
+    let asked : Limit = Rattle.yq_row_table.specs.Exchange.asked_after unlimited (Rattle.std.specs.Prelude.take i p.rows) in
     let row : AreRows asked (r ∷ []) [] [] = search rules in
-    comment_stays (tail_behind r.content) break takes.takes.break_is takes.takes.bare tail (content_tail (parent_indent r) r.content [] takes.takes.inline row.0.content)
+    comment_stays (tail_after r.content) break takes.takes.break_is takes.takes.bare tail (content_tail (parent_indent r) r.content [] takes.takes.inline row.0.content)
 
 pub end_of_text_appended : EndAppended
 end_of_text_appended t c k p steps h front new r break m l u old there_is size w takes text =
@@ -96,7 +96,7 @@ end_of_text_appended t c k p steps h front new r break m l u old there_is size w
     let q : Part = closed_with front r break new p in
     let cut = end_cut t c k p front new r break old known.cut takes text in
     let comment = last_comment t c k p front new r break old known.cut takes in
-    let tail : List ℕ = tail_behind r.content ++ break in
+    let tail : List ℕ = tail_after r.content ++ break in
     let there : q.rows ≡ front ++ (closed_by break r ∷ new) = ap (λ (rs : List Row). front ++ (closed_by break r ∷ rs)) (append-nil new) in
     let stays : (back : List Row) → lines_of_rows (front ++ (closed_by break r ∷ back)) ≡ lines_of_rows (front ++ (r ∷ back)) =
     λ back. search (rules, last_lines, false≢true) in

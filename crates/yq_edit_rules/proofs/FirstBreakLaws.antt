@@ -4,10 +4,10 @@ use Rattle.std.{proofs.Common.{ap, ◌∙◌, subst, arith, append-nil, rules}, 
 use Rattle.yq_core.{specs.Text.{cut_line, is_empty, separates, is_line}, proofs.BlockPieceLaws.{IsLf, line_lf, raw_lf}}
 use Rattle.yq_outline.specs.Comments.{line_comment}
 use Rattle.yq_row_table.specs.Grammar.{IsContent, IsTail, AreRows, Limit, limit_after}
-use Rattle.yq_row_table.{specs.Rows.{Content, Nothing, Inline, Block, Row, rows_text}, proofs.NothingLaws.some_behind}
+use Rattle.yq_row_table.{specs.Rows.{Content, Nothing, Inline, Block, Row, rows_text}, proofs.NothingLaws.some_after}
 use Rattle.yq_row_table.proofs.NodePieces.{BeginsAscii}
 use Rattle.yq_places.specs.PrintedLines.{is_last_break, less_break, last_break, end_break, PrintedLine, printed_from, printed_row}
-use Rattle.yq_places.{specs.PrintedLines.{printed_lines, run_break}, proofs.CommentPieceLaws.{Ended, tail_end}, proofs.FinishLaws.lf_behind}
+use Rattle.yq_places.{specs.PrintedLines.{printed_lines, run_break}, proofs.CommentPieceLaws.{Ended, tail_end}, proofs.FinishLaws.lf_after}
 use Rattle.yq_row_table.specs.Rows as rows
 
 -- LF, or CR LF (5.4)
@@ -30,7 +30,7 @@ last_lf (b ∷ bs) h = go (is_last_break (b ∷ bs)) refl (λ lf. last_lf bs lf)
   where
     go : (c : Bool) → is_last_break (b ∷ bs) ≡ c → (IsLf bs → IsOneBreak (last_break bs)) → IsOneBreak (drop (length (cond c [] (b ∷ less_break bs))) (b ∷ bs))
     go true e again = search (rules, eqb-true, and_parts, false≢true, e)
-    go false e again = again (lf_behind b bs e h)
+    go false e again = again (lf_after b bs e h)
 
 content_break : (n : ℤ) (x : Content) (rest : List ℕ) → IsContent n x rest → is_empty rest ≡ false → IsOneBreak (end_break x)
 content_break n (Nothing tail) rest h some = go (tail_end tail rest h)
@@ -43,7 +43,7 @@ content_break n (Inline space node tail) rest h some = go (tail_end tail rest h.
     go : Ended tail rest → IsOneBreak (last_break tail)
     go (inl lf) = last_lf tail lf
     go (inr none) = absurd (false≢true (sym some ∙ ap is_empty none))
-content_break n (Block space anchor block) rest h some = search (rules, raw_lf, line_lf, and_parts, last_lf, some_behind)
+content_break n (Block space anchor block) rest h some = search (rules, raw_lf, line_lf, and_parts, last_lf, some_after)
 
 -- ---- the break after lines
 
@@ -52,14 +52,14 @@ abbrev pub lines_break : List PrintedLine → List ℕ
 lines_break [] = []
 lines_break (l ∷ ls) = run_break l ls
 
-break_behind : (xs : List PrintedLine) (y : PrintedLine) (ys : List PrintedLine) → lines_break (xs ++ (y ∷ ys)) ≡ lines_break (y ∷ ys)
-break_behind [] y ys = refl
-break_behind (x ∷ []) y ys = refl
-break_behind (x ∷ (z ∷ xs)) y ys = break_behind (z ∷ xs) y ys
+break_after : (xs : List PrintedLine) (y : PrintedLine) (ys : List PrintedLine) → lines_break (xs ++ (y ∷ ys)) ≡ lines_break (y ∷ ys)
+break_after [] y ys = refl
+break_after (x ∷ []) y ys = refl
+break_after (x ∷ (z ∷ xs)) y ys = break_after (z ∷ xs) y ys
 
 break_last : (xs ys : List PrintedLine) → (ys ≡ [] → ⊥) → lines_break (xs ++ ys) ≡ lines_break ys
 break_last xs [] some = absurd (some refl)
-break_last xs (y ∷ ys) some = break_behind xs y ys
+break_last xs (y ∷ ys) some = break_after xs y ys
 
 from_break : (gap spaces : List ℕ) (column : ℕ) (ns : List ℕ) (m : rows.RowMark) (c : Content) → lines_break (printed_from gap spaces column ns m c) ≡ end_break c
 from_break gap spaces column [] m c = refl

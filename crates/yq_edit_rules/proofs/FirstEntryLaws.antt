@@ -7,11 +7,11 @@ use Rattle.yq_outline.{specs.Comments.head_comment, specs.Group.level_or, specs.
 use Rattle.yq_outline.specs.Places.{Context, here, below, beside, plug, lines_before, lines_after, FoundLine, find_row}
 use Rattle.yq_outline.{proofs.PlaceLaws.at, proofs.Values.rank_small, specs.Lines.{dash_line, lines_from, row_lines, lines_of_rows}}
 use Rattle.yq_outline.proofs.RowLaws.{no_comments}
-use Rattle.yq_row_table.{specs.Grammar.{AreDashes, is_entry}, specs.Rows.{Content, Row, behind_columns, Part}}
+use Rattle.yq_row_table.{specs.Grammar.{AreDashes, is_entry}, specs.Rows.{Content, Row, after_columns, Part}}
 use Rattle.yq_documents.{specs.Reading.part_outline, specs.LinesInRows.{RowLine, row_line}}
 use Rattle.yq_places.proofs.UnderExchange.{lines_append}
-use Rattle.yq_edit_rules.{specs.LineRows.{Begins, StandApart, InRows, IsRowLine, lines_before_entry, lines_behind}, specs.Moved.dash_lines}
-use Rattle.yq_edit_rules.specs.Siblings.{IsEntry, HasEntries, IsEntryAt, NodeLines}
+use Rattle.yq_edit_rules.specs.LineRows.{Begins, AreApartLines, InRows, IsRowLine, lines_before_entry, following_lines}
+use Rattle.yq_edit_rules.{specs.Moved.dash_lines, specs.Siblings.{IsEntry, HasEntries, IsEntryAt, NodeLines}}
 use Rattle.yq_edit_rules.{proofs.ApartLaws.{Stood, row_stood, entries_apart, first_level, row_begins}, proofs.ColumnLaws.apart_later}
 use Rattle.yq_edit_rules.{proofs.LineLaws.{dashes_count, row_line_splits}, proofs.NodeLineLaws.lines_even, proofs.OwnRowLaws.lines_are}
 use Rattle.yq_edit_rules.{proofs.PlacedLaws.same_parts, proofs.AppendLaws.first_column}
@@ -21,19 +21,19 @@ use Rattle.yq_row_table.specs.Rows as rows
 
 -- the lines of dashes, and those after them
 pub dashes_first : (above : List (List ℕ)) (column : ℕ) (ns es : List ℕ) (m : rows.RowMark) (c : Content) → 0 < length ns →
-    lines_from above column (ns ++ es) m c ≡ dash_lines above column ns ++ lines_from [] (behind_columns column ns) es m c
+    lines_from above column (ns ++ es) m c ≡ dash_lines above column ns ++ lines_from [] (after_columns column ns) es m c
 dashes_first above column [] es m c h = absurd (omega (arith, h))
 dashes_first above column (n ∷ []) es m c h = refl
 dashes_first above column (n ∷ (k ∷ ns)) es m c h = ap (λ ls. dash_line above column ∷ ls) (dashes_first [] (suc (column + n)) (k ∷ ns) es m c (omega arith))
 
-apart_last : (a : List Line) (l : Line) (z : List Line) → StandApart (a ++ (l ∷ [])) z → Begins (level l) z
+apart_last : (a : List Line) (l : Line) (z : List Line) → AreApartLines (a ++ (l ∷ [])) z → Begins (level l) z
 apart_last [] l z h = h
 apart_last (x ∷ []) l z h = h
 apart_last (x ∷ (y ∷ a)) l z h = apart_last (y ∷ a) l z h
 
 -- what comes after a dash is deeper
 apart_dashes : (a : List Line) (above : List (List ℕ)) (column : ℕ) (ns es : List ℕ) (m : rows.RowMark) (c : Content) (rest : List Line) → 0 < length ns →
-    StandApart (a ++ dash_lines above column ns) (lines_from [] (behind_columns column ns) es m c ++ rest) → ⊥
+    AreApartLines (a ++ dash_lines above column ns) (lines_from [] (after_columns column ns) es m c ++ rest) → ⊥
 unfolding level
 apart_dashes a above column [] es m c rest some h = absurd (omega (arith, some))
 apart_dashes a above column (n ∷ []) es m c rest some h =
@@ -42,7 +42,7 @@ apart_dashes a above column (n ∷ []) es m c rest some h =
     omega (arith, low)
 apart_dashes a above column (n ∷ (k ∷ ns)) es m c rest some h =
     apart_dashes (a ++ (dash_line above column ∷ [])) [] (suc (column + n)) (k ∷ ns) es m c rest (omega arith)
-    (subst (λ (x : List Line). StandApart x (lines_from [] (behind_columns column (n ∷ (k ∷ ns))) es m c ++ rest))
+    (subst (λ (x : List Line). AreApartLines x (lines_from [] (after_columns column (n ∷ (k ∷ ns))) es m c ++ rest))
     (sym (append_assoc a (dash_line above column ∷ []) (dash_lines [] (suc (column + n)) (k ∷ ns)))) h)
 
 first_entry : (above : List (List ℕ)) (column : ℕ) (ns : List ℕ) (m : rows.RowMark) (c : Content) (rest : List Line) (l : Line) (ls : List Line) → lines_from above column ns m c ++ rest ≡ l ∷ ls →
@@ -84,8 +84,8 @@ pub record FirstRows (p : Part) (h : NodeLines) (f : FoundLine) (q : RowLine) : 
   pub number : length front ≡ q.before
   pub within : q.line ≤ length q.row.dashes
   pub before : length (lines_of_rows front) + length (take q.line q.row.dashes) ≡ length (lines_before h.place) + length (lines_before f.place)
-  pub size : length (lines_from [] (behind_columns q.row.column (take q.line q.row.dashes)) (drop q.line q.row.dashes) q.row.mark q.row.content ++ lines_of_rows gone) ≡ length (f.line ∷ flatten f.under)
-  pub column : next.column ≡ behind_columns q.row.column (take q.line q.row.dashes)
+  pub size : length (lines_from [] (after_columns q.row.column (take q.line q.row.dashes)) (drop q.line q.row.dashes) q.row.mark q.row.content ++ lines_of_rows gone) ≡ length (f.line ∷ flatten f.under)
+  pub column : next.column ≡ after_columns q.row.column (take q.line q.row.dashes)
   pub entry : AreDashes next.dashes next.mark → is_entry next.mark ≡ true
 
 module _ (p : Part) (m : ℕ) (ss : List Step) (s : Step) (h : NodeLines) (f : FoundLine) (q : RowLine) (even : IsEven m (part_outline p)) (entry : IsEntryAt ss s (part_outline p) h f)
@@ -100,7 +100,7 @@ module _ (p : Part) (m : ℕ) (ss : List Step) (s : Step) (h : NodeLines) (f : F
   es = drop q.line r.dashes
 
   abbrev column : ℕ
-  column = behind_columns r.column ns
+  column = after_columns r.column ns
 
   abbrev e : List Line
   e = f.line ∷ flatten f.under
@@ -129,9 +129,9 @@ module _ (p : Part) (m : ℕ) (ss : List Step) (s : Step) (h : NodeLines) (f : F
   before_is = omega (arith, w.lines, ns_size)
 
   -- the lines of the row, cut after the dashes
-  parts : (a ≡ b) × (lines_from [] column es r.mark r.content ++ lines_of_rows w.back ≡ e ++ lines_behind h f)
+  parts : (a ≡ b) × (lines_from [] column es r.mark r.content ++ lines_of_rows w.back ≡ e ++ following_lines h f)
   parts =
-      let x = same_parts a [] (lines_from [] column es r.mark r.content ++ lines_of_rows w.back) b [] (e ++ lines_behind h f)
+      let x = same_parts a [] (lines_from [] column es r.mark r.content ++ lines_of_rows w.back) b [] (e ++ following_lines h f)
       (append_assoc (lines_of_rows w.front) (dash_lines (head_comment r.gap) r.column ns) (lines_from [] column es r.mark r.content ++ lines_of_rows w.back)
       ∙ (ap (λ (x : List Line). lines_of_rows w.front ++ x)
       (sym (append_assoc (dash_lines (head_comment r.gap) r.column ns) (lines_from [] column es r.mark r.content) (lines_of_rows w.back)) ∙ ap (λ (x : List Line). x ++ lines_of_rows w.back) (sym row_is))
@@ -146,9 +146,9 @@ module _ (p : Part) (m : ℕ) (ss : List Step) (s : Step) (h : NodeLines) (f : F
       go [] e = e
       go (y ∷ x) some =
           let none : lines_before f.place ≡ [] → ⊥ = λ e. (let n : y ∷ x ≡ [] = sym some ∙ e in cc) in
-          let apart : StandApart b (e ++ lines_behind h f) = (entries_apart m (part_outline p) ss s h f even entry).begin none in
+          let apart : AreApartLines b (e ++ following_lines h f) = (entries_apart m (part_outline p) ss s h f even entry).begin none in
           absurd (apart_dashes (lines_of_rows w.front) (head_comment r.gap) r.column ns es r.mark r.content (lines_of_rows w.back) (omega (arith, ns_size, later))
-          (subst (λ (x : List Line). StandApart x (lines_from [] column es r.mark r.content ++ lines_of_rows w.back)) (sym parts.0) (subst (StandApart b) (sym parts.1) apart)))
+          (subst (λ (x : List Line). AreApartLines x (lines_from [] column es r.mark r.content ++ lines_of_rows w.back)) (sym parts.0) (subst (AreApartLines b) (sym parts.1) apart)))
 
   next_is : NextLine f
   next_is =
@@ -163,23 +163,23 @@ module _ (p : Part) (m : ℕ) (ss : List Step) (s : Step) (h : NodeLines) (f : F
   rest_lines : row_lines rest ≡ lines_from [] column es r.mark r.content
   rest_lines = ap (λ above. lines_from above column es r.mark r.content) no_comments
 
-  cut : InRows (rest ∷ w.back) e (lines_behind h f)
+  cut : InRows (rest ∷ w.back) e (following_lines h f)
   cut =
-      row_begins (rest ∷ w.back) e (lines_behind h f) (ap (λ (x : List Line). x ++ lines_of_rows w.back) rest_lines ∙ parts.1)
-      (apart_later b e (lines_behind h f) (λ none. cc) (entries_apart m (part_outline p) ss s h f even entry).end)
+      row_begins (rest ∷ w.back) e (following_lines h f) (ap (λ (x : List Line). x ++ lines_of_rows w.back) rest_lines ∙ parts.1)
+      (apart_later b e (following_lines h f) (λ none. cc) (entries_apart m (part_outline p) ss s h f even entry).end)
 
   line_column : f.line.column ≡ column
-  line_column = first_column [] column es r.mark r.content (lines_of_rows w.back) f.line (flatten f.under ++ lines_behind h f) parts.1
+  line_column = first_column [] column es r.mark r.content (lines_of_rows w.back) f.line (flatten f.under ++ following_lines h f) parts.1
 
   pub first_rows : FirstRows p h f q
   first_rows = go cut.front cut.back cut.rows_are cut.front_lines cut.back_lines
     where
-      behind_is : lines_behind h f ≡ next_is.line ∷ (((flatten next_is.under ++ flatten next_is.after) ++ lines_after f.place) ++ lines_after h.place)
-      behind_is = ap (λ (o : Outline). (flatten o ++ lines_after f.place) ++ lines_after h.place) next_is.is
+      following_is : following_lines h f ≡ next_is.line ∷ (((flatten next_is.under ++ flatten next_is.after) ++ lines_after f.place) ++ lines_after h.place)
+      following_is = ap (λ (o : Outline). (flatten o ++ lines_after f.place) ++ lines_after h.place) next_is.is
 
-      found : (gone : List Row) (next : Row) (back : List Row) → w.back ≡ gone ++ (next ∷ back) → row_lines rest ++ lines_of_rows gone ≡ e → lines_of_rows (next ∷ back) ≡ lines_behind h f → FirstRows p h f q
-      found gone next back is own behind =
-          let first : row_lines next ++ lines_of_rows back ≡ next_is.line ∷ (((flatten next_is.under ++ flatten next_is.after) ++ lines_after f.place) ++ lines_after h.place) = behind ∙ behind_is in
+      found : (gone : List Row) (next : Row) (back : List Row) → w.back ≡ gone ++ (next ∷ back) → row_lines rest ++ lines_of_rows gone ≡ e → lines_of_rows (next ∷ back) ≡ following_lines h f → FirstRows p h f q
+      found gone next back is own after =
+          let first : row_lines next ++ lines_of_rows back ≡ next_is.line ∷ (((flatten next_is.under ++ flatten next_is.after) ++ lines_after f.place) ++ lines_after h.place) = after ∙ following_is in
           record {
             front = w.front;
             gone = gone;
@@ -194,7 +194,7 @@ module _ (p : Part) (m : ℕ) (ss : List Step) (s : Step) (h : NodeLines) (f : F
             entry = λ d. first_entry (head_comment next.gap) next.column next.dashes next.mark next.content (lines_of_rows back) next_is.line _ first d next_is.entry;
           }
 
-      go : (front back : List Row) → rest ∷ w.back ≡ front ++ back → lines_of_rows front ≡ e → lines_of_rows back ≡ lines_behind h f → FirstRows p h f q
-      go [] back is own behind = absurd (cc)
-      go (v ∷ gone) [] is own behind = let none : [] ≡ next_is.line ∷ _ = behind ∙ behind_is in absurd (cc)
-      go (v ∷ gone) (next ∷ back) is own behind = found gone next back (tail-eq_of_cons-eq is) (ap (λ (x : Row). row_lines x ++ lines_of_rows gone) (head-eq_of_cons-eq is) ∙ own) behind
+      go : (front back : List Row) → rest ∷ w.back ≡ front ++ back → lines_of_rows front ≡ e → lines_of_rows back ≡ following_lines h f → FirstRows p h f q
+      go [] back is own after = absurd (cc)
+      go (v ∷ gone) [] is own after = let none : [] ≡ next_is.line ∷ _ = after ∙ following_is in absurd (cc)
+      go (v ∷ gone) (next ∷ back) is own after = found gone next back (tail-eq_of_cons-eq is) (ap (λ (x : Row). row_lines x ++ lines_of_rows gone) (head-eq_of_cons-eq is) ∙ own) after

@@ -10,7 +10,7 @@ use Rattle.yq_documents.specs.LinesInRows.{RowLine, row_line}
 use Rattle.yq_places.specs.FirstPlaces.{less_spaces, end_spaces, first_out, first_removal, piece_between}
 use Rattle.yq_places.{specs.PathPieces.{printed_document, piece_in}, proofs.FirstLaws.spaces_parts}
 use Rattle.yq_places.{proofs.PieceTexts.{piece_text, document_whole, piece_whole}, proofs.PrintedTexts.map_some}
-use Rattle.yq_edit_rules.specs.RemovalChanges.{FirstStands}
+use Rattle.yq_edit_rules.specs.RemovalChanges.{FirstIsThere}
 
 -- ---- what is taken out
 
@@ -35,32 +35,32 @@ pub out_is : (c : Cut) (k : ℕ) (steps : List Step) (x : TextPiece) → first_r
 out_is c k steps x e = search (rules, map_some, bind_some, not_then, some_line, eqb-false)
 
 out_whole : (p : TextPiece) → piece_text (first_out p) ≡ piece_text p
-out_whole p = go (begins_gap (cut_line p.behind).1)
+out_whole p = go (begins_gap (cut_line p.after).1)
   where
-    line : (cut_line p.behind).0 ++ (cut_line p.behind).1 ≡ p.behind
-    line = take-append-drop (line_len p.behind) p.behind
+    line : (cut_line p.after).0 ++ (cut_line p.after).1 ≡ p.after
+    line = take-append-drop (line_len p.after) p.after
 
-    indent : (cut no_space (cut_line p.behind).1).0 ++ (cut no_space (cut_line p.behind).1).1 ≡ (cut_line p.behind).1
-    indent = take-append-drop (upto no_space (cut_line p.behind).1) (cut_line p.behind).1
+    indent : (cut no_space (cut_line p.after).1).0 ++ (cut no_space (cut_line p.after).1).1 ≡ (cut_line p.after).1
+    indent = take-append-drop (upto no_space (cut_line p.after).1) (cut_line p.after).1
 
-    after : (p.text ++ ((cut_line p.behind).0 ++ (cut no_space (cut_line p.behind).1).0)) ++ (cut no_space (cut_line p.behind).1).1 ≡ p.text ++ p.behind
+    after : (p.text ++ ((cut_line p.after).0 ++ (cut no_space (cut_line p.after).1).0)) ++ (cut no_space (cut_line p.after).1).1 ≡ p.text ++ p.after
     after =
-        append_assoc p.text ((cut_line p.behind).0 ++ (cut no_space (cut_line p.behind).1).0) (cut no_space (cut_line p.behind).1).1
-        ∙ ap (λ (t : List ℕ). p.text ++ t) (append_assoc (cut_line p.behind).0 (cut no_space (cut_line p.behind).1).0 (cut no_space (cut_line p.behind).1).1 ∙ (ap (λ (t : List ℕ). (cut_line p.behind).0 ++ t) indent ∙ line))
+        append_assoc p.text ((cut_line p.after).0 ++ (cut no_space (cut_line p.after).1).0) (cut no_space (cut_line p.after).1).1
+        ∙ ap (λ (t : List ℕ). p.text ++ t) (append_assoc (cut_line p.after).0 (cut no_space (cut_line p.after).1).0 (cut no_space (cut_line p.after).1).1 ∙ (ap (λ (t : List ℕ). (cut_line p.after).0 ++ t) indent ∙ line))
 
     go : (b : Bool) →
-        piece_text (cond b (piece_between (less_spaces p.before) (end_spaces p.before ++ p.text) p.behind)
-        (piece_between p.before (p.text ++ ((cut_line p.behind).0 ++ (cut no_space (cut_line p.behind).1).0))
-        (cut no_space (cut_line p.behind).1).1)) ≡ piece_text p
+        piece_text (cond b (piece_between (less_spaces p.before) (end_spaces p.before ++ p.text) p.after)
+        (piece_between p.before (p.text ++ ((cut_line p.after).0 ++ (cut no_space (cut_line p.after).1).0))
+        (cut no_space (cut_line p.after).1).1)) ≡ piece_text p
     go true =
-        ap (λ (t : List ℕ). less_spaces p.before ++ t) (append_assoc (end_spaces p.before) p.text p.behind)
-        ∙ (sym (append_assoc (less_spaces p.before) (end_spaces p.before) (p.text ++ p.behind)) ∙ ap (λ (t : List ℕ). t ++ (p.text ++ p.behind)) (sym (spaces_parts p.before)))
+        ap (λ (t : List ℕ). less_spaces p.before ++ t) (append_assoc (end_spaces p.before) p.text p.after)
+        ∙ (sym (append_assoc (less_spaces p.before) (end_spaces p.before) (p.text ++ p.after)) ∙ ap (λ (t : List ℕ). t ++ (p.text ++ p.after)) (sym (spaces_parts p.before)))
     go false = ap (λ (t : List ℕ). p.before ++ t) after
 
-pub piece_stands : (c : Cut) (k : ℕ) (steps : List Step) (x : TextPiece) (h : IsFirstOut c k steps x) → cut_text c ≡ piece_text h.piece
-piece_stands c k steps x h =
+pub piece_is_there : (c : Cut) (k : ℕ) (steps : List Step) (x : TextPiece) (h : IsFirstOut c k steps x) → cut_text c ≡ piece_text h.piece
+piece_is_there c k steps x h =
     let s = bind_some (printed_document k c) h.is in
     sym (document_whole k c s.0 s.1) ∙ sym (piece_whole Entry steps s.0 h.piece s.2)
 
-pub first_stands : FirstStands
-first_stands c k steps x e = let h = out_is c k steps x e in piece_stands c k steps x h ∙ (sym (out_whole h.piece) ∙ ap piece_text h.out)
+pub first_is_there : FirstIsThere
+first_is_there c k steps x e = let h = out_is c k steps x e in piece_is_there c k steps x h ∙ (sym (out_whole h.piece) ∙ ap piece_text h.out)

@@ -8,8 +8,8 @@ use Rattle.yq_core.{proofs.Bools.guard_then, specs.Anchors.names_of}
 use Rattle.yq_text.specs.Limit.{text_limit}
 use Rattle.yq_outline.{specs.Ends.line_at_steps, specs.Group.{group, level_or, is_fine}, specs.Places.{plug, content_under}}
 use Rattle.yq_outline.specs.Lines.{lines_from, lines_of_rows}
-use Rattle.yq_row_table.{specs.Exchange.asked_behind, specs.Grammar.{unlimited, AreRows, limit_after}}
-use Rattle.yq_row_table.specs.Rows.{Row, behind_columns, dashes_text, behind_dashes, behind_indent, behind_gap, print_row, rows_text, Part}
+use Rattle.yq_row_table.{specs.Exchange.asked_after, specs.Grammar.{unlimited, AreRows, limit_after}}
+use Rattle.yq_row_table.specs.Rows.{Row, after_columns, dashes_text, after_dashes, after_indent, following_gap, print_row, rows_text, Part}
 use Rattle.yq_row_table.{specs.Rows.{part_text, Cut, cut_text}, proofs.NodePieces.{BeginsAscii, before_ascii}, proofs.PlaceLaws.row_then}
 use Rattle.yq_row_table.{proofs.splices.SpliceTexts.{own_gap, own_end}, specs.Reading.begins_gap}
 use Rattle.yq_documents.{specs.declared.path.Part.TheVariants.Entry, specs.Documents.{document_parts, lead_of}, specs.Pieces.TextPiece}
@@ -18,7 +18,7 @@ use Rattle.yq_documents.proofs.ReadLaws.{text_takes}
 use Rattle.yq_places.specs.FirstPlaces.{less_spaces, end_spaces, first_out, first_removal, piece_between}
 use Rattle.yq_places.{specs.PathPieces.{PrintedDocument, piece_in}, specs.RowPaths.IsReadable, proofs.RowPathLaws.document_fine}
 use Rattle.yq_edit_rules.{specs.Appends.inserted, specs.Changed.{IsChanged, put_document}, specs.Conditions.AreSpared}
-use Rattle.yq_edit_rules.{specs.DocumentRows.{IsDocumentPart, Known, behind_document}, specs.Moved.{emptied_row, moved_up}}
+use Rattle.yq_edit_rules.{specs.DocumentRows.{IsDocumentPart, Known, after_document}, specs.Moved.{emptied_row, moved_up}}
 use Rattle.yq_edit_rules.{specs.PathRows.IsEntryLine, specs.RemovalChanges.{IsTakenOut, MayTakeOut}, specs.Siblings.HasEntries}
 use Rattle.yq_edit_rules.{specs.TextPieces.IsPiece, proofs.AfterLaws.end_is_change}
 use Rattle.yq_edit_rules.proofs.FirstBreakLaws.{IsOneBreak, break_ascii, break_cut}
@@ -26,12 +26,12 @@ use Rattle.yq_edit_rules.proofs.FirstChangeLaws.{dash_front, dash_less, dashes_f
 use Rattle.yq_edit_rules.proofs.FirstChangeLaws.{inserted_text, moved_changed, moved_text, NoGap, no_gap, row_from}
 use Rattle.yq_edit_rules.proofs.FirstEntryLaws.{FirstRows, first_rows}
 use Rattle.yq_edit_rules.proofs.FirstLineLaws.{ascii_break, dash_first, dashes_first, entries_first, first_stays, last_dash}
-use Rattle.yq_edit_rules.{proofs.FirstOutLaws.{IsFirstOut, out_is, piece_stands}, proofs.FirstReplaceLaws.rows_after}
+use Rattle.yq_edit_rules.{proofs.FirstOutLaws.{IsFirstOut, out_is, piece_is_there}, proofs.FirstReplaceLaws.rows_after}
 use Rattle.yq_edit_rules.{proofs.FirstTextLaws.{FirstText, first_text}, proofs.OwnRowLaws.lines_counted}
 use Rattle.yq_edit_rules.{proofs.PartLaws.{document_known, part_rows}, proofs.PathLaws.path_is_entry}
 use Rattle.yq_edit_rules.proofs.PlaceTextLaws.{IsAround, around}
 use Rattle.yq_edit_rules.proofs.RemovalChangeLaws.{snoc, may_go, FirstEntry, first_group, group_begins, keeps, root_entries}
-use Rattle.yq_edit_rules.{proofs.RemovalPieceLaws.spaces_piece, proofs.TextPieceLaws.{cut_behind, piece_back, pieces_joined, text_is_piece}}
+use Rattle.yq_edit_rules.{proofs.RemovalPieceLaws.spaces_piece, proofs.TextPieceLaws.{cut_after, piece_back, pieces_joined, text_is_piece}}
 
 -- bytes that end the last one of rows (own)
 abbrev pub EndLastRow : List ℕ → List Row → Type 0
@@ -48,20 +48,20 @@ pub record IsRowLeft (c : Cut) (k : ℕ) (x : TextPiece) (old new : Part) : Type
   pub new_are : new.rows ≡ front ++ (row ∷ back)
   pub end_is : new.end ≡ old.end
   pub start : List ℕ
-  pub put : (q : Part) → cut_text (put_document k q c) ≡ start ++ part_text q (behind_document k c)
+  pub put : (q : Part) → cut_text (put_document k q c) ≡ start ++ part_text q (after_document k c)
   pub lead : List ℕ
   pub trail : List ℕ
   pub before_is : x.before ≡ (start ++ rows_text front []) ++ lead
-  pub behind_is : x.behind ≡ trail ++ rows_text back (old.end ++ behind_document k c)
+  pub following_is : x.after ≡ trail ++ rows_text back (old.end ++ after_document k c)
   pub begins : length lead ≤ length (print_row first [])
   pub ends : IsOneBreak trail ⊎ EndLastRow trail (first ∷ others)
 
 -- What is taken out, with its rows.
 abbrev pub IsFirstGone : Cut → ℕ → List Step → TextPiece → Type 0
-IsFirstGone c k steps x = (out : IsTakenOut c k steps (x.before ++ x.behind)) × IsRowLeft c k x out.old out.new
+IsFirstGone c k steps x = (out : IsTakenOut c k steps (x.before ++ x.after)) × IsRowLeft c k x out.old out.new
 
 module _ (c : Cut) (k : ℕ) (y : Step) (ys ss : List Step) (s : Step) (x : TextPiece) (same : y ∷ ys ≡ ss ++ (s ∷ [])) (read : read_at (cut_text c) ≡ Some c) (e : IsFirstOut c k (y ∷ ys) x)
-    (may : MayTakeOut c k (ss ++ (s ∷ []))) (size : length (x.before ++ x.behind) ≤ text_limit) where
+    (may : MayTakeOut c k (ss ++ (s ∷ []))) (size : length (x.before ++ x.after) ≤ text_limit) where
   abbrev t : List ℕ
   t = cut_text c
 
@@ -78,7 +78,7 @@ module _ (c : Cut) (k : ℕ) (y : Step) (ys ss : List Step) (s : Step) (x : Text
   m = level_or 0 (part_outline p)
 
   abbrev rest : List ℕ
-  rest = behind_document k c
+  rest = after_document k c
 
   abbrev ns : List ℕ
   ns = take q.line r.dashes
@@ -138,33 +138,33 @@ module _ (c : Cut) (k : ℕ) (y : Step) (ys ss : List Step) (s : Step) (x : Text
       ∙ (ap (λ ds. a.start ++ rows_text fr.front (dashes_front r ds)) dash.2
       ∙ (ap (λ (u : List ℕ). a.start ++ rows_text fr.front u) (dash_front r dash.0 dash.1) ∙ front_text a.start fr.front (dashes_front r dash.0) (45 ∷ replicate dash.1 32)))
 
-  whole : t ≡ e.piece.before ++ (e.piece.text ++ e.piece.behind)
-  whole = piece_stands c k (y ∷ ys) x e
+  whole : t ≡ e.piece.before ++ (e.piece.text ++ e.piece.after)
+  whole = piece_is_there c k (y ∷ ys) x e
 
   dash_piece : IsPiece (upto_dash ++ (45 ∷ []))
   dash_piece =
-      let more : List ℕ = replicate dash.1 32 ++ (e.piece.text ++ e.piece.behind) in
+      let more : List ℕ = replicate dash.1 32 ++ (e.piece.text ++ e.piece.after) in
       let text : t ≡ (upto_dash ++ (45 ∷ [])) ++ more = simp (whole, before_is, append_assoc, more) in
-      (cut_behind (upto_dash ++ (45 ∷ [])) more (subst IsPiece text (text_is_piece c read)) (record { front = upto_dash; last = 45; is = refl; ascii = omega arith })
+      (cut_after (upto_dash ++ (45 ∷ [])) more (subst IsPiece text (text_is_piece c read)) (record { front = upto_dash; last = 45; is = refl; ascii = omega arith })
       (record { front = upto_dash; last = 45; is = refl; no_return = refl })).0
 
   before_piece : IsPiece e.piece.before
   before_piece = subst IsPiece (append_assoc upto_dash (45 ∷ []) (replicate dash.1 32) ∙ sym before_is) (pieces_joined (upto_dash ++ (45 ∷ [])) (replicate dash.1 32) dash_piece (spaces_piece dash.1))
 
-  behind_piece : IsPiece e.piece.behind
-  behind_piece =
+  after_piece : IsPiece e.piece.after
+  after_piece =
       let above : List ℕ = e.piece.before ++ e.piece.text in
-      let all : IsPiece (above ++ e.piece.behind) = subst IsPiece (whole ∙ sym (append_assoc e.piece.before e.piece.text e.piece.behind)) (text_is_piece c read) in
-      let begins : BeginsAscii e.piece.behind = subst BeginsAscii (sym ft.behind) (break_ascii ft.break next ft.one) in
-      piece_back above e.piece.behind (subst IsUtf8 (take-append_seam above e.piece.behind)
-      (IsUtf8-take (above ++ e.piece.behind) (length above) all.utf8 (before_ascii above e.piece.behind begins))) all
+      let all : IsPiece (above ++ e.piece.after) = subst IsPiece (whole ∙ sym (append_assoc e.piece.before e.piece.text e.piece.after)) (text_is_piece c read) in
+      let begins : BeginsAscii e.piece.after = subst BeginsAscii (sym ft.after) (break_ascii ft.break next ft.one) in
+      piece_back above e.piece.after (subst IsUtf8 (take-append_seam above e.piece.after)
+      (IsUtf8-take (above ++ e.piece.after) (length above) all.utf8 (before_ascii above e.piece.after begins))) all
 
   readable : (new u : List ℕ) → new ≡ u → IsPiece u → length u ≤ text_limit → IsReadable new
   readable new u is piece less = search (rules, is_utf8-from_IsUtf8)
 
   -- what is taken out, by whether a gap comes before the next row
   abbrev either : Bool → TextPiece
-  either b = cond b (piece_between (less_spaces e.piece.before) (end_spaces e.piece.before ++ e.piece.text) e.piece.behind)
+  either b = cond b (piece_between (less_spaces e.piece.before) (end_spaces e.piece.before ++ e.piece.text) e.piece.after)
       (piece_between e.piece.before (e.piece.text ++ (ft.break ++ (cut no_space next).0)) (cut no_space next).1)
 
   -- a row in the place of others
@@ -195,26 +195,26 @@ module _ (c : Cut) (k : ℕ) (y : Step) (ys ss : List Step) (s : Step) (x : Text
   own_dashes = sym (take-append-drop q.line r.dashes)
 
   row_long : length (dashes_front r ns) ≤ length (print_row r [])
-  row_long = omega (arith, ap length (row_from r ns es [] own_dashes), length-append (dashes_front r ns) (dashes_text es (behind_dashes r [])))
+  row_long = omega (arith, ap length (row_from r ns es [] own_dashes), length-append (dashes_front r ns) (dashes_text es (after_dashes r [])))
 
-  dropped : length (less_spaces e.piece.before ++ e.piece.behind) ≤ text_limit → IsFirstGone c k (ss ++ (s ∷ [])) (either true)
+  dropped : length (less_spaces e.piece.before ++ e.piece.after) ≤ text_limit → IsFirstGone c k (ss ++ (s ∷ [])) (either true)
   unfolding taken
   dropped less =
       let new : Row = emptied_row r dash.0 ft.break in
       let back : List Row = fr.next ∷ fr.back in
       let front : less_spaces e.piece.before ≡ upto_dash ++ (45 ∷ []) = ap less_spaces before_is ∙ dash_less upto_dash dash.1 in
-      let text : cut_text (put_document k (inserted fr.front (new ∷ []) back p) c) ≡ less_spaces e.piece.before ++ e.piece.behind =
+      let text : cut_text (put_document k (inserted fr.front (new ∷ []) back p) c) ≡ less_spaces e.piece.before ++ e.piece.after =
       a.put (inserted fr.front (new ∷ []) back p)
       ∙ (ap (λ (u : List ℕ). a.start ++ u) (inserted_text fr.front back new p rest ∙ ap (rows_text fr.front) (dropped_text r dash.0 ft.break next))
-      ∙ (front_text a.start fr.front (dashes_front r dash.0) (45 ∷ (ft.break ++ next)) ∙ (sym (append_assoc upto_dash (45 ∷ []) (ft.break ++ next)) ∙ (λ i. sym front i ++ sym ft.behind i)))) in
-      let piece : IsPiece (less_spaces e.piece.before ++ e.piece.behind) = pieces_joined (less_spaces e.piece.before) e.piece.behind (subst IsPiece (sym front) dash_piece) behind_piece in
+      ∙ (front_text a.start fr.front (dashes_front r dash.0) (45 ∷ (ft.break ++ next)) ∙ (sym (append_assoc upto_dash (45 ∷ []) (ft.break ++ next)) ∙ (λ i. sym front i ++ sym ft.after i)))) in
+      let piece : IsPiece (less_spaces e.piece.before ++ e.piece.after) = pieces_joined (less_spaces e.piece.before) e.piece.after (subst IsPiece (sym front) dash_piece) after_piece in
       let lead : List ℕ = dashes_front r dash.0 ++ (45 ∷ []) in (
         taken new back _ text (dash_first _ r.column dash.0 new.content (lines_of_rows back))
             (dropped_changed t c k p ss s w.h w.f old w.entry go.0 go.1 fr.front fr.gone back r dash.0 es ft.break dash.1 fr.rows_are
             (sym (take-append-drop q.line r.dashes) ∙ ap (λ ds. ds ++ es) dash.2) ft.one
             (record {
               before_are = ap (λ ds. length (lines_of_rows fr.front) + length ds) (sym dash.2) ∙ fr.before;
-              size_is = ap (λ ds. length (lines_from [] (behind_columns r.column ds) es r.mark r.content ++ lines_of_rows fr.gone)) (sym dash.2) ∙ fr.size;
+              size_is = ap (λ ds. length (lines_from [] (after_columns r.column ds) es r.mark r.content ++ lines_of_rows fr.gone)) (sym dash.2) ∙ fr.size;
             })
             (readable _ _ text piece less)),
         record {
@@ -231,7 +231,7 @@ module _ (c : Cut) (k : ℕ) (y : Step) (ys ss : List Step) (s : Step) (x : Text
           lead = lead;
           trail = ft.break;
           before_is = front ∙ (ap (λ (u : List ℕ). u ++ (45 ∷ [])) (front_row (dashes_front r dash.0)) ∙ append_assoc (a.start ++ rows_text fr.front []) (dashes_front r dash.0) (45 ∷ []));
-          behind_is = ft.behind;
+          following_is = ft.after;
           begins = search (rules, arith, row_long, dashes_front, dash_front, length-append);
           ends = inl ft.one;
         },
@@ -243,19 +243,19 @@ module _ (c : Cut) (k : ℕ) (y : Step) (ys ss : List Step) (s : Step) (x : Text
       let b : Row = fr.next in
       let new : Row = moved_up r ns b in
       let u : List ℕ = rows_text fr.back z in
-      let behind = rows_after unlimited fr.front (r ∷ (fr.gone ++ (b ∷ fr.back))) p.end rest (subst (λ (rs : List Row). AreRows unlimited rs p.end rest) fr.rows_are are) in
-      let own = rows_after (limit_after r) fr.gone (b ∷ fr.back) p.end rest behind.1 in
-      let g : NoGap b u = no_gap (asked_behind (limit_after r) fr.gone) b u own.0 none in
-      let after : (cut no_space next).1 ≡ behind_indent b u = ap (λ (v : List ℕ × List ℕ). v.1) g.indent in
+      let following = rows_after unlimited fr.front (r ∷ (fr.gone ++ (b ∷ fr.back))) p.end rest (subst (λ (rs : List Row). AreRows unlimited rs p.end rest) fr.rows_are are) in
+      let own = rows_after (limit_after r) fr.gone (b ∷ fr.back) p.end rest following.1 in
+      let g : NoGap b u = no_gap (asked_after (limit_after r) fr.gone) b u own.0 none in
+      let after : (cut no_space next).1 ≡ after_indent b u = ap (λ (v : List ℕ × List ℕ). v.1) g.indent in
       let text : cut_text (put_document k (inserted fr.front (new ∷ []) fr.back p) c) ≡ e.piece.before ++ (cut no_space next).1 =
       a.put (inserted fr.front (new ∷ []) fr.back p)
       ∙ (ap (λ (v : List ℕ). a.start ++ v) (inserted_text fr.front fr.back new p rest ∙ ap (rows_text fr.front) (moved_text r b ns u))
-      ∙ (front_text a.start fr.front (dashes_front r ns) (behind_indent b u) ∙ (λ i. sym ft.before i ++ sym after i))) in
-      let lines : IsPiece next = piece_back ft.break next (ascii_break ft.break ft.one) (subst IsPiece ft.behind behind_piece) in
-      let indented : IsPiece (replicate b.column 32 ++ behind_indent b u) = subst (λ (v : List ℕ). IsPiece (v ++ (replicate b.column 32 ++ behind_indent b u))) g.gap lines in
+      ∙ (front_text a.start fr.front (dashes_front r ns) (after_indent b u) ∙ (λ i. sym ft.before i ++ sym after i))) in
+      let lines : IsPiece next = piece_back ft.break next (ascii_break ft.break ft.one) (subst IsPiece ft.after after_piece) in
+      let indented : IsPiece (replicate b.column 32 ++ after_indent b u) = subst (λ (v : List ℕ). IsPiece (v ++ (replicate b.column 32 ++ after_indent b u))) g.gap lines in
       let piece : IsPiece (e.piece.before ++ (cut no_space next).1) =
-      pieces_joined e.piece.before (cut no_space next).1 before_piece (subst IsPiece (sym after) (piece_back (replicate b.column 32) (behind_indent b u) (spaces_piece b.column).utf8 indented)) in
-      let own_next : behind_indent b u ≡ behind_indent b [] ++ u = row_then (record b { gap = []; column = 0 }) [] u in (
+      pieces_joined e.piece.before (cut no_space next).1 before_piece (subst IsPiece (sym after) (piece_back (replicate b.column 32) (after_indent b u) (spaces_piece b.column).utf8 indented)) in
+      let own_next : after_indent b u ≡ after_indent b [] ++ u = row_then (record b { gap = []; column = 0 }) [] u in (
         taken new fr.back _ text (dashes_first _ r.column ns b.dashes b.mark b.content (lines_of_rows fr.back) ns_some)
             (moved_changed t c k p ss s w.h w.f old w.entry go.0 go.1 fr.front fr.gone fr.back r b ns es fr.rows_are
             (record { dashes = sym (take-append-drop q.line r.dashes); some = ns_some; column = fr.column; entry = fr.entry }) g.gap (record { before_are = fr.before; size_is = fr.size })
@@ -272,11 +272,11 @@ module _ (c : Cut) (k : ℕ) (y : Step) (ys ss : List Step) (s : Step) (x : Text
           start = a.start;
           put = a.put;
           lead = dashes_front r ns;
-          trail = behind_indent b [];
+          trail = after_indent b [];
           before_is = ft.before ∙ front_row (dashes_front r ns);
-          behind_is = after ∙ own_next;
+          following_is = after ∙ own_next;
           begins = row_long;
-          ends = inr (r ∷ fr.gone, b, refl, omega (arith, length-append b.gap (behind_gap b []), length-append (replicate b.column 32) (behind_indent b [])));
+          ends = inr (r ∷ fr.gone, b, refl, omega (arith, length-append b.gap (following_gap b []), length-append (replicate b.column 32) (after_indent b [])));
         },
       )
 
@@ -287,13 +287,13 @@ module _ (c : Cut) (k : ℕ) (y : Step) (ys ss : List Step) (s : Step) (x : Text
   out_is_so b is = sym e.out ∙ (out_as ∙ ap either is)
 
   by_gap : (b : Bool) → begins_gap next ≡ b → IsFirstGone c k (ss ++ (s ∷ [])) x
-  by_gap true is = subst (IsFirstGone c k (ss ++ (s ∷ []))) (sym (out_is_so true is)) (dropped (subst (λ (o : TextPiece). length (o.before ++ o.behind) ≤ text_limit) (out_is_so true is) size))
-  by_gap false is = subst (IsFirstGone c k (ss ++ (s ∷ []))) (sym (out_is_so false is)) (moved is (subst (λ (o : TextPiece). length (o.before ++ o.behind) ≤ text_limit) (out_is_so false is) size))
+  by_gap true is = subst (IsFirstGone c k (ss ++ (s ∷ []))) (sym (out_is_so true is)) (dropped (subst (λ (o : TextPiece). length (o.before ++ o.after) ≤ text_limit) (out_is_so true is) size))
+  by_gap false is = subst (IsFirstGone c k (ss ++ (s ∷ []))) (sym (out_is_so false is)) (moved is (subst (λ (o : TextPiece). length (o.before ++ o.after) ≤ text_limit) (out_is_so false is) size))
 
   pub first_taken : IsFirstGone c k (ss ++ (s ∷ [])) x
   first_taken = by_gap (begins_gap next) refl
 
-pub first_gone : (c : Cut) (k : ℕ) (steps : List Step) (x : TextPiece) → read_at (cut_text c) ≡ Some c → first_removal k steps c ≡ Some x → MayTakeOut c k steps → length (x.before ++ x.behind) ≤ text_limit → IsFirstGone c k steps x
+pub first_gone : (c : Cut) (k : ℕ) (steps : List Step) (x : TextPiece) → read_at (cut_text c) ≡ Some c → first_removal k steps c ≡ Some x → MayTakeOut c k steps → length (x.before ++ x.after) ≤ text_limit → IsFirstGone c k steps x
 first_gone c k steps x read e may size = go steps refl (out_is c k steps x e)
   where
     go : (ts : List Step) → steps ≡ ts → IsFirstOut c k steps x → IsFirstGone c k steps x

@@ -7,8 +7,8 @@ use Rattle.yq_core.{specs.Answers.◌>>=◌, specs.Paths.Step, proofs.Bools.bind
 use Rattle.yq_outline.{specs.Comments.head_comment, specs.Ends.{found_line, line_at_steps, lines_end}, specs.Group.{group, is_fine}}
 use Rattle.yq_outline.{specs.Outline.flatten, specs.Places.{lines_before, FoundLine, find}, specs.Lines.{dash_line, lines_of_rows}}
 use Rattle.yq_outline.proofs.RowLaws.{lines_count as lines_count_from}
-use Rattle.yq_row_table.{specs.Grammar.{unlimited, AreRows, limit_after}, specs.Exchange.asked_behind}
-use Rattle.yq_row_table.{specs.Rows.{Content, Nothing, Row, behind_columns, rows_text, Part}, proofs.seams.FrontSeams.rows_some}
+use Rattle.yq_row_table.{specs.Grammar.{unlimited, AreRows, limit_after}, specs.Exchange.asked_after}
+use Rattle.yq_row_table.{specs.Rows.{Content, Nothing, Row, after_columns, rows_text, Part}, proofs.seams.FrontSeams.rows_some}
 use Rattle.yq_documents.{specs.declared.path.Part.TheVariants.Entry, specs.Pieces.TextPiece, specs.LinesInRows.{RowLine, row_line}}
 use Rattle.yq_places.specs.PathPieces.{BlockEntry, found_entry, piece_in, piece_in_entry}
 use Rattle.yq_places.specs.PrintedLines.{PrintedLine, print_lines, printed_from, printed_lines, printed_row, line_in, run_piece}
@@ -36,7 +36,7 @@ dash_printed gap spaces column n = record { line = dash_line (head_comment gap) 
 record DashesPrinted (gap spaces : List ℕ) (column : ℕ) (ns es : List ℕ) (m : rows.RowMark) (c : Content) : Type 0 where
   pub lines : List PrintedLine
   pub count : length lines ≡ length ns
-  pub is : printed_from gap spaces column (ns ++ es) m c ≡ lines ++ printed_from [] [] (behind_columns column ns) es m c
+  pub is : printed_from gap spaces column (ns ++ es) m c ≡ lines ++ printed_from [] [] (after_columns column ns) es m c
 
 dashes_printed : (gap spaces : List ℕ) (column : ℕ) (ns es : List ℕ) (m : rows.RowMark) (c : Content) → 0 < length ns → DashesPrinted gap spaces column ns es m c
 dashes_printed gap spaces column [] es m c h = absurd (omega (arith, h))
@@ -67,7 +67,7 @@ pub record FirstText (start z : List ℕ) (q : RowLine) (front : List Row) (back
   pub before : x.before ≡ start ++ rows_text front (row_begin q)
   pub break : List ℕ
   pub one : IsOneBreak break
-  pub behind : x.behind ≡ break ++ rows_text back z
+  pub after : x.after ≡ break ++ rows_text back z
 
 module _ (p : Part) (start rest : List ℕ) (h : NodeLines) (f : FoundLine) (q : RowLine) (fr : FirstRows p h f q) (later : 0 < q.line) (n : ℕ) (number : n ≡ lines_before_entry h f)
     (row_line_is : row_line n p.rows ≡ Some q) (size : lines_end n (lines_of_rows p.rows) - n ≡ length (f.line ∷ flatten f.under)) (fine : is_fine (group (lines_of_rows p.rows)) ≡ true)
@@ -88,7 +88,7 @@ module _ (p : Part) (start rest : List ℕ) (h : NodeLines) (f : FoundLine) (q :
   es = drop q.line r.dashes
 
   abbrev column : ℕ
-  column = behind_columns r.column ns
+  column = after_columns r.column ns
 
   abbrev back : List Row
   back = fr.next ∷ fr.back
@@ -113,14 +113,14 @@ module _ (p : Part) (start rest : List ℕ) (h : NodeLines) (f : FoundLine) (q :
 
   one_break : IsOneBreak (lines_break own)
   one_break =
-      let behind : AreRows (asked_behind unlimited fr.front) (r ∷ (fr.gone ++ back)) p.end rest =
+      let after : AreRows (asked_after unlimited fr.front) (r ∷ (fr.gone ++ back)) p.end rest =
       rows_after unlimited fr.front (r ∷ (fr.gone ++ back)) p.end rest (subst (λ (rs : List Row). AreRows unlimited rs p.end rest) fr.rows_are are) in
-      let next : AreRows (asked_behind (limit_after r) fr.gone) back p.end rest = rows_after (limit_after r) fr.gone back p.end rest behind.1 in
-      rows_break (asked_behind unlimited fr.front) r fr.gone back p.end rest [] [] column es behind (rows_some (asked_behind (limit_after r) fr.gone) back p.end rest refl next)
+      let next : AreRows (asked_after (limit_after r) fr.gone) back p.end rest = rows_after (limit_after r) fr.gone back p.end rest after.1 in
+      rows_break (asked_after unlimited fr.front) r fr.gone back p.end rest [] [] column es after (rows_some (asked_after (limit_after r) fr.gone) back p.end rest refl next)
 
   -- line k with the m lines after it
   abbrev entry_at : ℕ → ℕ → PrintedLine → BlockEntry
-  entry_at k m l = record { before = start ++ print_lines (take k ls) []; line = l; under = take m (drop (suc k) ls); behind = print_lines (drop m (drop (suc k) ls)) z }
+  entry_at k m l = record { before = start ++ print_lines (take k ls) []; line = l; under = take m (drop (suc k) ls); after = print_lines (drop m (drop (suc k) ls)) z }
 
   -- a line that was found
   text_found : (y : Step) (ys : List Step) (g : FoundLine) (l : PrintedLine) → find y ys (group (lines_of_rows p.rows)) ≡ Some (g, []) → length (lines_before g.place) ≡ n → slice_get ls n ≡ Some l →
@@ -138,11 +138,11 @@ module _ (p : Part) (start rest : List ℕ) (h : NodeLines) (f : FoundLine) (q :
         before = search (rules, append_assoc, lines_then, row_begin, front_is);
         break = lines_break own;
         one = one_break;
-        behind = (λ i. lines_break (parts.0 i) ++ print_lines (parts.1 i) z) ∙ ap (λ (t : List ℕ). lines_break own ++ t) (rows_are back z);
+        after = (λ i. lines_break (parts.0 i) ++ print_lines (parts.1 i) z) ∙ ap (λ (t : List ℕ). lines_break own ++ t) (rows_are back z);
       }
 
   pub first_text : (y : Step) (ys : List Step) (x : TextPiece) → line_at_steps (y ∷ ys) (lines_of_rows p.rows) ≡ Some n →
-      piece_in Entry (y ∷ ys) (record { before = start; lines = printed_lines p.rows; behind = p.end ++ rest }) ≡ Some x →
+      piece_in Entry (y ∷ ys) (record { before = start; lines = printed_lines p.rows; after = p.end ++ rest }) ≡ Some x →
       FirstText start (p.end ++ rest) q fr.front (fr.next ∷ fr.back) x
   first_text y ys x line piece =
       let a = bind_some (find y ys (group (map line_in ls))) piece in
@@ -161,9 +161,9 @@ module _ (p : Part) (start rest : List ℕ) (h : NodeLines) (f : FoundLine) (q :
           (text_found y ys g l.0 found at (ap (slice_get ls) (sym same) ∙ l.1))
 
       go : (g : FoundLine) (more : List Step) → find y ys (group (lines_of_rows p.rows)) ≡ Some (g, more) → found_line g more ≡ Some n →
-          (found_entry (record { before = start; lines = ls; behind = z }) g >>= piece_in_entry Entry more) ≡ Some x → FirstText start z q fr.front back x
+          (found_entry (record { before = start; lines = ls; after = z }) g >>= piece_in_entry Entry more) ≡ Some x → FirstText start z q fr.front back x
       go g [] found at e =
-          let b = bind_some (found_entry (record { before = start; lines = ls; behind = z }) g) e in
+          let b = bind_some (found_entry (record { before = start; lines = ls; after = z }) g) e in
           let l = bind_some (slice_get ls (length (lines_before g.place))) b.1 in
           last g found (same_Some _ _ at) (length (lines_before g.place)) refl
           (ap (λ (o : Option PrintedLine). o >>= λ l. piece_in_entry Entry [] (entry_at (length (lines_before g.place)) (length (flatten g.under)) l)) l.1

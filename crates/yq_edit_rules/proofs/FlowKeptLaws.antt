@@ -44,14 +44,14 @@ left_fit : (k : ℕ) (rest : List ℕ) (s : Step) (g : List ℕ) (os : Items) (e
 left_fit k rest s g none e at h = absurd (none-some _ at)
 left_fit k rest s g (item key n sep os) e at h = go (is_here s (key_label (key_content key))) (λ x is. left_fit k rest (further s) (gap_of sep) os x is h.2) at
   where
-    behind : ((x : FlowEdit) → removing_from k rest (further s) (gap_of sep) os ≡ Some x → EachHasFitKeys x.items) →
+    after : ((x : FlowEdit) → removing_from k rest (further s) (gap_of sep) os ≡ Some x → EachHasFitKeys x.items) →
         (last_out k rest (further s) g key n sep os ≡ Some e) ⊎ (option_map (edit_from_item g key n sep) (removing_from k rest (further s) (gap_of sep) os) ≡ Some e) → EachHasFitKeys e.items
-    behind again at = search (rules, none-some, same_Some, cond_both, option_some)
+    after again at = search (rules, none-some, same_Some, cond_both, option_some)
 
     go : (b : Bool) → ((x : FlowEdit) → removing_from k rest (further s) (gap_of sep) os ≡ Some x → EachHasFitKeys x.items) →
         cond b (before_next k rest g key n sep os) (option_or (last_out k rest (further s) g key n sep os) (option_map (edit_from_item g key n sep) (removing_from k rest (further s) (gap_of sep) os))) ≡ Some e → EachHasFitKeys e.items
     go true again at = before_fit k rest g key n sep os e at h.2
-    go false again at = behind again (either _ _ at)
+    go false again at = after again (either _ _ at)
 
 pub left_keys : LeftKeys
 left_keys s w e at h = left_fit w.close w.rest s w.gap w.items e at h

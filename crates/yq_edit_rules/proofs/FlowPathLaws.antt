@@ -5,14 +5,14 @@ use Rattle.std.{proofs.lemmas.Option.none-some, specs.List.slice_get}
 use Rattle.yq_core.{specs.Paths.Step, proofs.Bools.bind_some, specs.Collections.{CollPieces, coll_along}, specs.Nodes.{FlowNode, node_text}}
 use Rattle.yq_outline.{specs.Group.level_or, specs.Outline.{Line, Outline, flatten}, specs.Places.{lines_before, lines_after, FoundLine}}
 use Rattle.yq_outline.{proofs.Decides.flatten-group, proofs.PlaceLaws.placed, specs.Lines.lines_of_rows}
-use Rattle.yq_row_table.specs.Exchange.{before_content, text_after_row, behind_row, exchange, with_content, with_content_at}
+use Rattle.yq_row_table.specs.Exchange.{before_content, text_after_row, after_row, exchange, with_content, with_content_at}
 use Rattle.yq_row_table.specs.Rows.{Content, Inline, Row, content_text, rows_text, Part, Cut, last, marked, cut_text}
-use Rattle.yq_row_table.{specs.Splices.{behind_part, nth_part}, specs.View.rows_of, proofs.PlaceLaws.{place, new_place}}
+use Rattle.yq_row_table.{specs.Splices.{after_part, nth_part}, specs.View.rows_of, proofs.PlaceLaws.{place, new_place}}
 use Rattle.yq_row_table.proofs.splices.SpliceTexts.{own_gap, own_end}
 use Rattle.yq_documents.{specs.Documents.document_parts, specs.Reading.part_outline, specs.LinesInRows.{row_line, document_row}}
 use Rattle.yq_documents.{specs.PartNumbers.{part_number, rows_to}, proofs.PartNumberLaws.part_there}
 use Rattle.yq_places.{specs.FlowNodes.{content_flow, find_head}, proofs.FlowPlaceLaws.mark_row_line, proofs.FoundEntries.middle}
-use Rattle.yq_edit_rules.{specs.Appends.inserted, specs.Changed.put_part, specs.DocumentRows.behind_document}
+use Rattle.yq_edit_rules.{specs.Appends.inserted, specs.Changed.put_part, specs.DocumentRows.after_document}
 use Rattle.yq_edit_rules.{specs.FlowRows.{InlineRow, FlowFound, RowTexts}, proofs.FlowLineLaws.{head_takes, head_whole}}
 use Rattle.yq_edit_rules.{proofs.LineLaws.row_line_splits, proofs.PartLaws.document_known}
 
@@ -22,9 +22,9 @@ row_there : (front : List Row) (r : Row) (back more : List Row) → slice_get ((
 row_there [] r back more = refl
 row_there (x ∷ front) r back more = row_there front r back more
 
-behind_there : (front : List Row) (r : Row) (back : List Row) (rest : List ℕ) → text_after_row (length front) (front ++ (r ∷ back)) rest ≡ rows_text back rest
-behind_there [] r back rest = refl
-behind_there (x ∷ front) r back rest = behind_there front r back rest
+after_there : (front : List Row) (r : Row) (back : List Row) (rest : List ℕ) → text_after_row (length front) (front ++ (r ∷ back)) rest ≡ rows_text back rest
+after_there [] r back rest = refl
+after_there (x ∷ front) r back rest = after_there front r back rest
 
 content_there : (front : List Row) (r : Row) (back : List Row) (x : Content) → with_content_at (length front) x (front ++ (r ∷ back)) ≡ front ++ (with_content x r ∷ back)
 content_there [] r back x = refl
@@ -38,7 +38,7 @@ more_there (x ∷ xs) ys a b = let same : (length (x ∷ xs) + a) + b ≡ suc ((
 
 pub record InCut (i : ℕ) (c : Cut) (p : Part) (front : List Row) (r : Row) (back : List Row) : Type 0 where
   pub there : slice_get (rows_of c) (rows_to i c + length front) ≡ Some r
-  pub behind : behind_row (rows_to i c + length front) c ≡ rows_text back (p.end ++ behind_part i c)
+  pub after : after_row (rows_to i c + length front) c ≡ rows_text back (p.end ++ after_part i c)
   pub exchanged : (x : Content) → exchange (rows_to i c + length front) x c ≡ put_part i (inserted front (with_content x r ∷ []) back p) c
 
 part_content : (front : List Row) (r : Row) (back : List Row) (end : List ℕ) (x : Content) →
@@ -50,7 +50,7 @@ last_row i front r back end =
     let j : 0 + length front ≡ length front = omega arith in
     record {
       there = ap (slice_get (front ++ (r ∷ back))) j ∙ (ap (λ (rs : List Row). slice_get rs (length front)) (sym (Rattle.std.proofs.Common.append-nil (front ++ (r ∷ back)))) ∙ row_there front r back []);
-      behind = ap (λ n. text_after_row n (front ++ (r ∷ back)) (end ++ [])) j ∙ behind_there front r back (end ++ []);
+      after = ap (λ n. text_after_row n (front ++ (r ∷ back)) (end ++ [])) j ∙ after_there front r back (end ++ []);
       exchanged = λ x. ap (λ n. exchange n x (last (record { rows = front ++ (r ∷ back); end = end }))) j ∙ ap last (part_content front r back end x);
     }
 
@@ -62,7 +62,7 @@ first_row front r back end marker c =
     let less = lt-ltb (length front) (length (front ++ (r ∷ back))) (omega (arith, length-append front (r ∷ back))) in
     record {
       there = ap (slice_get ((front ++ (r ∷ back)) ++ rows_of c)) j ∙ row_there front r back (rows_of c);
-      behind = ap (λ n. behind_row n (marked p marker c)) j ∙ (cond-true _ _ _ less ∙ behind_there front r back (end ++ (marker ++ cut_text c)));
+      after = ap (λ n. after_row n (marked p marker c)) j ∙ (cond-true _ _ _ less ∙ after_there front r back (end ++ (marker ++ cut_text c)));
       exchanged = λ x. ap (λ n. exchange n x (marked p marker c)) j ∙ (cond-true _ _ _ less ∙ ap (λ (q : Part). marked q marker c) (part_content front r back end x));
     }
 
@@ -84,12 +84,12 @@ pub row_texts : RowTexts
 row_texts c k p i there rows content =
     let h = row_in_cut c k p i.front i.row i.back there rows in
     let n : ℕ = document_row k c + length i.front in
-    let u : List ℕ = rows_text i.back (p.end ++ behind_document k c) in
-    let split : (m : FlowNode) → before_content n c ++ content_text (Inline i.space m i.tail) (behind_row n c) ≡ (before_content n c ++ i.space) ++ node_text m (i.tail ++ u) =
-    λ m. ap (λ (x : List ℕ). before_content n c ++ content_text (Inline i.space m i.tail) x) h.behind ∙ sym (append_assoc (before_content n c) i.space (node_text m (i.tail ++ u))) in
+    let u : List ℕ = rows_text i.back (p.end ++ after_document k c) in
+    let split : (m : FlowNode) → before_content n c ++ content_text (Inline i.space m i.tail) (after_row n c) ≡ (before_content n c ++ i.space) ++ node_text m (i.tail ++ u) =
+    λ m. ap (λ (x : List ℕ). before_content n c ++ content_text (Inline i.space m i.tail) x) h.after ∙ sym (append_assoc (before_content n c) i.space (node_text m (i.tail ++ u))) in
     record {
       before = before_content n c ++ i.space;
-      old = place c n i.row h.there ∙ (ap (λ (x : Content). before_content n c ++ content_text x (behind_row n c)) content ∙ split i.node);
+      old = place c n i.row h.there ∙ (ap (λ (x : Content). before_content n c ++ content_text x (after_row n c)) content ∙ split i.node);
       new = λ m. ap cut_text (sym (h.exchanged (Inline i.space m i.tail))) ∙ (new_place c n i.row (Inline i.space m i.tail) h.there ∙ split m);
     }
 
@@ -118,7 +118,7 @@ flow_found t c k steps w read e =
     let n : ℕ = length (lines_before f.place) in
     let s = bind_some (row_line n p.rows) x.2 in
     let a = row_line_splits n p.rows s.0 s.1 in
-    let y = in_content rest s.0.row.content (behind_row (document_row k c + s.0.before) c) w s.2 in
+    let y = in_content rest s.0.row.content (after_row (document_row k c + s.0.before) c) w s.2 in
     let i : InlineRow = record { front = a.front; row = s.0.row; back = a.back; space = y.space; node = y.node; tail = y.tail } in
     let h = row_in_cut c k p a.front s.0.row a.back d.1 a.rows_are in
     let lines : lines_of_rows p.rows ≡ lines_before f.place ++ (f.line ∷ (flatten f.under ++ (flatten f.after ++ lines_after f.place))) =

@@ -12,15 +12,15 @@ use Rattle.yq_outline.{specs.Comments.head_comment, specs.Group.level_or, specs.
 use Rattle.yq_outline.{specs.Outline.{Line, Outline, end, flatten}, specs.Places.{lines_before, lines_after, FoundLine}}
 use Rattle.yq_outline.{proofs.Decides.flatten-group, proofs.PlaceLaws.placed, proofs.Plug.allows_from}
 use Rattle.yq_outline.specs.Lines.{mark_line, lines_of_rows}
-use Rattle.yq_row_table.specs.Exchange.{allows_first, asked_behind, with_content}
+use Rattle.yq_row_table.specs.Exchange.{allows_first, asked_after, with_content}
 use Rattle.yq_row_table.specs.Grammar.{IsContent, IsMark, IsRow, Limit, AreRows, unlimited, is_more, is_plain_content, no_rows}
 use Rattle.yq_row_table.specs.Rows.{Content, Inline, Row, content_text, mark_column, mark_text, parent_indent, rows_text, Part, Cut}
 use Rattle.yq_row_table.{specs.Seams.TakesPlace, specs.Splices.first_gap, proofs.AlikeRows.dashes_text_alike, proofs.ExchangeLaws.mark_kept}
 use Rattle.yq_row_table.{proofs.RowPlaces.takes_place, proofs.seams.SeamLaws.rows_drop, proofs.splices.SpliceTexts.own_gap}
 use Rattle.yq_documents.{specs.Documents.{HaveFitKeys, HasShortRoot}, specs.Reading.part_outline}
 use Rattle.yq_places.{proofs.FlowPieces.{named_is, none_anchored, twice}, proofs.RemovalLines.front_some}
-use Rattle.yq_edit_rules.{specs.DocumentRows.{Known, behind_document}, specs.FlowChanges.with_head}
-use Rattle.yq_edit_rules.{specs.FlowRows.{InlineRow, row_collection, with_node, IsFlowAt, FlowStands, FlowEdited}, specs.Moved.dash_lines}
+use Rattle.yq_edit_rules.{specs.DocumentRows.{Known, after_document}, specs.FlowChanges.with_head}
+use Rattle.yq_edit_rules.{specs.FlowRows.{InlineRow, row_collection, with_node, IsFlowAt, FlowIsThere, FlowEdited}, specs.Moved.dash_lines}
 use Rattle.yq_edit_rules.{specs.RowComments.TakesRow, proofs.AnchorLaws.{fit_parts, fit_from}, proofs.FirstRowLaws.short_first}
 use Rattle.yq_edit_rules.{proofs.FlowChangeLaws.none_under, proofs.FlowLineLaws.{head_whole, flow_line_changed}}
 use Rattle.yq_edit_rules.proofs.LineLaws.{above_mark, dashes_count}
@@ -85,18 +85,18 @@ anchor_head (anchored n g node) h e = named_is n (tree_of node) ∙ (ap (outline
 
 -- the row
 row_is : (t : List ℕ) (c : Cut) (k : ℕ) (p : Part) (i : InlineRow) → Rattle.yq_edit_rules.specs.DocumentRows.IsDocumentPart t c k p → p.rows ≡ i.front ++ (i.row ∷ i.back) →
-    IsRow (asked_behind unlimited i.front) i.row (rows_text i.back (p.end ++ behind_document k c))
+    IsRow (asked_after unlimited i.front) i.row (rows_text i.back (p.end ++ after_document k c))
 row_is t c k p i old there =
-    let rest : List ℕ = behind_document k c in
+    let rest : List ℕ = after_document k c in
     let all = rows_drop (length i.front) p.rows unlimited p.end rest (part_rows t c k p old (document_known t c k p old).cut) in
-    let front = subst (λ (fs : List Row). AreRows (asked_behind unlimited fs) (Rattle.std.specs.Prelude.drop (length i.front) p.rows) p.end rest) (take_front p i.front (i.row ∷ i.back) there) all in
-    (subst (λ (bs : List Row). AreRows (asked_behind unlimited i.front) bs p.end rest) (drop_front p i.front (i.row ∷ i.back) there) front).0
+    let front = subst (λ (fs : List Row). AreRows (asked_after unlimited fs) (Rattle.std.specs.Prelude.drop (length i.front) p.rows) p.end rest) (take_front p i.front (i.row ∷ i.back) there) all in
+    (subst (λ (bs : List Row). AreRows (asked_after unlimited i.front) bs p.end rest) (drop_front p i.front (i.row ∷ i.back) there) front).0
 
 inline_is : (i : InlineRow) (limit : Limit) (u : List ℕ) → IsRow limit i.row u → i.row.content ≡ Inline i.space i.node i.tail → IsContent (parent_indent i.row) (Inline i.space i.node i.tail) u
 inline_is i limit u h e = subst (λ (x : Content). IsContent (parent_indent i.row) x u) e h.content
 
-pub flow_stands : FlowStands
-flow_stands t c k p steps f rest i w old at = record { inline = (inline_is i _ _ (row_is t c k p i old at.rows_are) at.content_is).1; found = at.along }
+pub flow_is_there : FlowIsThere
+flow_is_there t c k p steps f rest i w old at = record { inline = (inline_is i _ _ (row_is t c k p i old at.rows_are) at.content_is).1; found = at.along }
 
 mark_alike : (mark : rows.RowMark) (t u : List ℕ) → Alike (Some false) t u → Alike (Some false) (mark_text mark t) (mark_text mark u)
 mark_alike rows.Bare t u h = h
@@ -115,7 +115,7 @@ row_takes limit i m u h e holds inline =
     (search (rules, and_parts, mark_kept, holds.more, sym (alike_separates (Some false) _ _ text), subst (λ (x : Content). IsMark r.mark x u) e h.mark))
     (old.0, inline, old.2)
 
-plain_next : (n : ℤ) (space tail : List ℕ) (m : FlowNode) (back : List Row) → is_plain_content m ≡ false → allows_first (Rattle.yq_row_table.specs.Grammar.limit_behind n (Inline space m tail)) back ≡ true
+plain_next : (n : ℤ) (space tail : List ℕ) (m : FlowNode) (back : List Row) → is_plain_content m ≡ false → allows_first (Rattle.yq_row_table.specs.Grammar.limit_after_content n (Inline space m tail)) back ≡ true
 plain_next n space tail m back e = search rules
 
 -- The line of the row's mark is the one at the path, and the document's lines with another line there.
@@ -146,9 +146,9 @@ flow_edited t c k p steps f rest i w e h old at edited keys sound text =
     let m : FlowNode = edited_node (row_collection c k p i rest w) e in
     let b : Row = with_content (Inline i.space m i.tail) r in
     let q : Part = with_node p i m in
-    let u : List ℕ = rows_text i.back (p.end ++ behind_document k c) in
+    let u : List ℕ = rows_text i.back (p.end ++ after_document k c) in
     let holds = node_holds rest i.node (i.tail ++ u) w e.gap e.items at.along in
-    let takes : TakesRow p i.front r b i.back (behind_document k c) = search (rules, row_takes, row_is, plain_next) in
+    let takes : TakesRow p i.front r b i.back (after_document k c) = search (rules, row_takes, row_is, plain_next) in
     let there : q.rows ≡ i.front ++ (b ∷ i.back) = ap (λ (rs : List Row). i.front ++ (b ∷ rs)) (own_gap i.back p.end) in
     let cut = document_replaced t c k p i.front (r ∷ []) i.back (b ∷ []) (first_gap i.back p.end) old (row_replaces t c k p i.front i.back r b old takes) text in
     let fits = fit_parts i.front (r ∷ i.back) (subst HaveFitKeys at.rows_are known.document.keys) in

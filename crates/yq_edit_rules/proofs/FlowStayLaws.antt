@@ -7,8 +7,8 @@ use Rattle.yq_core.{specs.Answers.◌>>=◌, specs.Paths.Step, specs.Collections
 use Rattle.yq_core.specs.Nodes.{FlowNode, Items}
 use Rattle.yq_outline.{specs.Group.group, specs.Outline.Outline, specs.Places.{below, FoundLine, place_inside, lines_before}}
 use Rattle.yq_outline.specs.Lines.{head_of, lines_of_rows}
-use Rattle.yq_row_table.{specs.Exchange.{behind_row, with_content}, specs.Grammar.{begins_document, no_rows}}
-use Rattle.yq_row_table.{specs.Rows.{Content, Inline, Row, Part, Cut, last, marked, rows_text}, specs.Splices.behind_part}
+use Rattle.yq_row_table.{specs.Exchange.{after_row, with_content}, specs.Grammar.{begins_document, no_rows}}
+use Rattle.yq_row_table.{specs.Rows.{Content, Inline, Row, Part, Cut, last, marked, rows_text}, specs.Splices.after_part}
 use Rattle.yq_row_table.proofs.splices.SpliceTexts.{own_gap, own_end}
 use Rattle.yq_documents.{specs.Documents.{begins_bare, document_parts, has_begin}, specs.PartNumbers.{number_from, part_number}}
 use Rattle.yq_documents.{specs.Reading.part_outline, specs.LinesInRows.{RowLine, document_row, row_line}}
@@ -16,8 +16,8 @@ use Rattle.yq_places.specs.FlowNodes.{bare_line, content_flow, find_head, flow_c
 use Rattle.yq_places.{specs.FlowViews.LeadsToHead, specs.NodeReading.head_line_of, proofs.FlowNodeLaws.{collection_is, rows_collection}}
 use Rattle.yq_places.{proofs.FlowViewLaws.{head_found, numbered}, proofs.RemovalLines.front_some, proofs.WalkDocuments.row_line_number}
 use Rattle.yq_places.proofs.RemovalViewLaws.{slice_seam}
-use Rattle.yq_edit_rules.{specs.Changed.{put_document, put_part}, specs.DocumentRows.behind_document}
-use Rattle.yq_edit_rules.{specs.FlowRows.{FlowAt, InlineRow, behind_node, with_node}, specs.Rooms.row_shape}
+use Rattle.yq_edit_rules.{specs.Changed.{put_document, put_part}, specs.DocumentRows.after_document}
+use Rattle.yq_edit_rules.{specs.FlowRows.{FlowAt, InlineRow, text_after_node, with_node}, specs.Rooms.row_shape}
 use Rattle.yq_edit_rules.{proofs.ChangedLaws.{document_put, first_stays, nth_changed}, proofs.FlowKeptLaws.one_other}
 use Rattle.yq_edit_rules.{proofs.FlowPathLaws.{InCut, row_in_cut}, proofs.FlowRowLaws.node_holds}
 use Rattle.yq_edit_rules.proofs.ShapeLaws.{before_strip, find_strip, group_strip, head_strip, rows_strip, strip_found, strip_outline}
@@ -63,11 +63,11 @@ numbers_stay p q h steps =
 -- ---- in a cut
 
 -- what comes after a document
-behind_stays : (is : Bool) (k : ℕ) (q : Part) (c : Cut) → behind_part (number_from is k (put_part (number_from is k c) q c)) (put_part (number_from is k c) q c) ≡ behind_part (number_from is k c) c
-behind_stays is k q (last p) = refl
-behind_stays true zero q (marked p marker c) = refl
-behind_stays true (suc k) q (marked p marker c) = behind_stays (begins_document marker) k q c
-behind_stays false k q (marked p marker c) = behind_stays (begins_document marker) k q c
+after_stays : (is : Bool) (k : ℕ) (q : Part) (c : Cut) → after_part (number_from is k (put_part (number_from is k c) q c)) (put_part (number_from is k c) q c) ≡ after_part (number_from is k c) c
+after_stays is k q (last p) = refl
+after_stays true zero q (marked p marker c) = refl
+after_stays true (suc k) q (marked p marker c) = after_stays (begins_document marker) k q c
+after_stays false k q (marked p marker c) = after_stays (begins_document marker) k q c
 
 module _ (c : Cut) (k : ℕ) (steps : List Step) (w : CollPieces) (at : FlowAt c k steps w) (gap : List ℕ) (is : Items) where
   abbrev i : InlineRow
@@ -97,12 +97,12 @@ module _ (c : Cut) (k : ℕ) (steps : List Step) (w : CollPieces) (at : FlowAt c
   in_new : InCut (part_number k new) new q i.front r i.back
   in_new = row_in_cut new k q i.front r i.back there rows_are
 
-  same_behind : behind_document k new ≡ behind_document k c
-  same_behind =
-      ap (λ (b : Bool). behind_part (number_from b k new) new) (first_stays c k at.part q at.there keeps) ∙ behind_stays (begins_bare c || not (has_begin c)) k q c
+  same_after : after_document k new ≡ after_document k c
+  same_after =
+      ap (λ (b : Bool). after_part (number_from b k new) new) (first_stays c k at.part q at.there keeps) ∙ after_stays (begins_bare c || not (has_begin c)) k q c
 
   headed : is_some (head_of (Inline i.space m i.tail)) ≡ is_some (head_of i.row.content)
-  headed = search (rules, node_holds at.rest i.node (behind_node c k at.part i) w gap is at.at.along)
+  headed = search (rules, node_holds at.rest i.node (text_after_node c k at.part i) w gap is at.at.along)
 
   shapes : map row_shape q.rows ≡ map row_shape at.part.rows
   shapes = search (rules, headed, rows_are, one_other)
@@ -131,24 +131,24 @@ module _ (c : Cut) (k : ℕ) (steps : List Step) (w : CollPieces) (at : FlowAt c
     leads_there : (ss : List Step) → head_line_of (stem ++ ss) (lines_of_rows at.part.rows) ≡ Some (number, ss)
     leads_there ss = leads ss ∙ ap (λ (n : ℕ). Some (n, ss)) same_number
 
-    leads_behind : (ss : List Step) → head_line_of (stem ++ ss) (lines_of_rows q.rows) ≡ Some (number, ss)
-    leads_behind ss = numbers_stay at.part q shapes (stem ++ ss) ∙ leads_there ss
+    leads_after : (ss : List Step) → head_line_of (stem ++ ss) (lines_of_rows q.rows) ≡ Some (number, ss)
+    leads_after ss = numbers_stay at.part q shapes (stem ++ ss) ∙ leads_there ss
 
-    pub head_behind : LeadsToHead new k stem
-    head_behind = record { part = q; there = there; number = number; leads = leads_behind }
+    pub head_after : LeadsToHead new k stem
+    head_after = record { part = q; there = there; number = number; leads = leads_after }
 
-    pub collection_before : (ss : List Step) → flow_collection k (stem ++ ss) c ≡ coll_along ss i.node (behind_node c k at.part i)
+    pub collection_before : (ss : List Step) → flow_collection k (stem ++ ss) c ≡ coll_along ss i.node (text_after_node c k at.part i)
     collection_before ss =
         sym (collection_is c k (stem ++ ss))
         ∙ (ap (λ (o : Option Part). o >>= λ p. rows_collection (document_row k c) c p.rows (stem ++ ss)) at.there
         ∙ (ap (λ (o : Option (ℕ × List Step)). o >>= λ x. line_collection (document_row k c) c at.part.rows x.0 x.1) (leads_there ss)
-        ∙ (ap (λ (o : Option RowLine). o >>= λ s. content_flow ss s.row.content (behind_row (document_row k c + s.before) c)) (line_there at.part.rows i.row.content at.at.rows_are)
-        ∙ λ j. content_flow ss (at.at.content_is j) ((row_in_cut c k at.part i.front i.row i.back at.there at.at.rows_are).behind j))))
+        ∙ (ap (λ (o : Option RowLine). o >>= λ s. content_flow ss s.row.content (after_row (document_row k c + s.before) c)) (line_there at.part.rows i.row.content at.at.rows_are)
+        ∙ λ j. content_flow ss (at.at.content_is j) ((row_in_cut c k at.part i.front i.row i.back at.there at.at.rows_are).after j))))
 
-    pub collection_behind : (ss : List Step) → flow_collection k (stem ++ ss) new ≡ coll_along ss m (behind_node c k at.part i)
-    collection_behind ss =
+    pub collection_after : (ss : List Step) → flow_collection k (stem ++ ss) new ≡ coll_along ss m (text_after_node c k at.part i)
+    collection_after ss =
         sym (collection_is new k (stem ++ ss))
         ∙ (ap (λ (o : Option Part). o >>= λ p. rows_collection (document_row k new) new p.rows (stem ++ ss)) there
-        ∙ (ap (λ (o : Option (ℕ × List Step)). o >>= λ x. line_collection (document_row k new) new q.rows x.0 x.1) (leads_behind ss)
-        ∙ (ap (λ (o : Option RowLine). o >>= λ s. content_flow ss s.row.content (behind_row (document_row k new + s.before) new)) (line_there q.rows (Inline i.space m i.tail) rows_are)
-        ∙ λ j. coll_along ss m (i.tail ++ (in_new.behind ∙ (λ j. rows_text i.back (own_end i.back at.part.end j ++ same_behind j))) j))))
+        ∙ (ap (λ (o : Option (ℕ × List Step)). o >>= λ x. line_collection (document_row k new) new q.rows x.0 x.1) (leads_after ss)
+        ∙ (ap (λ (o : Option RowLine). o >>= λ s. content_flow ss s.row.content (after_row (document_row k new + s.before) new)) (line_there q.rows (Inline i.space m i.tail) rows_are)
+        ∙ λ j. coll_along ss m (i.tail ++ (in_new.after ∙ (λ j. rows_text i.back (own_end i.back at.part.end j ++ same_after j))) j))))

@@ -4,15 +4,15 @@ use Rattle.std.{proofs.Common.{⊎_elim, replicate}, proofs.lemmas.Bool.{false�
 use Rattle.yq_core.{specs.Block.{BlockText, RawLines, keeps}, specs.BlockRepair.{AreGap, is_short, is_outdented_comment, repair}}
 use Rattle.yq_core.{specs.Lines.{is_hash, is_blank}, specs.Text.{is_break, is_empty, is_line, joined, text_lines, past_white}}
 use Rattle.yq_core.{proofs.LineLaws.lines_again, proofs.BlockRepairText.{line_past, line_spaces}}
-use Rattle.yq_outline.{specs.Comments.{are_comments, head_comment, last_comments}, proofs.HeadLaws.{comments_behind, head_repaired}}
+use Rattle.yq_outline.{specs.Comments.{are_comments, head_comment, last_comments}, proofs.HeadLaws.{comments_after, head_repaired}}
 use Rattle.yq_row_table.{specs.Gap.{IsGapLine, AreGapLines, IsGap}, specs.Removal.{hold_comment, seam_gap}}
 use Rattle.yq_row_table.{proofs.seams.GapSeams.{gap_kinds, gap_lines_of}, proofs.seams.GapFronts.lines_joined_of}
-use Rattle.yq_row_table.{proofs.NothingLaws.some_behind, proofs.seams.SeamLaws.line_by_break, proofs.EmptyTexts.none_is}
+use Rattle.yq_row_table.{proofs.NothingLaws.some_after, proofs.seams.SeamLaws.line_by_break, proofs.EmptyTexts.none_is}
 use Rattle.yq_documents.specs.Pieces.{before_run}
 
 -- the head comment of a gap, in front of which lines are that end in no comment
 pub head_joined : (kept next x : List ℕ) → IsGap kept x → is_empty x ≡ false → head_comment kept ≡ [] → head_comment (kept ++ next) ≡ head_comment next
-head_joined kept next x k some none = ap last_comments (lines_joined_of kept next x some k) ∙ comments_behind (text_lines kept) (text_lines next) none
+head_joined kept next x k some none = ap last_comments (lines_joined_of kept next x some k) ∙ comments_after (text_lines kept) (text_lines next) none
 
 -- the lines before the run that ends a gap
 all_before : (ls : RawLines) → are_comments (before_run ls) ≡ true → are_comments ls ≡ true
@@ -47,7 +47,7 @@ gap_line l rest some h = ⊎_elim {0, 0, 0}
 
 gap_lines : (ls : RawLines) (rest : List ℕ) → is_empty rest ≡ false → AreGapLines ls rest → AreLines ls
 gap_lines [] rest some h = tt
-gap_lines (l ∷ ls) rest some h = (gap_line l (joined ls ++ rest) (some_behind (joined ls) rest some) h.0, gap_lines ls rest some h.1)
+gap_lines (l ∷ ls) rest some h = (gap_line l (joined ls ++ rest) (some_after (joined ls) rest some) h.0, gap_lines ls rest some h.1)
 
 repaired_lines : (keep : Bool) (m column : ℕ) (ls : RawLines) → AreLines ls → AreLines (repair keep m column ls)
 unfolding repair
@@ -61,7 +61,7 @@ repaired_lines false m column (l ∷ ls) h = ⊎_elim {0, 0, 0}
 -- The gap that stays has the head comment of the next one, where something comes after that.
 pub head_left : (o : Option BlockText) (column : ℕ) (ks : RawLines) (x next rest : List ℕ) → AreGapLines ks x → is_empty x ≡ false → last_comments ks ≡ [] → IsGap next rest → is_empty rest ≡ false →
     head_comment (seam_gap o column (joined ks) next) ≡ head_comment next
-head_left o column ks x next rest k some none n behind = go o
+head_left o column ks x next rest k some none n after = go o
   where
     kept : IsGap (joined ks) x
     kept = record { lines = ks; spelled = refl; each = k }
@@ -76,7 +76,7 @@ head_left o column ks x next rest k some none n behind = go o
     go None = head_joined (joined ks) next x kept some bare
     go (Some b) =
         let mended : RawLines = repair (keeps b.chomping) b.indent.columns column (text_lines next) in
-        let lines : AreLines (text_lines next) = subst AreLines (sym own) (gap_lines n.lines rest behind n.each) in
+        let lines : AreLines (text_lines next) = subst AreLines (sym own) (gap_lines n.lines rest after n.each) in
         cond_both (hold_comment (text_lines (joined ks))) (joined ks ++ next) (joined ks ++ joined mended) (λ g. head_comment g ≡ head_comment next)
         (λ _. head_joined (joined ks) next x kept some bare)
         (λ _. head_joined (joined ks) (joined mended) x kept some bare

@@ -1,22 +1,22 @@
 -- Head comments of items and entries, put and taken away.
 use Rattle.std.proofs.Common.{◌≡◌, ℕ, zero, suc, ◌+◌, ◌<◌, List, [], ◌∷◌, ◌++◌, length, take, Option, Some, None, true, false, refl, sym}
 use Rattle.std.{proofs.Common.{ap, ◌∙◌, subst, rules, append_assoc, replicate}, proofs.lemmas.Bool.{lt-ltb, and_from, cases_Bool}}
-use Rattle.yq_core.{specs.Block.{BlockText, RawLines, ends_block, keeps}, specs.BlockRepair.is_behind}
+use Rattle.yq_core.{specs.Block.{BlockText, RawLines, ends_block, keeps}, specs.BlockRepair.comes_later}
 use Rattle.yq_core.{specs.declared.block_lines.TextIndent.TextIndent, specs.Text.{is_empty, joined, put_byte, text_lines}}
-use Rattle.yq_core.{proofs.BlockRepairLaws.ends_behind, proofs.SpaceLaws.{prefix_none, spaces_front, drop_front as spaces_drop}}
+use Rattle.yq_core.{proofs.BlockRepairLaws.following_ends, proofs.SpaceLaws.{prefix_none, spaces_front, drop_front as spaces_drop}}
 use Rattle.yq_outline.{specs.Comments.{head_comment, last_comments}, specs.Group.level_or, specs.Laws.with_lines}
 use Rattle.yq_outline.{specs.Lines.{mark_line, dash_line, lines_from, lines_of_rows}, specs.Outline.{Line, level, flatten, label}}
 use Rattle.yq_outline.proofs.Decides.{flatten-group}
-use Rattle.yq_row_table.{specs.Exchange.asked_behind, specs.Gap.{AreGapLines, IsGap}, specs.Grammar.{Limit, unlimited, AreRows, no_rows}}
-use Rattle.yq_row_table.{specs.Rows.{Row, behind_gap, rows_text, Part}, specs.Seams.are_seamed, specs.Removal.last_block}
+use Rattle.yq_row_table.{specs.Exchange.asked_after, specs.Gap.{AreGapLines, IsGap}, specs.Grammar.{Limit, unlimited, AreRows, no_rows}}
+use Rattle.yq_row_table.{specs.Rows.{Row, following_gap, rows_text, Part}, specs.Seams.are_seamed, specs.Removal.last_block}
 use Rattle.yq_row_table.{proofs.AlikeBlocks.put_first, proofs.seams.GapSeams.{gap_lines_of, lines_before}}
 use Rattle.yq_row_table.{proofs.seams.GapFronts.{ends_blank, ends_comment, gap_joined}, proofs.seams.LessLaws.starts_less}
-use Rattle.yq_row_table.{proofs.NothingLaws.some_behind, proofs.seams.BlockFronts.{gap_front, last_none}, proofs.RowAgain.row_starts}
-use Rattle.yq_row_table.{proofs.seams.SeamLaws.rows_drop, proofs.seams.FrontSeams.{behind_row_some, seams_any, seams_were}}
+use Rattle.yq_row_table.{proofs.NothingLaws.some_after, proofs.seams.BlockFronts.{gap_front, last_none}, proofs.RowAgain.row_starts}
+use Rattle.yq_row_table.{proofs.seams.SeamLaws.rows_drop, proofs.seams.FrontSeams.{after_row_some, seams_any, seams_were}}
 use Rattle.yq_row_table.proofs.splices.PartPlaces.{part_in}
 use Rattle.yq_edit_rules.{proofs.GapLaws.{head_joined, none_before}, specs.Siblings.put_lines, proofs.BlockChangeLaws.entry_relabelled}
-use Rattle.yq_edit_rules.{specs.Heads.{IsHeadCommentRun, with_run, rerun, HeadCommented}, specs.LineRows.{StandApart, AreClosed}}
-use Rattle.yq_edit_rules.{specs.DocumentRows.{behind_document, RowsFit}, proofs.ApartLaws.even_closed, proofs.AppendLaws.block_seam}
+use Rattle.yq_edit_rules.{specs.Heads.{IsHeadCommentRun, with_run, rerun, HeadCommented}, specs.LineRows.{AreApartLines, AreClosed}}
+use Rattle.yq_edit_rules.{specs.DocumentRows.{after_document, RowsFit}, proofs.ApartLaws.even_closed, proofs.AppendLaws.block_seam}
 use Rattle.yq_edit_rules.proofs.ColumnLaws.{apart_first, block_is_deeper, last_closed}
 use Rattle.yq_edit_rules.proofs.PartLaws.{part_numbered, document_known, document_spliced, is_put, take_front, drop_front}
 use Rattle.yq_edit_rules.proofs.CommentPutLaws.{one_line}
@@ -35,8 +35,8 @@ unfolding text_lines
 first zero t = let p = put_first 35 t in record { line = p.line; lines = p.lines; is = p.is }
 first (suc n) t = let p = first n t in record { line = p.line; lines = p.lines; is = ap (put_byte 32) p.is }
 
-hash_less : (f : TextIndent) (n : ℕ) (t : List ℕ) → n < f.columns → is_behind f (text_lines (replicate n 32 ++ (35 ∷ t))) ≡ true
-hash_less f n t less = let p = first n t in ap (is_behind f) p.is ∙ (search (rules, prefix_none, spaces_front, spaces_drop, lt-ltb, and_from, less))
+hash_less : (f : TextIndent) (n : ℕ) (t : List ℕ) → n < f.columns → comes_later f (text_lines (replicate n 32 ++ (35 ∷ t))) ≡ true
+hash_less f n t less = let p = first n t in ap (comes_later f) p.is ∙ (search (rules, prefix_none, spaces_front, spaces_drop, lt-ltb, and_from, less))
 
 block_was : (front : List Row) (b : BlockText) (u : List ℕ) → last_block front ≡ Some b → are_seamed front u ≡ true → ends_block (keeps b.chomping) b.indent (text_lines u) ≡ true
 block_was [] b u e h = absurd (cc)
@@ -45,12 +45,12 @@ block_was (r ∷ (q ∷ front)) b u e h = block_was (q ∷ front) b u e h
 
 -- the seam before a row with another run
 run_seam : (front back : List Row) (r : Row) (run last rest : List ℕ) (l : Line) → AreRows unlimited (front ++ (r ∷ back)) last rest → (limit : Limit) → AreRows limit (r ∷ back) last rest →
-    IsHeadCommentRun r.column run (behind_gap r (rows_text back (last ++ rest))) → l.column ≡ r.column → ((b : BlockText) → last_block front ≡ Some b → StandApart (lines_of_rows front) (l ∷ [])) →
-    are_seamed front (with_run r run ++ behind_gap r (rows_text back (last ++ rest))) ≡ true
+    IsHeadCommentRun r.column run (following_gap r (rows_text back (last ++ rest))) → l.column ≡ r.column → ((b : BlockText) → last_block front ≡ Some b → AreApartLines (lines_of_rows front) (l ∷ [])) →
+    are_seamed front (with_run r run ++ following_gap r (rows_text back (last ++ rest))) ≡ true
 run_seam front back r run last rest l old limit own is column apart = go (last_block front) refl
   where
     x : List ℕ
-    x = behind_gap r (rows_text back (last ++ rest))
+    x = following_gap r (rows_text back (last ++ rest))
 
     ks : RawLines
     ks = before_run (text_lines r.gap)
@@ -59,7 +59,7 @@ run_seam front back r run last rest l old limit own is column apart = go (last_b
     y = joined (last_run (text_lines r.gap)) ++ x
 
     y_some : is_empty y ≡ false
-    y_some = some_behind (joined (last_run (text_lines r.gap))) x (behind_row_some limit r (rows_text back (last ++ rest)) own.0)
+    y_some = some_after (joined (last_run (text_lines r.gap))) x (after_row_some limit r (rows_text back (last ++ rest)) own.0)
 
     kept : AreGapLines ks y
     kept = gap_front r.gap x ks (last_run (text_lines r.gap)) own.0.gap (run_parts (text_lines r.gap))
@@ -70,7 +70,7 @@ run_seam front back r run last rest l old limit own is column apart = go (last_b
         ap (λ (g : List ℕ). g ++ x) (sym lines ∙ (ap joined (run_parts (text_lines r.gap)) ∙ Rattle.yq_core.proofs.LineLaws.joined-append ks (last_run (text_lines r.gap))))
         ∙ append_assoc (joined ks) (joined (last_run (text_lines r.gap))) x
 
-    new : (b : BlockText) → r.column < b.indent.columns → is_behind b.indent (text_lines (run ++ x)) ≡ true
+    new : (b : BlockText) → r.column < b.indent.columns → comes_later b.indent (text_lines (run ++ x)) ≡ true
     new b less = search (rules, starts_less, row_starts, append_assoc, hash_less)
 
     go : (o : Option BlockText) → last_block front ≡ o → are_seamed front (with_run r run ++ x) ≡ true
@@ -81,7 +81,7 @@ run_seam front back r run last rest l old limit own is column apart = go (last_b
         let split : text_lines (r.gap ++ x) ≡ ks ++ text_lines y = ap text_lines gap_is ∙ lines_before ks y y y_some kept in
         let text : text_lines (with_run r run ++ x) ≡ ks ++ text_lines (run ++ x) = ap text_lines (append_assoc (joined ks) run x) ∙ lines_before ks y (run ++ x) y_some kept in
         let whole_is : ends_block (keeps b.chomping) b.indent (ks ++ text_lines (run ++ x)) ≡ true =
-        search (rules, ends_comment, ks, ends_blank, ends_behind, new, cases_Bool) in
+        search (rules, ends_comment, ks, ends_blank, following_ends, new, cases_Bool) in
         block_seam front b (with_run r run ++ x) e (ap (ends_block (keeps b.chomping) b.indent) text ∙ whole_is)
 
 -- the first line of a row, and those after it
@@ -130,18 +130,18 @@ head_commented t c k p steps s h f front back r run old at takes size text =
     let o = part_outline p in
     let q : Part = rerun front r back run p in
     let gap : List ℕ = with_run r run in
-    let rest : List ℕ = behind_document k c in
-    let x : List ℕ = behind_gap r (rows_text back (p.end ++ rest)) in
+    let rest : List ℕ = after_document k c in
+    let x : List ℕ = following_gap r (rows_text back (p.end ++ rest)) in
     let part : AreRows unlimited (front ++ (r ∷ back)) p.end rest =
     subst (λ (rs : List Row). AreRows unlimited rs p.end rest) takes.rows_are (subst (λ (y : Part). AreRows unlimited y.rows y.end rest) (part_numbered c k p old.there).0 (part_in c (part_number k c) true known.cut.parts).rows) in
-    let asked : Limit = asked_behind unlimited front in
+    let asked : Limit = asked_after unlimited front in
     let own : AreRows asked (r ∷ back) p.end rest =
-    subst (λ (a : List Row). AreRows (asked_behind unlimited a) (r ∷ back) p.end rest) (take_front p front (r ∷ back) takes.rows_are)
-    (subst (λ (rs : List Row). AreRows (asked_behind unlimited (take (length front) p.rows)) rs p.end rest) (drop_front p front (r ∷ back) takes.rows_are)
+    subst (λ (a : List Row). AreRows (asked_after unlimited a) (r ∷ back) p.end rest) (take_front p front (r ∷ back) takes.rows_are)
+    (subst (λ (rs : List Row). AreRows (asked_after unlimited (take (length front) p.rows)) rs p.end rest) (drop_front p front (r ∷ back) takes.rows_are)
     (rows_drop (length front) p.rows unlimited p.end rest (subst (λ (rs : List Row). AreRows unlimited rs p.end rest) (sym takes.rows_are) part))) in
     let ks = before_run (text_lines r.gap) in
     let y : List ℕ = joined (last_run (text_lines r.gap)) ++ x in
-    let y_some : is_empty y ≡ false = some_behind (joined (last_run (text_lines r.gap))) x (behind_row_some asked r (rows_text back (p.end ++ rest)) own.0) in
+    let y_some : is_empty y ≡ false = some_after (joined (last_run (text_lines r.gap))) x (after_row_some asked r (rows_text back (p.end ++ rest)) own.0) in
     let kept : AreGapLines ks y = gap_front r.gap x ks (last_run (text_lines r.gap)) own.0.gap (run_parts (text_lines r.gap)) in
     let front_gap : IsGap (joined ks) y = record { lines = ks; spelled = refl; each = kept } in
     let head : head_comment gap ≡ head_comment run = head_joined (joined ks) run y front_gap y_some (ap last_comments (gap_lines_of ks y kept) ∙ none_before (text_lines r.gap)) in

@@ -8,7 +8,7 @@ use Rattle.yq_core.{specs.Nodes.{in_name, node_text, IsLead, IsName, IsFlowNode}
 use Rattle.yq_core.specs.declared.block_types.Break.TheVariants.{Lf, CrLf}
 use Rattle.yq_row_table.{specs.Gap.IsWhite, specs.Grammar.{IsContent, IsMark, is_entry}}
 use Rattle.yq_row_table.{specs.Rows.{Content, Nothing, Inline, Block, dashes_text, mark_text}, specs.View.{Slices, content_cut}}
-use Rattle.yq_row_table.{proofs.NodePieces.{BeginsAscii, before_ascii, behind_ascii}, proofs.seams.ScalarSeams.ends_return}
+use Rattle.yq_row_table.{proofs.NodePieces.{BeginsAscii, before_ascii, following_ascii}, proofs.seams.ScalarSeams.ends_return}
 use Rattle.yq_places.{specs.PrintedLines.{less_break, last_break}, specs.RowPieces.{anchor_before, space_before}}
 use Rattle.yq_places.proofs.PrintedTexts.{less_is}
 use Rattle.yq_edit_rules.{specs.TextPieces.IsPiece, proofs.LineFrontLaws.{clean_cut, ends_more}, proofs.TextPieceLaws.byte_cut}
@@ -46,9 +46,9 @@ unnamed_ascii : (t : List ℕ) → unless in_name t ≡ true → BeginsAscii t
 unnamed_ascii t h = search (rules, arith, false_from_ne_true, eqb-true, false≢true, cases_lt)
 
 -- What is round the end of an anchor: no CR before it, and an ASCII byte after it.
-pub record AnchorEnds (anchor behind : List ℕ) : Type 0 where
+pub record AnchorEnds (anchor after : List ℕ) : Type 0 where
   pub clean : ends_return anchor ≡ false
-  pub ascii : BeginsAscii behind
+  pub ascii : BeginsAscii after
 
 ascii_front : (a b : List ℕ) → BeginsAscii (a ++ b) → BeginsAscii a
 ascii_front a b h = search rules
@@ -71,8 +71,8 @@ anchor_ends n _ rest some h = absurd (false≢true (sym some))
 abbrev pub EndsIn : ℕ → List ℕ → Type 0
 EndsIn b t = (x : List ℕ) × (t ≡ x ++ b ∷ [])
 
-pub ends_behind : (b : ℕ) (x t : List ℕ) → EndsIn b t → EndsIn b (x ++ t)
-ends_behind b x t e = (x ++ e.0, ap (λ q. x ++ q) e.1 ∙ sym (append_assoc x e.0 (b ∷ [])))
+pub following_ends : (b : ℕ) (x t : List ℕ) → EndsIn b t → EndsIn b (x ++ t)
+following_ends b x t e = (x ++ e.0, ap (λ q. x ++ q) e.1 ∙ sym (append_assoc x e.0 (b ∷ [])))
 
 -- a key ends in a `:`, a dash in itself
 abbrev pub last_of : rows.RowMark → ℕ
@@ -83,11 +83,11 @@ last_of (rows.Key key colon) = 58
 pub mark_ends : (m : rows.RowMark) (x : Content) (u : List ℕ) → is_entry m ≡ true → IsMark m x u → EndsIn (last_of m) (mark_text m [])
 mark_ends rows.Bare x u e h = absurd (false≢true e)
 mark_ends rows.Dash x u e h = ([], refl)
-mark_ends (rows.Key key colon) x u e h = ends_behind 58 key (colon ++ []) (h.colon_is.white, append-nil colon ∙ h.colon_is.spelled)
+mark_ends (rows.Key key colon) x u e h = following_ends 58 key (colon ++ []) (h.colon_is.white, append-nil colon ∙ h.colon_is.spelled)
 
 pub dashes_end : (b : ℕ) (ns t : List ℕ) → EndsIn b t → EndsIn b (dashes_text ns t)
 dashes_end b [] t e = e
-dashes_end b (n ∷ ns) t e = ends_behind b (45 ∷ replicate n 32) (dashes_text ns t) (dashes_end b ns t e)
+dashes_end b (n ∷ ns) t e = following_ends b (45 ∷ replicate n 32) (dashes_text ns t) (dashes_end b ns t e)
 
 pub low_last : (m : rows.RowMark) → (last_of m < 128) × (is_return (last_of m) ≡ false)
 low_last rows.Bare = (omega arith, refl)
@@ -98,7 +98,7 @@ low_last (rows.Key key colon) = (omega arith, refl)
 pub last_cut : (b : ℕ) (x t : List ℕ) → b < 128 → is_return b ≡ false → IsPiece ((x ++ b ∷ []) ++ t) → IsPiece (x ++ b ∷ []) × IsPiece t
 last_cut b x t low uncommented h =
     let front : IsUtf8 (x ++ b ∷ []) =
-    subst IsUtf8 (take-append_seam (x ++ b ∷ []) t) (IsUtf8-take ((x ++ b ∷ []) ++ t) (length (x ++ b ∷ [])) h.utf8 (behind_ascii (x ++ b ∷ []) t h.utf8 (record { front = x; last = b; is = refl; ascii = low }))) in
+    subst IsUtf8 (take-append_seam (x ++ b ∷ []) t) (IsUtf8-take ((x ++ b ∷ []) ++ t) (length (x ++ b ∷ [])) h.utf8 (following_ascii (x ++ b ∷ []) t h.utf8 (record { front = x; last = b; is = refl; ascii = low }))) in
     clean_cut (x ++ b ∷ []) t h front (λ f. ends_more x (b ∷ []) refl ∙ uncommented)
 
 front_utf8 : (a b : List ℕ) → IsPiece (a ++ b) → BeginsAscii b → IsUtf8 a

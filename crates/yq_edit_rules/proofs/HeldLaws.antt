@@ -5,8 +5,8 @@ use Rattle.yq_core.{proofs.LineLaws.is_empty_is, specs.Paths.Step, specs.Text.is
 use Rattle.yq_row_table.{specs.Exchange.row_front, specs.Rows.{Row, Cut, cut_text, print_row, rows_text}, specs.View.{Slices, slices}}
 use Rattle.yq_places.{specs.CommentPlaces.{LineEnd, end_in_line, text_to_line_end}, specs.PrintedLines.{last_break, less_break}}
 use Rattle.yq_places.{specs.RowPieces.{anchor_before, space_before}, proofs.PrintedTexts.less_is, proofs.RunSpans.rows_then}
-use Rattle.yq_places.specs.Standings.{RowsOfEntry, before_entry, behind_entry, rows_of_entry, held}
-use Rattle.yq_edit_rules.{proofs.CommentRowLaws.{cut_spelled, end_parts, entry_row, line_whole}, specs.StandingLaws.held_text}
+use Rattle.yq_places.specs.Placements.{RowsOfEntry, before_entry, after_entry, rows_of_entry, held}
+use Rattle.yq_edit_rules.{proofs.CommentRowLaws.{cut_spelled, end_parts, entry_row, line_whole}, specs.PlacementLaws.held_text}
 
 -- ---- the pieces of a row
 
@@ -21,10 +21,10 @@ unfolding less_break
 no_break = refl
 
 -- a break, lines and what is after them: the break goes before lines, or is the last one
-pub below_is : (below t behind : List ℕ) → t ++ (below ++ behind) ≡ cond (is_empty below) [] t ++ (less_break below ++ (cond (is_empty below) t (last_break below) ++ behind))
-below_is [] t behind = sym (ap (λ x. x ++ (t ++ behind)) no_break)
-below_is (b ∷ below) t behind =
-    ap (λ x. t ++ x) (ap (λ x. x ++ behind) (sym (less_is (b ∷ below))) ∙ append_assoc (less_break (b ∷ below)) (last_break (b ∷ below)) behind)
+pub below_is : (below t after : List ℕ) → t ++ (below ++ after) ≡ cond (is_empty below) [] t ++ (less_break below ++ (cond (is_empty below) t (last_break below) ++ after))
+below_is [] t after = sym (ap (λ x. x ++ (t ++ after)) no_break)
+below_is (b ∷ below) t after =
+    ap (λ x. t ++ x) (ap (λ x. x ++ after) (sym (less_is (b ∷ below))) ∙ append_assoc (less_break (b ∷ below)) (last_break (b ∷ below)) after)
 
 -- ---- an item or entry
 
@@ -42,19 +42,19 @@ module _ (e : RowsOfEntry) where
   lead = (before_entry e ++ row_front e.row) ++ anchor_before (slices e.row)
 
   abbrev tail_text : List ℕ
-  tail_text = cond (is_empty below) [] t.behind ++ (less_break below ++ (cond (is_empty below) t.behind (last_break below) ++ behind_entry e))
+  tail_text = cond (is_empty below) [] t.after ++ (less_break below ++ (cond (is_empty below) t.after (last_break below) ++ after_entry e))
 
   -- what is after the head
-  rest_is : (slices e.row).tail ++ ((slices e.row).raw ++ rows_text e.under (behind_entry e)) ≡ t.white ++ (t.comment ++ tail_text)
+  rest_is : (slices e.row).tail ++ ((slices e.row).raw ++ rows_text e.under (after_entry e)) ≡ t.white ++ (t.comment ++ tail_text)
   rest_is =
-      let apart : s.tail ++ (s.raw ++ (rows_text e.under [] ++ behind_entry e)) ≡ s.tail ++ (below ++ behind_entry e) = ap (λ x. s.tail ++ x) (sym (append_assoc s.raw (rows_text e.under []) (behind_entry e))) in
-      let ended : s.tail ++ (below ++ behind_entry e) ≡ t.white ++ (t.comment ++ (t.behind ++ (below ++ behind_entry e))) =
-      ap (λ x. x ++ (below ++ behind_entry e)) (end_parts [] s.tail)
-      ∙ (append_assoc t.white (t.comment ++ t.behind) (below ++ behind_entry e) ∙ ap (λ x. t.white ++ x) (append_assoc t.comment t.behind (below ++ behind_entry e))) in
-      ap (λ x. s.tail ++ (s.raw ++ x)) (rows_then e.under (behind_entry e)) ∙ (apart ∙ (ended ∙ ap (λ x. t.white ++ (t.comment ++ x)) (below_is below t.behind (behind_entry e))))
+      let apart : s.tail ++ (s.raw ++ (rows_text e.under [] ++ after_entry e)) ≡ s.tail ++ (below ++ after_entry e) = ap (λ x. s.tail ++ x) (sym (append_assoc s.raw (rows_text e.under []) (after_entry e))) in
+      let ended : s.tail ++ (below ++ after_entry e) ≡ t.white ++ (t.comment ++ (t.after ++ (below ++ after_entry e))) =
+      ap (λ x. x ++ (below ++ after_entry e)) (end_parts [] s.tail)
+      ∙ (append_assoc t.white (t.comment ++ t.after) (below ++ after_entry e) ∙ ap (λ x. t.white ++ x) (append_assoc t.comment t.after (below ++ after_entry e))) in
+      ap (λ x. s.tail ++ (s.raw ++ x)) (rows_then e.under (after_entry e)) ∙ (apart ∙ (ended ∙ ap (λ x. t.white ++ (t.comment ++ x)) (below_is below t.after (after_entry e))))
 
   -- The pieces of what its key or dash holds spell the text of its rows.
-  pub held_spelled : before_entry e ++ print_row e.row (rows_text e.under (behind_entry e)) ≡ held_text (held e)
+  pub held_spelled : before_entry e ++ print_row e.row (rows_text e.under (after_entry e)) ≡ held_text (held e)
   held_spelled =
       let rest : List ℕ = t.white ++ (t.comment ++ tail_text) in
       let apart : (lead ++ (space_before s ++ s.head)) ++ rest ≡ lead ++ (space_before s ++ (s.head ++ rest)) = search (rules, append_assoc, rest) in

@@ -2,25 +2,25 @@
 use Rattle.std.proofs.Common.{rules, inl, inr, ◌≡◌, ◌⊎◌, ℕ, false, cond, List, [], ◌∷◌, ◌++◌, length, replicate, Some, refl, sym, ap, ◌∙◌}
 use Rattle.std.{proofs.Common.{subst, append_assoc, append-nil}, proofs.lemmas.Bool.false≢true}
 use Rattle.yq_core.{specs.Paths.Step, specs.Text.is_empty, proofs.BlockPieceLaws.IsLf}
-use Rattle.yq_row_table.{specs.Exchange.{asked_behind, row_front}, specs.Gap.IsBreak, specs.Grammar.{IsRow, IsTail, unlimited}}
+use Rattle.yq_row_table.{specs.Exchange.{asked_after, row_front}, specs.Gap.IsBreak, specs.Grammar.{IsRow, IsTail, unlimited}}
 use Rattle.yq_row_table.{specs.Rows.{Cut, cut_text, mark_text, parent_indent, rows_text}, specs.View.{Slices, slices}}
 use Rattle.yq_documents.specs.Reading.{read_at}
 use Rattle.yq_places.{specs.CommentPlaces.{LineEnd, end_in_line, text_to_line_end}, specs.PrintedLines.{last_break, less_break}}
-use Rattle.yq_places.{specs.RowPieces.space_before, specs.Standings.{RowsOfEntry, before_entry, behind_entry, held, rows_of_entry}}
+use Rattle.yq_places.{specs.RowPieces.space_before, specs.Placements.{RowsOfEntry, before_entry, after_entry, held, rows_of_entry}}
 use Rattle.yq_places.{proofs.CommentEndLaws.row_text_parts, proofs.CommentPieceLaws.Ended, proofs.LineEndLaws.{line_tail, tail_is_end}}
 use Rattle.yq_places.proofs.RunSpans.{rows_then}
-use Rattle.yq_edit_rules.{proofs.HeldLaws.{no_break, front_is, held_there}, specs.StandingLaws.{HeldSpells, HoldsPieces, StandsThere}}
-use Rattle.yq_edit_rules.{specs.TextPieces.IsPiece, proofs.StandingMarks.{entry_there, row_there, rows_ended_there}}
-use Rattle.yq_edit_rules.{proofs.StandingRows.rows_stand, proofs.TextPieceLaws.{line_cut, piece_back, text_is_piece}}
+use Rattle.yq_edit_rules.{proofs.HeldLaws.{no_break, front_is, held_there}, specs.PlacementLaws.{HeldSpells, HoldsPieces, HasItsRows}}
+use Rattle.yq_edit_rules.{specs.TextPieces.IsPiece, proofs.PlacementMarks.{entry_there, row_there, rows_ended_there}}
+use Rattle.yq_edit_rules.{proofs.PlacementRows.rows_located, proofs.TextPieceLaws.{line_cut, piece_back, text_is_piece}}
 use Rattle.yq_edit_rules.{proofs.BreakLaws.{IsLfOrCrLf, break_is, last_is}, proofs.CommentRowLaws.{entry_row, cut_spelled}}
-use Rattle.yq_edit_rules.proofs.HeldCuts.{EndsIn, anchor_cut, anchor_ends, break_is_piece, dashes_end, ends_behind, last_of, less_piece}
+use Rattle.yq_edit_rules.proofs.HeldCuts.{EndsIn, anchor_cut, anchor_ends, break_is_piece, dashes_end, following_ends, last_of, less_piece}
 use Rattle.yq_edit_rules.{proofs.HeldCuts.{low_last, mark_ends, space_white}, proofs.TailPieces.{HasTailPieces, pieces, white_piece}}
 
 -- the end of a line, as it is cut without what is after
-pub end_agrees : (tail more : List ℕ) (h : IsTail tail more) → end_in_line [] tail ≡ record { before = []; white = h.white; comment = h.comment; behind = h.line.break }
+pub end_agrees : (tail more : List ℕ) (h : IsTail tail more) → end_in_line [] tail ≡ record { before = []; white = h.white; comment = h.comment; after = h.line.break }
 end_agrees tail more h =
     let alone : IsTail tail [] = search (rules, ends) in
-    ap (end_in_line []) (sym (append-nil tail)) ∙ (tail_is_end [] tail [] alone ∙ ap (λ t. record { before = []; white = h.white; comment = h.comment; behind = t }) (append-nil h.line.break))
+    ap (end_in_line []) (sym (append-nil tail)) ∙ (tail_is_end [] tail [] alone ∙ ap (λ t. record { before = []; white = h.white; comment = h.comment; after = t }) (append-nil h.line.break))
   where
     ends : IsBreak h.line.break more → IsBreak h.line.break []
     ends e = search rules
@@ -47,33 +47,33 @@ record BelowPieces (b below z : List ℕ) : Type 0 where
   break : IsPiece (cond (is_empty below) [] b)
   lines : IsPiece (less_break below)
   last : IsPiece (cond (is_empty below) b (last_break below))
-  behind : IsPiece z
+  after : IsPiece z
 
-below_pieces : (break below behind : List ℕ) → IsPiece break → IsPiece (below ++ behind) → (is_empty below ≡ false → Ended below behind) → BelowPieces break below behind
-below_pieces break [] behind b all ends = record { break = Rattle.yq_edit_rules.proofs.CommentPieceLaws.nothing; lines = subst IsPiece (sym no_break) Rattle.yq_edit_rules.proofs.CommentPieceLaws.nothing; last = b; behind = all }
-below_pieces break (x ∷ xs) behind b all ends =
+below_pieces : (break below after : List ℕ) → IsPiece break → IsPiece (below ++ after) → (is_empty below ≡ false → Ended below after) → BelowPieces break below after
+below_pieces break [] after b all ends = record { break = Rattle.yq_edit_rules.proofs.CommentPieceLaws.nothing; lines = subst IsPiece (sym no_break) Rattle.yq_edit_rules.proofs.CommentPieceLaws.nothing; last = b; after = all }
+below_pieces break (x ∷ xs) after b all ends =
     let k = cut (ends refl) in
-    record { break = b; lines = less_piece (x ∷ xs) k.0; last = break_is_piece (last_break (x ∷ xs)) (last_is (x ∷ xs)); behind = k.1 }
+    record { break = b; lines = less_piece (x ∷ xs) k.0; last = break_is_piece (last_break (x ∷ xs)) (last_is (x ∷ xs)); after = k.1 }
   where
-    cut : Ended (x ∷ xs) behind → IsPiece (x ∷ xs) × IsPiece behind
-    cut (inl lf) = subst (λ t. IsPiece t × IsPiece behind) (sym lf.1) (line_cut lf.0 behind (subst (λ t. IsPiece (t ++ behind)) lf.1 all))
+    cut : Ended (x ∷ xs) after → IsPiece (x ∷ xs) × IsPiece after
+    cut (inl lf) = subst (λ t. IsPiece t × IsPiece after) (sym lf.1) (line_cut lf.0 after (subst (λ t. IsPiece (t ++ after)) lf.1 all))
     cut (inr none) = (subst IsPiece (ap (λ t. (x ∷ xs) ++ t) none ∙ append-nil (x ∷ xs)) all, subst IsPiece (sym none) Rattle.yq_edit_rules.proofs.CommentPieceLaws.nothing)
 
 -- what is below the line of a key or dash ends in a break, or nothing is after
-pub below_ended : (n : ℕ) (s : Step) (ss : List Step) (c : Cut) (e : RowsOfEntry) → StandsThere n s ss c e → is_empty ((slices e.row).raw ++ rows_text e.under []) ≡ false →
-    Ended ((slices e.row).raw ++ rows_text e.under []) (behind_entry e)
+pub below_ended : (n : ℕ) (s : Step) (ss : List Step) (c : Cut) (e : RowsOfEntry) → HasItsRows n s ss c e → is_empty ((slices e.row).raw ++ rows_text e.under []) ≡ false →
+    Ended ((slices e.row).raw ++ rows_text e.under []) (after_entry e)
 below_ended n s ss c e there some = go (rows_ended_there n s ss c e there)
   where
     text : rows_text (e.row ∷ e.under) [] ≡ (text_to_line_end e.row ++ (slices e.row).tail) ++ ((slices e.row).raw ++ rows_text e.under [])
     text = row_text_parts e.row (rows_text e.under []) ∙ sym (append_assoc (text_to_line_end e.row) (slices e.row).tail ((slices e.row).raw ++ rows_text e.under []))
 
-    go : Ended (rows_text (e.row ∷ e.under) []) (behind_entry e) → Ended ((slices e.row).raw ++ rows_text e.under []) (behind_entry e)
+    go : Ended (rows_text (e.row ∷ e.under) []) (after_entry e) → Ended ((slices e.row).raw ++ rows_text e.under []) (after_entry e)
     go (inl lf) = inl (suffix_lf (text_to_line_end e.row ++ (slices e.row).tail) ((slices e.row).raw ++ rows_text e.under []) (subst IsLf text lf) some)
     go (inr none) = inr none
 
 module _ (n : ℕ) (s : Step) (ss : List Step) (c : Cut) (e : RowsOfEntry) (read : read_at (cut_text c) ≡ Some c) (at : rows_of_entry n (s ∷ ss) c ≡ Some e) where
-  there : StandsThere n s ss c e
-  there = rows_stand n s ss c e read at
+  there : HasItsRows n s ss c e
+  there = rows_located n s ss c e read at
 
   abbrev sl : Slices
   sl = slices e.row
@@ -81,35 +81,35 @@ module _ (n : ℕ) (s : Step) (ss : List Step) (c : Cut) (e : RowsOfEntry) (read
   abbrev below : List ℕ
   below = sl.raw ++ rows_text e.under []
 
-  row : IsRow (asked_behind unlimited e.front) e.row (rows_text e.under (behind_entry e))
+  row : IsRow (asked_after unlimited e.front) e.row (rows_text e.under (after_entry e))
   row = row_there n s ss c e there
 
-  tail : IsTail (slices e.row).tail ((slices e.row).raw ++ rows_text e.under (behind_entry e))
-  tail = line_tail (parent_indent e.row) e.row.content (rows_text e.under (behind_entry e)) row.content
+  tail : IsTail (slices e.row).tail ((slices e.row).raw ++ rows_text e.under (after_entry e))
+  tail = line_tail (parent_indent e.row) e.row.content (rows_text e.under (after_entry e)) row.content
 
-  k : HasTailPieces (entry_row e) (slices e.row).tail ((slices e.row).raw ++ rows_text e.under (behind_entry e)) tail
-  k = pieces (entry_row e) (asked_behind unlimited e.front) row (subst IsPiece (cut_spelled n (s ∷ ss) c e at) (text_is_piece c read)) tail
+  k : HasTailPieces (entry_row e) (slices e.row).tail ((slices e.row).raw ++ rows_text e.under (after_entry e)) tail
+  k = pieces (entry_row e) (asked_after unlimited e.front) row (subst IsPiece (cut_spelled n (s ∷ ss) c e at) (text_is_piece c read)) tail
 
-  below_there : BelowPieces tail.line.break below (behind_entry e)
+  below_there : BelowPieces tail.line.break below (after_entry e)
   below_there =
       let break : IsPiece tail.line.break = break_is_piece tail.line.break (break_cases tail.line.break _ tail.line.ends) in
-      let text : tail.line.break ++ (sl.raw ++ rows_text e.under (behind_entry e)) ≡ tail.line.break ++ (below ++ behind_entry e) =
-      ap (λ t. tail.line.break ++ t) (ap (λ t. sl.raw ++ t) (rows_then e.under (behind_entry e)) ∙ sym (append_assoc sl.raw (rows_text e.under []) (behind_entry e))) in
-      below_pieces tail.line.break below (behind_entry e) break (piece_back tail.line.break (below ++ behind_entry e) break.utf8 (subst IsPiece text k.behind)) (below_ended n s ss c e there)
+      let text : tail.line.break ++ (sl.raw ++ rows_text e.under (after_entry e)) ≡ tail.line.break ++ (below ++ after_entry e) =
+      ap (λ t. tail.line.break ++ t) (ap (λ t. sl.raw ++ t) (rows_then e.under (after_entry e)) ∙ sym (append_assoc sl.raw (rows_text e.under []) (after_entry e))) in
+      below_pieces tail.line.break below (after_entry e) break (piece_back tail.line.break (below ++ after_entry e) break.utf8 (subst IsPiece text k.after)) (below_ended n s ss c e there)
 
   held_pieces : e.line ≡ length e.row.dashes → HoldsPieces (held e)
   held_pieces last =
       let m = e.row.mark in
       let base : List ℕ = before_entry e ++ row_front e.row in
       let ends : EndsIn (last_of m) base =
-      ends_behind (last_of m) (before_entry e) (row_front e.row)
-      (ends_behind (last_of m) e.row.gap _
-      (ends_behind (last_of m) (replicate e.row.column 32) _
+      following_ends (last_of m) (before_entry e) (row_front e.row)
+      (following_ends (last_of m) e.row.gap _
+      (following_ends (last_of m) (replicate e.row.column 32) _
       (dashes_end (last_of m) e.row.dashes (mark_text m []) (mark_ends m e.row.content _ (entry_there n s ss c e there last) row.mark)))) in
       let front = anchor_cut (last_of m) base sl ends (low_last m) (λ some. anchor_ends (parent_indent e.row) e.row.content _ some row.content) (subst IsPiece (front_is (before_entry e) e.row) k.before) in
       let space : IsPiece (space_before sl) = white_piece (space_before sl) (space_white (parent_indent e.row) e.row.content _ row.content) in
-      let end : end_in_line [] sl.tail ≡ record { before = []; white = tail.white; comment = tail.comment; behind = tail.line.break } = end_agrees sl.tail _ tail in
-      let lines : BelowPieces (end_in_line [] sl.tail).behind below (behind_entry e) = subst (λ (x : LineEnd). BelowPieces x.behind below (behind_entry e)) (sym end) below_there in
+      let end : end_in_line [] sl.tail ≡ record { before = []; white = tail.white; comment = tail.comment; after = tail.line.break } = end_agrees sl.tail _ tail in
+      let lines : BelowPieces (end_in_line [] sl.tail).after below (after_entry e) = subst (λ (x : LineEnd). BelowPieces x.after below (after_entry e)) (sym end) below_there in
       record {
         before = front.0;
         space = space;
@@ -118,7 +118,7 @@ module _ (n : ℕ) (s : Step) (ss : List Step) (c : Cut) (e : RowsOfEntry) (read
         break = lines.break;
         lines = lines.lines;
         last = lines.last;
-        behind = lines.behind;
+        after = lines.after;
       }
 
 pub held_spells : HeldSpells

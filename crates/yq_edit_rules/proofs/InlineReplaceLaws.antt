@@ -5,13 +5,12 @@ use Rattle.yq_core.{specs.Paths.Step, specs.Piece.deeper, specs.Plain.ends_plain
 use Rattle.yq_outline.{specs.Group.{group, level_or, is_fine}, specs.Outline.{Line, level, rank, Outline, end, row, flatten, IsEven}}
 use Rattle.yq_outline.{specs.Places.{lines_before, lines_after, FoundLine}, specs.Comments.head_comment, proofs.Decides.flatten-group}
 use Rattle.yq_outline.specs.Lines.{line_mark, mark_line, row_lines, lines_of_rows}
-use Rattle.yq_row_table.specs.Exchange.{allows_first, asked_behind}
-use Rattle.yq_row_table.specs.Grammar.{Limit, unlimited, AreRows, IsTail, is_entry, ends_part}
+use Rattle.yq_row_table.{specs.Exchange.{allows_first, asked_after}, specs.Grammar.{Limit, unlimited, AreRows, IsTail, is_entry, ends_part}}
 use Rattle.yq_row_table.{specs.Rows.{Inline, Row, mark_column, parent_of, parent_indent, rows_text, Part, Cut}, proofs.ExchangeLaws.relimit}
 use Rattle.yq_row_table.{proofs.seams.SeamLaws.rows_drop, proofs.seams.TailLaws.fits_by}
 use Rattle.yq_documents.specs.Reading.{part_outline}
 use Rattle.yq_places.proofs.RowPathLaws.{StartsAt, found_starts}
-use Rattle.yq_edit_rules.{specs.DocumentRows.{IsDocumentPart, behind_document}, specs.InlineRows.{LeadsBelow, IsRootRow, LeadsToLone}}
+use Rattle.yq_edit_rules.{specs.DocumentRows.{IsDocumentPart, after_document}, specs.InlineRows.{LeadsBelow, IsRootRow, LeadsToLone}}
 use Rattle.yq_edit_rules.{specs.LineRows.Begins, specs.Moved.dash_lines, proofs.ColumnLaws.next_low}
 use Rattle.yq_edit_rules.{proofs.LineLaws.{above_mark, dashes_count, row_count}, proofs.NodeLineLaws.under_even}
 use Rattle.yq_edit_rules.{proofs.PartLaws.{document_known, part_rows, take_front, drop_front}, proofs.PlacedLaws.{same_parts, whole_line}}
@@ -20,11 +19,11 @@ use Rattle.yq_row_table.specs.Rows as rows
 
 -- the rows from one on
 pub own_rows : (t : List ℕ) (c : Cut) (k : ℕ) (p : Part) (front : List Row) (r : Row) (back : List Row) → IsDocumentPart t c k p → p.rows ≡ front ++ (r ∷ back) →
-    AreRows (asked_behind unlimited front) (r ∷ back) p.end (behind_document k c)
+    AreRows (asked_after unlimited front) (r ∷ back) p.end (after_document k c)
 own_rows t c k p front r back old e =
-    subst (λ x. AreRows (asked_behind unlimited x) (r ∷ back) p.end (behind_document k c)) (take_front p front (r ∷ back) e)
-    (subst (λ rs. AreRows (asked_behind unlimited (take (length front) p.rows)) rs p.end (behind_document k c)) (drop_front p front (r ∷ back) e)
-    (rows_drop (length front) p.rows unlimited p.end (behind_document k c) (part_rows t c k p old (document_known t c k p old).cut)))
+    subst (λ x. AreRows (asked_after unlimited x) (r ∷ back) p.end (after_document k c)) (take_front p front (r ∷ back) e)
+    (subst (λ rs. AreRows (asked_after unlimited (take (length front) p.rows)) rs p.end (after_document k c)) (drop_front p front (r ∷ back) e)
+    (rows_drop (length front) p.rows unlimited p.end (after_document k c) (part_rows t c k p old (document_known t c k p old).cut)))
 
 -- what is asked after a mark
 pub deeper_entry : (m : rows.RowMark) (column : ℕ) → is_entry m ≡ true → deeper (parent_of m column) ≡ suc column
@@ -90,9 +89,9 @@ module _ (p : Part) (front : List Row) (r : Row) (back : List Row) (rows_are : p
       none (b ∷ bs) e = absurd (omega (arith, e, row_count b, length-append (row_lines b) (lines_of_rows bs)))
 
   -- the next row is where no further line of what is after the mark does
-  pub next_stands : (steps : List Step) → LeadsToLone p steps front r → allows_first (record { column = Some (deeper (parent_indent r)) }) back ≡ true
-  next_stands [] h = ap (allows_first (record { column = Some (deeper (parent_indent r)) })) (root_back h)
-  next_stands (s ∷ ss) h = lower_next s ss h
+  pub next_is_there : (steps : List Step) → LeadsToLone p steps front r → allows_first (record { column = Some (deeper (parent_indent r)) }) back ≡ true
+  next_is_there [] h = ap (allows_first (record { column = Some (deeper (parent_indent r)) })) (root_back h)
+  next_is_there (s ∷ ss) h = lower_next s ss h
 
 -- before what comes after a row's content a plain scalar ends
 pub tail_ends_plain : (n : ℤ) (tail : List ℕ) (limit : Limit) (back : List Row) (gap rest : List ℕ) → IsTail tail (rows_text back (gap ++ rest)) →

@@ -65,7 +65,7 @@ pub record ItemsGiveWay (ss : List Segment) (c new : Cut) : Type 0 where
   pub lead : List ℕ
   pub trail : List ℕ
   pub before_is : kept_front ss ≡ items_text front lead
-  pub behind_is : kept_back ss ≡ trail ++ items_text back []
+  pub following_is : kept_back ss ≡ trail ++ items_text back []
   pub puts : are_kept ss ≡ false
   pub old_is : old_text ss ≡ cut_text c
   pub new_is : new_text ss ≡ cut_text new
@@ -75,13 +75,13 @@ module _ (ss : List Segment) (c new : Cut) (e : ItemsGiveWay ss c new) where
   gone_inside =
       let b : IsBetween ss = between ss e.puts in
       items_inside e.front e.gone e.back e.lead b.old e.trail
-      (sym (ap (λ is. items_text is []) e.old_are) ∙ (items_of_text c ∙ (sym e.old_is ∙ (b.old_is ∙ (λ j. e.before_is j ++ (b.old ++ e.behind_is j))))))
+      (sym (ap (λ is. items_text is []) e.old_are) ∙ (items_of_text c ∙ (sym e.old_is ∙ (b.old_is ∙ (λ j. e.before_is j ++ (b.old ++ e.following_is j))))))
 
   pub come_inside : IsInside e.come e.lead e.trail
   come_inside =
       let b : IsBetween ss = between ss e.puts in
       items_inside e.front e.come e.back e.lead b.new e.trail
-      (sym (ap (λ is. items_text is []) e.new_are) ∙ (items_of_text new ∙ (sym e.new_is ∙ (b.new_is ∙ (λ j. e.before_is j ++ (b.new ++ e.behind_is j))))))
+      (sym (ap (λ is. items_text is []) e.new_are) ∙ (items_of_text new ∙ (sym e.new_is ∙ (b.new_is ∙ (λ j. e.before_is j ++ (b.new ++ e.following_is j))))))
 
   pub items_local : InFirst e.lead e.gone → InFirst e.lead e.come → InLast e.trail e.gone → InLast e.trail e.come → IsLocal ss c new
   items_local b0 b1 e0 e1 = search rules

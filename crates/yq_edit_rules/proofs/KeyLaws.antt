@@ -86,8 +86,8 @@ longer : (k : List ℕ) → IsUtf8 k → list_all is_plain_char (chars k) ≡ tr
 longer k u h =
     let x : List ℕ = flat_map in_double (chars k) in
     let inner = counts_doubles (chars k) (scalars-chars k u) h in
-    let behind = counts_append x (34 ∷ []) (length (chars k)) 1 inner (counts_byte 34 (omega arith)) in
-    let whole = counts_append (34 ∷ []) (x ++ 34 ∷ []) 1 (length (chars k) + 1) (counts_byte 34 (omega arith)) behind in
+    let after = counts_append x (34 ∷ []) (length (chars k)) 1 inner (counts_byte 34 (omega arith)) in
+    let whole = counts_append (34 ∷ []) (x ++ 34 ∷ []) 1 (length (chars k) + 1) (counts_byte 34 (omega arith)) after in
     search (rules, chars-encodes, whole)
 
 pub near_key : (k : List ℕ) (n : ℕ) → IsUtf8 k → length (chars (scalar_text (string_of k) places.FlowKey)) ≤ n → length (chars (block_key k)) ≤ n

@@ -10,7 +10,7 @@ use Rattle.yq_row_table.{proofs.PlaceLaws.row_then, proofs.RowLaws.row_longer, p
 use Rattle.yq_documents.{specs.Reading.read_at, proofs.ReadLaws.text_takes}
 use Rattle.yq_places.proofs.CommentPieceLaws.{Ended}
 use Rattle.yq_edit_rules.{proofs.DocumentItemLaws.rows_before, proofs.EndedRowLaws.row_ended, specs.Changed.put_document}
-use Rattle.yq_edit_rules.{specs.Local.{InFirst, InLast, IsLocal}, proofs.OneLines.{is_one_line, left_none, behind_feed}}
+use Rattle.yq_edit_rules.{specs.Local.{InFirst, InLast, IsLocal}, proofs.OneLines.{is_one_line, left_none, past_feed}}
 use Rattle.yq_edit_rules.proofs.ItemsLocal.{last_within, IsInside}
 use Rattle.yq_edit_rules.proofs.LocalLaws.{longer_end, RowsGiveWay, rows_way, gone_text, come_text, rows_local}
 use Rattle.yq_text.specs.Script.{Segment}
@@ -57,7 +57,7 @@ last_line (r ∷ (s ∷ more)) asked is rest t trail h e one = go (λ u k. last_
         let k = longer_end (print_row r []) (rows_text (s ∷ more) []) t trail whole (omega (arith, more_than)) in
         let long : 0 < length k.0 = omega (arith, more_than, ap length k.1, length-append k.0 (rows_text (s ∷ more) [])) in
         let lf : IsLf k.0 = lf_end t k.0 (subst IsLf k.2 (row_feed asked r s (rows_items more is) rest h)) long in
-        search (rules, behind_feed, is_one_line, lf, k, some)
+        search (rules, past_feed, is_one_line, lf, k, some)
 
 -- the same of rows of a text that reads as a cut
 cut_line : (c : Cut) (front : List Item) (rs : List Row) (back : List Item) (lead trail : List ℕ) → read_at (cut_text c) ≡ Some c → items_of_cut c ≡ front ++ (rows_items rs [] ++ back) →

@@ -9,7 +9,7 @@ use Rattle.yq_documents.specs.Documents.{document_parts}
 use Rattle.yq_places.specs.Steps.{is_kind, first_step, steps_of_part}
 use Rattle.yq_edit_rules.{specs.BlockReading.is_filled, specs.BlockRows.{block_key, column_below, indent_step, inline_of}}
 use Rattle.yq_edit_rules.specs.BlockText.{block_children, block_entry, block_node, block_value, inline_or, then_lines}
-use Rattle.yq_edit_rules.{specs.declared.layout.Layout.Layout, specs.ClosedTexts.lines_put_behind}
+use Rattle.yq_edit_rules.{specs.declared.layout.Layout.Layout, specs.ClosedTexts.closed_lines_put}
 use Rattle.yq_edit_rules.specs.EntryEdits.{entry_lines, more_lines}
 use Rattle.yq_edit_rules.specs.Layouts.{LooksLike, children_ask, node_asks, is_filled_as, layout_of, columns_deeper}
 use Rattle.yq_core.specs.Nodes as inline
@@ -99,4 +99,4 @@ entry_like (Some x) v l k column h =
 
 -- one more item or entry
 pub more_like : (key : Option (List ℕ)) (v : Node) (l k : Layout) (column : ℕ) (last : List ℕ) → LooksLike (is_some key) v l k → more_lines l key v column last ≡ more_lines k key v column last
-more_like key v l k column last h = λ i. lines_put_behind (not (is_empty last)) (break_text (h.0 i)) (entry_like key v l k column h i)
+more_like key v l k column last h = λ i. closed_lines_put (not (is_empty last)) (break_text (h.0 i)) (entry_like key v l k column h i)

@@ -59,12 +59,12 @@ pub mod FlowLineLaws
 pub mod FlowRowLaws
 pub mod FlowPathLaws
 pub mod FlowKeptLaws
-pub mod FlowStandLaws
+pub mod FlowLocationLaws
 pub mod UnderLaws
 pub mod UnbrokenLaws
 pub mod DocumentItemLaws
-pub mod StandingRows
-pub mod StandingMarks
+pub mod PlacementRows
+pub mod PlacementMarks
 pub mod FlowStayLaws
 pub mod RowStayLaws
 pub mod ScalarLaws

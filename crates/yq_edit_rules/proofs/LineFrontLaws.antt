@@ -9,9 +9,9 @@ use Rattle.yq_core.specs.Nodes.{FlowNode, empty, alias, scalar, coll, anchored, 
 use Rattle.yq_core.specs.Nodes.{key_text, sep_text, node_text, flow_items_text, IsFlowNode}
 use Rattle.yq_core.proofs.NodesWrittenLaws.{key_append, sep_append, node_append}
 use Rattle.yq_row_table.{specs.Gap.{IsWhite, IsGap}, specs.Grammar.{IsContent, IsMark}, specs.Exchange.row_front}
-use Rattle.yq_row_table.specs.Rows.{Content, Nothing, Inline, Block, behind_gap, behind_indent, content_text, dashes_text, mark_text}
+use Rattle.yq_row_table.specs.Rows.{Content, Nothing, Inline, Block, following_gap, after_indent, content_text, dashes_text, mark_text}
 use Rattle.yq_row_table.{specs.Rows.parent_indent, specs.View.{anchor_cut, content_cut}}
-use Rattle.yq_row_table.{proofs.CharacterLaws.{all_text, all_join, pairs_back}, proofs.NothingLaws.some_behind}
+use Rattle.yq_row_table.{proofs.CharacterLaws.{all_text, all_join, pairs_back}, proofs.NothingLaws.some_after}
 use Rattle.yq_row_table.{proofs.PlaceLaws.row_front-append, proofs.RowAgain.row_starts, proofs.seams.NodeSeams.plain_text}
 use Rattle.yq_row_table.{proofs.seams.ScalarSeams.ends_return, proofs.seams.TailLaws.content_joined}
 use Rattle.yq_places.proofs.CommentPieceLaws.{Ended, gap_end}
@@ -22,7 +22,7 @@ use Rattle.yq_row_table.specs.Rows as rows
 
 pub ends_more : (a b : List ℕ) → is_empty b ≡ false → ends_return (a ++ b) ≡ ends_return b
 ends_more [] b h = refl
-ends_more (x ∷ a) b h = rw (some_behind a b h) (ends_more a b h)
+ends_more (x ∷ a) b h = rw (some_after a b h) (ends_more a b h)
 
 pub clean_joined : (a b : List ℕ) → ends_return a ≡ false → ends_return b ≡ false → ends_return (a ++ b) ≡ false
 clean_joined a [] h k = ap ends_return (append-nil a) ∙ h
@@ -101,7 +101,7 @@ indicators_clean d c p h = search (rules, ends_return, clean_joined, cases_Bool)
 content_clean : (n : ℤ) (c : Content) (rest : List ℕ) → IsContent n c rest → pairs_returns (content_text c rest) ≡ true → front is_feed ((content_cut c).4 ++ ((content_cut c).5 ++ rest)) ≡ true → ends_return (written c) ≡ false
 content_clean n (Nothing tail) rest h pairs feed = refl
 content_clean n (Inline space node tail) rest h pairs feed = search (rules, clean_joined, clean_white, ends_return, node_cut, clean_node, plain_clean)
-content_clean n (Block space anchor block) rest h pairs feed = search (rules, ends_return, clean_byte, indicators_clean, ends_more, some_behind)
+content_clean n (Block space anchor block) rest h pairs feed = search (rules, ends_return, clean_byte, indicators_clean, ends_more, some_after)
 
 -- ---- a row, up to the end of its line
 
@@ -110,7 +110,7 @@ dashes_clean [] t h = h
 dashes_clean (n ∷ ns) t h = clean_byte 45 (replicate n 32 ++ dashes_text ns t) refl (clean_joined (replicate n 32) (dashes_text ns t) (clean_spaces n) (dashes_clean ns t h))
 
 mark_clean : (m : rows.RowMark) (c : Content) (rest : List ℕ) → IsMark m c rest → ends_return (mark_text m []) ≡ false
-mark_clean m c rest h1 = search (rules, ends_return, ends_more, append-nil, some_behind, last_byte)
+mark_clean m c rest h1 = search (rules, ends_return, ends_more, append-nil, some_after, last_byte)
 
 gap_clean : (gap rest : List ℕ) → IsGap gap rest → is_empty rest ≡ false → ends_return gap ≡ false
 gap_clean gap rest h some = go (gap_end gap rest h)
@@ -123,9 +123,9 @@ gap_clean gap rest h some = go (gap_end gap rest h)
 pub line_ends_clean : LineEndsClean
 line_ends_clean limit r rest h pairs feed =
     let text : pairs_returns (content_text r.content rest) ≡ true = pairs_back (row_front r) (content_text r.content rest) (ap pairs_returns (sym (row_front-append r rest)) ∙ pairs) in
-    let some : is_empty (behind_gap r rest) ≡ false = some_behind (replicate r.column 32) (behind_indent r rest) (row_starts limit r rest h).some in
+    let some : is_empty (following_gap r rest) ≡ false = some_after (replicate r.column 32) (after_indent r rest) (row_starts limit r rest h).some in
     clean_joined (row_front r) (written r.content)
-    (clean_joined r.gap (replicate r.column 32 ++ dashes_text r.dashes (mark_text r.mark [])) (gap_clean r.gap (behind_gap r rest) h.gap some)
+    (clean_joined r.gap (replicate r.column 32 ++ dashes_text r.dashes (mark_text r.mark [])) (gap_clean r.gap (following_gap r rest) h.gap some)
     (clean_joined (replicate r.column 32) (dashes_text r.dashes (mark_text r.mark [])) (clean_spaces r.column) (dashes_clean r.dashes (mark_text r.mark []) (mark_clean r.mark r.content rest h.mark))))
     (content_clean (parent_indent r) r.content rest h.content text feed)
 

@@ -3,8 +3,8 @@ use Rattle.std.proofs.Common.{◌≡◌, ℕ, suc, ◌+◌, ◌-◌, ltb, List, 
 use Rattle.std.{proofs.Common.{cond, refl, ap, arith, length-append}, proofs.lemmas.Bool.{ltb-true, ltb-false}}
 use Rattle.yq_outline.{specs.Comments.head_comment, specs.Lines.{mark_line, dash_line, lines_from, row_lines, lines_of_rows}}
 use Rattle.yq_outline.{specs.Outline.Line, proofs.PlaceLaws.at, proofs.Values.If}
-use Rattle.yq_row_table.specs.Rows.{Content, Row, behind_columns}
-use Rattle.yq_documents.specs.LinesInRows.{RowLine, row_line, behind_one}
+use Rattle.yq_row_table.specs.Rows.{Content, Row, after_columns}
+use Rattle.yq_documents.specs.LinesInRows.{RowLine, row_line, one_row_later}
 use Rattle.yq_edit_rules.{specs.Moved.dash_lines, specs.LineRows.{IsRowLine, RowLineSplits}}
 use Rattle.yq_row_table.specs.Rows as rows
 
@@ -13,11 +13,11 @@ abbrev pub above_mark : List (List ℕ) → List ℕ → List (List ℕ)
 above_mark above [] = above
 above_mark above (n ∷ ns) = []
 
-pub mark_behind : (above : List (List ℕ)) (column : ℕ) (ns : List ℕ) (m : rows.RowMark) (c : Content) →
-    lines_from above column ns m c ≡ dash_lines above column ns ++ (mark_line (above_mark above ns) (behind_columns column ns) m c ∷ [])
-mark_behind above column [] m c = refl
-mark_behind above column (n ∷ []) m c = refl
-mark_behind above column (n ∷ (k ∷ ns)) m c = ap (λ (ls : List Line). dash_line above column ∷ ls) (mark_behind [] (suc (column + n)) (k ∷ ns) m c)
+pub mark_after : (above : List (List ℕ)) (column : ℕ) (ns : List ℕ) (m : rows.RowMark) (c : Content) →
+    lines_from above column ns m c ≡ dash_lines above column ns ++ (mark_line (above_mark above ns) (after_columns column ns) m c ∷ [])
+mark_after above column [] m c = refl
+mark_after above column (n ∷ []) m c = refl
+mark_after above column (n ∷ (k ∷ ns)) m c = ap (λ (ls : List Line). dash_line above column ∷ ls) (mark_after [] (suc (column + n)) (k ∷ ns) m c)
 
 pub dashes_count : (above : List (List ℕ)) (column : ℕ) (ns : List ℕ) → length (dash_lines above column ns) ≡ length ns
 dashes_count above column [] = refl
@@ -36,7 +36,7 @@ equal_room [] n = tt
 equal_room (r ∷ rs) n = go (ltb (length r.dashes) n) refl (row_line (n - suc (length r.dashes)) rs) (equal_room rs (n - suc (length r.dashes)))
   where
     go : (b : Bool) → ltb (length r.dashes) n ≡ b → (o : Option RowLine) → If o (IsRowLine (n - suc (length r.dashes)) rs) →
-        If (cond b (option_map behind_one o) (Some (record { before = 0; row = r; line = n }))) (IsRowLine n (r ∷ rs))
+        If (cond b (option_map one_row_later o) (Some (record { before = 0; row = r; line = n }))) (IsRowLine n (r ∷ rs))
     go true e None h = tt
     go true e (Some x) h = record {
       front = r ∷ h.front;

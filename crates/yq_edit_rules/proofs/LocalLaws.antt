@@ -7,7 +7,7 @@ use Rattle.yq_row_table.specs.Items.{Item, row_item, end_item, rows_items, items
 use Rattle.yq_row_table.{specs.Rows.{Row, rows_text, Part, part_text, Cut, cut_text}, proofs.KeptLaws.items_apart}
 use Rattle.yq_documents.{specs.Documents.document_parts, specs.Reading.read_at}
 use Rattle.yq_places.proofs.RunSpans.{rows_then}
-use Rattle.yq_edit_rules.{specs.Changed.put_document, specs.DocumentItems.HasItems, specs.DocumentRows.behind_document}
+use Rattle.yq_edit_rules.{specs.Changed.put_document, specs.DocumentItems.HasItems, specs.DocumentRows.after_document}
 use Rattle.yq_edit_rules.proofs.DocumentItemLaws.{document_has_items, rows_before, rows_joined}
 use Rattle.yq_edit_rules.specs.Local.{InFirst, InLast, IsLocal, IsLocalTo}
 use Rattle.yq_edit_rules.proofs.ItemsLocal.{IsInside, ItemsGiveWay, gone_inside, come_inside, items_local, one_first, one_last}
@@ -24,7 +24,7 @@ pub record RowsGiveWay (ss : List Segment) (c : Cut) (k : ℕ) (q : Part) : Type
   pub p : Part
   pub there : slice_get (document_parts c) k ≡ Some p
   pub start : List ℕ
-  pub put : (x : Part) → cut_text (put_document k x c) ≡ start ++ part_text x (behind_document k c)
+  pub put : (x : Part) → cut_text (put_document k x c) ≡ start ++ part_text x (after_document k c)
   pub front : List Row
   pub gone : List Row
   pub come : List Row
@@ -35,7 +35,7 @@ pub record RowsGiveWay (ss : List Segment) (c : Cut) (k : ℕ) (q : Part) : Type
   pub lead : List ℕ
   pub trail : List ℕ
   pub before_is : kept_front ss ≡ (start ++ rows_text front []) ++ lead
-  pub behind_is : kept_back ss ≡ trail ++ rows_text back (p.end ++ behind_document k c)
+  pub following_is : kept_back ss ≡ trail ++ rows_text back (p.end ++ after_document k c)
   pub puts : are_kept ss ≡ false
   pub old_is : old_text ss ≡ cut_text c
   pub new_is : new_text ss ≡ cut_text (put_document k q c)
@@ -44,16 +44,16 @@ pub at_row : (start : List ℕ) (front : List Row) (lead : List ℕ) → start +
 at_row start front lead = ap (λ t. start ++ t) (rows_then front lead) ∙ sym (append_assoc start (rows_text front []) lead)
 
 -- The items of a document, and the text above it.
-module _ (c : Cut) (k : ℕ) (p : Part) (there : slice_get (document_parts c) k ≡ Some p) (start : List ℕ) (put : (x : Part) → cut_text (put_document k x c) ≡ start ++ part_text x (behind_document k c)) where
+module _ (c : Cut) (k : ℕ) (p : Part) (there : slice_get (document_parts c) k ≡ Some p) (start : List ℕ) (put : (x : Part) → cut_text (put_document k x c) ≡ start ++ part_text x (after_document k c)) where
   abbrev pub h : HasItems c k p
   h = document_has_items c k p there
 
-  put_text : (q : Part) → cut_text (put_document k q c) ≡ items_text h.above (part_text q (behind_document k c))
+  put_text : (q : Part) → cut_text (put_document k q c) ≡ items_text h.above (part_text q (after_document k c))
   put_text q =
       let tail : List Item = end_item q.end h.marker ∷ h.below in
       sym (items_of_text (put_document k q c))
       ∙ (ap (λ is. items_text is []) (h.put q)
-      ∙ (items_text-append h.above (rows_items q.rows tail) [] ∙ ap (items_text h.above) (rows_items_text q.rows tail [] ∙ ap (λ t. rows_text q.rows (q.end ++ t)) (sym h.behind))))
+      ∙ (items_text-append h.above (rows_items q.rows tail) [] ∙ ap (items_text h.above) (rows_items_text q.rows tail [] ∙ ap (λ t. rows_text q.rows (q.end ++ t)) (sym h.after))))
 
   pub above_is : (t : List ℕ) → items_text h.above t ≡ start ++ t
   above_is t = search (rules, items_apart, append_cancel_right, put_text)
@@ -77,11 +77,11 @@ module _ (c : Cut) (k : ℕ) (p : Part) (there : slice_get (document_parts c) k 
   pub front_text : (front : List Row) (t : List ℕ) → items_text (front_items front) t ≡ (start ++ rows_text front []) ++ t
   front_text front t = items_text-append h.above (rows_items front []) t ∙ (ap (items_text h.above) (rows_items_text front [] t) ∙ (above_is (rows_text front t) ∙ at_row start front t))
 
-  pub back_text : (back : List Row) (end : List ℕ) → items_text (back_items back end) [] ≡ rows_text back (end ++ behind_document k c)
-  back_text back end = rows_items_text back (end_item end h.marker ∷ h.below) [] ∙ ap (λ t. rows_text back (end ++ t)) (sym h.behind)
+  pub back_text : (back : List Row) (end : List ℕ) → items_text (back_items back end) [] ≡ rows_text back (end ++ after_document k c)
+  back_text back end = rows_items_text back (end_item end h.marker ∷ h.below) [] ∙ ap (λ t. rows_text back (end ++ t)) (sym h.after)
 
   -- the text of the cut, by rows of the document
-  cut_at : (front mid back : List Row) → p.rows ≡ front ++ (mid ++ back) → cut_text c ≡ (start ++ rows_text front []) ++ (rows_text mid [] ++ rows_text back (p.end ++ behind_document k c))
+  cut_at : (front mid back : List Row) → p.rows ≡ front ++ (mid ++ back) → cut_text c ≡ (start ++ rows_text front []) ++ (rows_text mid [] ++ rows_text back (p.end ++ after_document k c))
   cut_at front mid back e =
       sym (items_of_text c)
       ∙ (ap (λ is. items_text is []) (h.old ∙ around front mid back p e)
@@ -105,7 +105,7 @@ module _ (ss : List Segment) (c : Cut) (k : ℕ) (q : Part) (e : RowsGiveWay ss 
     lead = e.lead;
     trail = e.trail;
     before_is = e.before_is ∙ sym (front_text c k e.p e.there e.start e.put e.front e.lead);
-    behind_is = e.behind_is ∙ ap (λ t. e.trail ++ t) (sym (back_text c k e.p e.there e.start e.put e.back e.p.end));
+    following_is = e.following_is ∙ ap (λ t. e.trail ++ t) (sym (back_text c k e.p e.there e.start e.put e.back e.p.end));
     puts = e.puts;
     old_is = e.old_is;
     new_is = e.new_is;
@@ -147,17 +147,17 @@ longer_end [] b (x ∷ t) r e h = absurd (omega (arith, h, ap length e, length-a
 longer_end (y ∷ a) b (x ∷ t) r e h = let k = longer_end a b t r (tail-eq_of_cons-eq e) h in (k.0, k.1, λ i. head-eq_of_cons-eq e i ∷ k.2 i)
 
 -- One row is replaced by another, where segments keep what is in front of it and what comes after it.
-pub row_by_size : (c : Cut) (k : ℕ) (p : Part) (there : slice_get (document_parts c) k ≡ Some p) (start : List ℕ) (put : (x : Part) → cut_text (put_document k x c) ≡ start ++ part_text x (behind_document k c))
+pub row_by_size : (c : Cut) (k : ℕ) (p : Part) (there : slice_get (document_parts c) k ≡ Some p) (start : List ℕ) (put : (x : Part) → cut_text (put_document k x c) ≡ start ++ part_text x (after_document k c))
     (front : List Row) (r s : Row) (back : List Row) (q : Part) (ss : List Segment) → p.rows ≡ front ++ (r ∷ back) → q.rows ≡ front ++ (s ∷ back) → q.end ≡ p.end → are_kept ss ≡ false →
-    old_text ss ≡ cut_text c → new_text ss ≡ cut_text (put_document k q c) → length (start ++ rows_text front []) ≤ length (kept_front ss) → length (rows_text back (p.end ++ behind_document k c)) ≤ length (kept_back ss) →
+    old_text ss ≡ cut_text c → new_text ss ≡ cut_text (put_document k q c) → length (start ++ rows_text front []) ≤ length (kept_front ss) → length (rows_text back (p.end ++ after_document k c)) ≤ length (kept_back ss) →
     IsLocal ss c (put_document k q c)
-row_by_size c k p there start put front r s back q ss was is end puts old new before behind =
+row_by_size c k p there start put front r s back q ss was is end puts old new before after =
     let f : List ℕ = start ++ rows_text front [] in
-    let z : List ℕ = rows_text back (p.end ++ behind_document k c) in
+    let z : List ℕ = rows_text back (p.end ++ after_document k c) in
     let b : IsBetween ss = between ss puts in
     let whole : f ++ (rows_text (r ∷ []) [] ++ z) ≡ kept_front ss ++ (b.old ++ kept_back ss) = sym (cut_at c k p there start put front (r ∷ []) back was) ∙ (sym old ∙ b.old_is) in
     let lead = longer_front f (rows_text (r ∷ []) [] ++ z) (kept_front ss) (b.old ++ kept_back ss) whole before in
-    let trail = longer_end (f ++ rows_text (r ∷ []) []) z (kept_front ss ++ b.old) (kept_back ss) (append_assoc f (rows_text (r ∷ []) []) z ∙ (whole ∙ sym (append_assoc (kept_front ss) b.old (kept_back ss)))) behind in
+    let trail = longer_end (f ++ rows_text (r ∷ []) []) z (kept_front ss ++ b.old) (kept_back ss) (append_assoc f (rows_text (r ∷ []) []) z ∙ (whole ∙ sym (append_assoc (kept_front ss) b.old (kept_back ss)))) after in
     row_local ss c k q (record {
       p = p;
       there = there;
@@ -173,7 +173,7 @@ row_by_size c k p there start put front r s back q ss was is end puts old new be
       lead = lead.0;
       trail = trail.0;
       before_is = lead.1;
-      behind_is = trail.1;
+      following_is = trail.1;
       puts = puts;
       old_is = old;
       new_is = new;

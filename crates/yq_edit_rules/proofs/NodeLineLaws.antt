@@ -3,13 +3,12 @@ use Rattle.std.proofs.Common.{◌≡◌, ℕ, ◌<◌, ◌≤◌, List, [], ◌�
 use Rattle.std.{proofs.Common.{append-nil, rules}, proofs.lemmas.Option.{none-some, same_Some}}
 use Rattle.yq_core.{specs.Paths.{Step, changed_at}, specs.Tree.Node}
 use Rattle.yq_outline.{specs.Group.level_or, specs.Laws.with_lines}
-use Rattle.yq_outline.specs.Outline.{Line, level, Outline, end, row, flatten, IsEven, anchored, value, Stands}
+use Rattle.yq_outline.specs.Outline.{Line, level, Outline, end, row, flatten, IsEven, anchored, value, IsLocatedAt}
 use Rattle.yq_outline.specs.Places.{Context, here, below, beside, lines_after, compose, FoundLine, find, content_under}
 use Rattle.yq_outline.{proofs.Allowing.Allows, proofs.Finding.{IsFoundIn, path_whole}, proofs.PlaceLaws.{at, exchanged}}
 use Rattle.yq_outline.{proofs.Plug.{allows_from, closed}, proofs.Values.rank_small, proofs.NodeLaws.anchored_none}
 use Rattle.yq_places.proofs.FlowViewLaws.{before_under}
-use Rattle.yq_edit_rules.specs.Siblings.{HasEntries, NodeLines, under_line, lines_below, lines_at, put_lines, StandsSomewhere}
-use Rattle.yq_edit_rules.specs.Siblings.{LinesReplaced}
+use Rattle.yq_edit_rules.specs.Siblings.{HasEntries, NodeLines, under_line, lines_below, lines_at, put_lines, AreSomewhere, LinesReplaced}
 
 -- the lines after a place in what is under a line
 pub after_under : (p : Context) (l : Line) (a : Outline) → lines_after (compose p (below l here a)) ≡ flatten a ++ lines_after p
@@ -66,7 +65,7 @@ pub lines_replaced : LinesReplaced
 lines_replaced n m o u [] h g even e fit = search (rules, same_Some, append-nil, anchored_none)
 lines_replaced n m o u (s ∷ ss) h g even e fit = found (lines_found s ss o h e)
   where
-    found : Under s ss o h → (flatten o ≡ put_lines h (flatten h.lines)) × StandsSomewhere (put_lines h (flatten u)) (changed_at (s ∷ ss) g (value o))
+    found : Under s ss o h → (flatten o ≡ put_lines h (flatten h.lines)) × AreSomewhere (put_lines h (flatten u)) (changed_at (s ∷ ss) g (value o))
     found w =
         let f : FoundLine = w.found in
         let old = under_even n o s ss f even w.is in
@@ -74,5 +73,5 @@ lines_replaced n m o u (s ∷ ss) h g even e fit = found (lines_found s ss o h e
         let is' : anchored f.line.anchor (value u) ≡ g (anchored f.line.anchor (value f.under)) = search rules in
         let same : content_under f.line u ≡ g (content_under f.line f.under) = rw w.open' is' in
         let law = exchanged n o s ss [] f even w.is g m f.line u refl refl (closed f.line.head u w.open') (old.1).2 deep' fit.even same in
-        subst (λ (x : NodeLines). (flatten o ≡ put_lines x (flatten x.lines)) × StandsSomewhere (put_lines x (flatten u)) (changed_at (s ∷ ss) g (value o))) w.place_is
-        (law.0 ∙ sym (put_under f (flatten f.under)), (n, subst (λ ls. Stands ls (changed_at (s ∷ ss) g (value o)) n) (sym (put_under f (flatten u))) law.1))
+        subst (λ (x : NodeLines). (flatten o ≡ put_lines x (flatten x.lines)) × AreSomewhere (put_lines x (flatten u)) (changed_at (s ∷ ss) g (value o))) w.place_is
+        (law.0 ∙ sym (put_under f (flatten f.under)), (n, subst (λ ls. IsLocatedAt ls (changed_at (s ∷ ss) g (value o)) n) (sym (put_under f (flatten u))) law.1))

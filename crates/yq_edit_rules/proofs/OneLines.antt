@@ -15,13 +15,13 @@ left_none [] b e = e
 left_none (x ∷ a) b e = absurd (let none : x ∷ (a ++ b) ≡ [] = e in cc)
 
 -- what comes after a line feed in such a text
-pub behind_feed : (u w : List ℕ) → is_one_line (u ++ w) ≡ true → IsLf u → w ≡ []
-behind_feed [] w h lf = absurd (none lf.0 lf.1)
+pub past_feed : (u w : List ℕ) → is_one_line (u ++ w) ≡ true → IsLf u → w ≡ []
+past_feed [] w h lf = absurd (none lf.0 lf.1)
   where
     none : (f : List ℕ) → [] ≡ f ++ 10 ∷ [] → ⊥
     none [] e = cc
     none (x ∷ f) e = cc
-behind_feed (b ∷ u) w h lf = go (behind_feed u w) (is_feed b) refl
+past_feed (b ∷ u) w h lf = go (past_feed u w) (is_feed b) refl
   where
     more : is_feed b ≡ false → (f : List ℕ) → b ∷ u ≡ f ++ 10 ∷ [] → IsLf u
     more e [] is = absurd (false≢true (sym e ∙ ap is_feed (head-eq_of_cons-eq is)))

@@ -9,7 +9,7 @@ use Rattle.yq_outline.{proofs.Decides.flatten-group, specs.Lines.lines_of_rows, 
 use Rattle.yq_row_table.specs.Rows.{Row, Part}
 use Rattle.yq_documents.{specs.Reading.part_outline, specs.LinesInRows.{RowLine, row_line}}
 use Rattle.yq_places.{specs.RemovalPlaces.{OwnRows, row_count}, proofs.UnderCounts.count_under}
-use Rattle.yq_edit_rules.{specs.EntryRows.HasWholeRows, specs.LineRows.{Begins, lines_behind}, specs.RemovalChanges.OwnRowsStand}
+use Rattle.yq_edit_rules.{specs.EntryRows.HasWholeRows, specs.LineRows.{Begins, following_lines}, specs.RemovalChanges.OwnRowsAreThere}
 use Rattle.yq_edit_rules.{specs.Siblings.{IsEntryAt, NodeLines, append_outline}, proofs.ApartLaws.entries_apart}
 use Rattle.yq_edit_rules.{proofs.CollectionLaws.{relabelled, some_at}, proofs.NodeLineLaws.lines_even, proofs.PartLaws.document_known}
 use Rattle.yq_edit_rules.{proofs.PathLaws.path_is_entry, proofs.PlacedLaws.around, proofs.RowsLaws.entry_rows}
@@ -37,7 +37,7 @@ begins_none n (l ∷ ls) h = cond-false (ltb n (level l)) (suc (deeper_count n l
 
 -- the lines of an item or entry among those of a part
 pub lines_are : (p : Part) (n : ℕ) (steps : List Step) (s : Step) (h : NodeLines) (f : FoundLine) → IsEven n (part_outline p) → IsEntryAt steps s (part_outline p) h f →
-    lines_of_rows p.rows ≡ (lines_before h.place ++ lines_before f.place) ++ (f.line ∷ (flatten f.under ++ lines_behind h f))
+    lines_of_rows p.rows ≡ (lines_before h.place ++ lines_before f.place) ++ (f.line ∷ (flatten f.under ++ following_lines h f))
 lines_are p n steps s h f even at =
     sym (flatten-group (lines_of_rows p.rows))
     ∙ ((relabelled n (part_outline p) steps h s f (λ y. y) f.line even at (record { level_is = refl; head_is = refl; anchor_is = refl; label_is = refl })).0
@@ -53,16 +53,16 @@ lines_counted p n steps s h f even at k number =
     let m = level_or 0 h.lines in
     let whole : IsEven m (append_outline w.front (row f.line f.under f.after)) = subst (IsEven m) (sym w.whole) deep.1 in
     let here = even_right m w.front (row f.line f.under f.after) whole in
-    let next : Begins (level f.line) (lines_behind h f) = (entries_apart n (part_outline p) steps s h f even at).next in
+    let next : Begins (level f.line) (following_lines h f) = (entries_apart n (part_outline p) steps s h f even at).next in
     let size : length b ≡ k = omega (arith, number, length-append (lines_before h.place) (lines_before f.place)) in
-    let count : deeper_count (level f.line) (flatten f.under ++ lines_behind h f) ≡ length (flatten f.under) + deeper_count (level f.line) (lines_behind h f) =
-    count_under (level f.line) here.3.0 f.under (lines_behind h f) (omega (arith, here.0, here.3.1)) here.3.2 in
-    let end : lines_end k (lines_of_rows p.rows) ≡ suc (length b) + deeper_count (level f.line) (flatten f.under ++ lines_behind h f) =
-    (λ i. lines_end (sym size i) (lines_are p n steps s h f even at i)) ∙ end_at b f.line (flatten f.under ++ lines_behind h f) in
-    omega (arith, size, count, end, begins_none (level f.line) (lines_behind h f) next)
+    let count : deeper_count (level f.line) (flatten f.under ++ following_lines h f) ≡ length (flatten f.under) + deeper_count (level f.line) (following_lines h f) =
+    count_under (level f.line) here.3.0 f.under (following_lines h f) (omega (arith, here.0, here.3.1)) here.3.2 in
+    let end : lines_end k (lines_of_rows p.rows) ≡ suc (length b) + deeper_count (level f.line) (flatten f.under ++ following_lines h f) =
+    (λ i. lines_end (sym size i) (lines_are p n steps s h f even at i)) ∙ end_at b f.line (flatten f.under ++ following_lines h f) in
+    omega (arith, size, count, end, begins_none (level f.line) (following_lines h f) next)
 
-pub own_rows_stand : OwnRowsStand
-own_rows_stand t c k p steps s x old is =
+pub own_rows_are_there : OwnRowsAreThere
+own_rows_are_there t c k p steps s x old is =
     let ls : List Line = lines_of_rows p.rows in
     let known = document_known t c k p old in
     let m = level_or 0 (part_outline p) in
@@ -75,7 +75,7 @@ own_rows_stand t c k p steps s x old is =
     let w = path_is_entry p m steps s n known.even line.1 in
     let r = entry_rows p m steps s w.h w.f q known.even w.entry (subst (λ (j : ℕ). row_line j p.rows ≡ Some q) w.number at.1) first in
     let lines : lines_end n ls - n ≡ length (lines_of_rows r.gone) = lines_counted p m steps s w.h w.f known.even w.entry n w.number ∙ sym r.has.count in
-    let behind : drop q.before p.rows ≡ r.gone ++ r.back = (λ j. drop (sym r.number j) (r.has.rows_are j)) ∙ drop-append_seam r.front (r.gone ++ r.back) in
-    let count : row_count (lines_end n ls - n) (drop q.before p.rows) ≡ length r.gone = (λ j. row_count (lines j) (behind j)) ∙ count_rows r.gone r.back in
+    let after : drop q.before p.rows ≡ r.gone ++ r.back = (λ j. drop (sym r.number j) (r.has.rows_are j)) ∙ drop-append_seam r.front (r.gone ++ r.back) in
+    let count : row_count (lines_end n ls - n) (drop q.before p.rows) ≡ length r.gone = (λ j. row_count (lines j) (after j)) ∙ count_rows r.gone r.back in
     let same : record { front = r.front; own = r.gone; back = r.back } ≡ x = search (rules, take-append_seam, drop-append_seam, n, q, r, count, guard, ls) in
     record { h = w.h; f = w.f; entry = w.entry; rows = subst (λ (y : OwnRows). HasWholeRows p w.h w.f y.front y.own y.back) same r.has }

@@ -6,7 +6,7 @@ use Rattle.yq_core.{proofs.Bools.guard_then, specs.Characters.is_text}
 use Rattle.yq_row_table.specs.Grammar.{unlimited, AreRows, IsCut, no_rows, begins_document}
 use Rattle.yq_row_table.{proofs.splices.PartPlaces.{part_in, part_after}, proofs.splices.SpliceLaws.spliced}
 use Rattle.yq_row_table.specs.Rows.{Row, rows_text, Part, Cut, last, marked, cut_text}
-use Rattle.yq_row_table.specs.Splices.{with_first_gap, end_gap, behind_first, splice_part, splice, nth_part, behind_part, is_started}
+use Rattle.yq_row_table.specs.Splices.{with_first_gap, end_gap, after_first, splice_part, splice, nth_part, after_part, is_started}
 use Rattle.yq_row_table.{specs.Splices.marker_before, specs.SpliceFits.{is_after, SpliceFits}, proofs.splices.SpliceCases.open_part}
 use Rattle.yq_text.specs.Limit.{text_limit}
 use Rattle.yq_documents.specs.Documents.{HaveFitKeys, HasShortRoot, begins_bare, document_parts, has_begin, parts_from}
@@ -15,8 +15,7 @@ use Rattle.yq_documents.{specs.PartNumbers.{number_from, part_number}, proofs.Pa
 use Rattle.yq_places.{specs.RowPaths.IsReadable, proofs.RowPathLaws.document_fine}
 use Rattle.yq_outline.proofs.Decides.{even_from}
 use Rattle.yq_edit_rules.{specs.Changed.{put_part, put_document}, specs.Edited.IsPut}
-use Rattle.yq_edit_rules.specs.DocumentRows.{IsDocumentPart, behind_document, PartNumbered, RowsPut, DocumentKnown, RowsFit}
-use Rattle.yq_edit_rules.specs.DocumentRows.{DocumentSpliced}
+use Rattle.yq_edit_rules.specs.DocumentRows.{IsDocumentPart, after_document, PartNumbered, RowsPut, DocumentKnown, RowsFit, DocumentSpliced}
 
 splice_put : (m i j : ℕ) (new : List Row) (gap : List ℕ) (c : Cut) → splice m i j new gap c ≡ put_part m (splice_part i j new gap (nth_part m c)) c
 splice_put m i j new gap (last p) = refl
@@ -73,7 +72,7 @@ short_stays (r ∷ front) a b n h = h
 
 -- rows that fit, in a document
 pub fits : (marker : List ℕ) (started : Bool) (front gone back new : List Row) (gap : List ℕ) (p : Part) (rest : List ℕ) → p.rows ≡ front ++ (gone ++ back) → RowsFit front new back gap p rest →
-    is_after marker (rows_text new (gap ++ behind_first back p.end rest)) ≡ true → started ≡ true →
+    is_after marker (rows_text new (gap ++ after_first back p.end rest)) ≡ true → started ≡ true →
     SpliceFits marker started (length front) (length front + length gone) new gap p rest
 fits marker started front gone back new gap p rest rows h after begun = search (rules, take_front, drop_gone, or_right)
 
@@ -90,8 +89,8 @@ pub document_started : (c : Cut) (k : ℕ) (p : Part) → slice_get (document_pa
 document_started c k p e = started_is (begins_bare c || not (has_begin c)) true k c p e (λ i. refl)
 
 -- the rows of a document
-pub part_rows : (t : List ℕ) (c : Cut) (k : ℕ) (p : Part) → IsDocumentPart t c k p → IsCut t c → AreRows unlimited p.rows p.end (behind_document k c)
-part_rows t c k p old cut = subst (λ (x : Part). AreRows unlimited x.rows x.end (behind_document k c)) (part_numbered c k p old.there).0 (part_in c (part_number k c) true cut.parts).rows
+pub part_rows : (t : List ℕ) (c : Cut) (k : ℕ) (p : Part) → IsDocumentPart t c k p → IsCut t c → AreRows unlimited p.rows p.end (after_document k c)
+part_rows t c k p old cut = subst (λ (x : Part). AreRows unlimited x.rows x.end (after_document k c)) (part_numbered c k p old.there).0 (part_in c (part_number k c) true cut.parts).rows
 
 pub document_spliced : DocumentSpliced
 document_spliced t c k p front gone back new gap old cut rows some h text =
@@ -99,11 +98,11 @@ document_spliced t c k p front gone back new gap old cut rows some h text =
     let is : nth_part j c ≡ p = (part_numbered c k p old.there).0 in
     let same = rows_put c k p front gone back new gap old.there rows in
     let here : no_rows (nth_part j c).rows ≡ false = ap (λ (x : Part). no_rows x.rows) is ∙ some in
-    let u : List ℕ = rows_text new (gap ++ behind_first back p.end (behind_part j c)) in
+    let u : List ℕ = rows_text new (gap ++ after_first back p.end (after_part j c)) in
     let part = part_in c j true cut.parts in
     let begun : is_started true j c ≡ true = open_part (is_started true j c) (no_rows (nth_part j c).rows) part.inside here in
-    let all = fits (marker_before [] j c) (is_started true j c) front gone back new gap p (behind_part j c) rows h (part_after c j true u cut.parts here) begun in
+    let all = fits (marker_before [] j c) (is_started true j c) front gone back new gap p (after_part j c) rows h (part_after c j true u cut.parts here) begun in
     subst (λ (x : Cut). IsCut (cut_text x) x) same
     (spliced t c j (length front) (length front + length gone) new gap cut (subst
-    (λ (x : Part). SpliceFits (marker_before [] j c) (is_started true j c) (length front) (length front + length gone) new gap x (behind_part j c)) (sym is) all)
+    (λ (x : Part). SpliceFits (marker_before [] j c) (is_started true j c) (length front) (length front + length gone) new gap x (after_part j c)) (sym is) all)
     (ap (λ (x : Cut). is_text (cut_text x)) same ∙ text.characters) (subst (λ (x : Cut). length (cut_text x) ≤ text_limit) (sym same) text.size))

@@ -14,7 +14,7 @@ use Rattle.yq_edit_rules.{specs.BlockValues.{HasNearKeys, IsCollection, IsFilled
 use Rattle.yq_edit_rules.proofs.CharacterLaws.{IsUtf8Text, break_sound, value_sound, sound_join}
 use Rattle.yq_edit_rules.proofs.BlockEndLaws.{break_ends, break_tail, line_ends}
 use Rattle.yq_edit_rules.{proofs.FitLaws.{RowsAreFit, all_bound, anchors_fit, keys_fit, node_fit}, proofs.LaidRows.{laid_rows, no_gap_here}}
-use Rattle.yq_edit_rules.{proofs.BlockLineLaws.{break_uncommented, unanchored, node_stands}, proofs.RowLaws.node_laid}
+use Rattle.yq_edit_rules.{proofs.BlockLineLaws.{break_uncommented, unanchored, node_is_there}, proofs.RowLaws.node_laid}
 use Rattle.yq_edit_rules.{proofs.ScalarLaws.heads, proofs.TextLaws.node_spelled}
 use Rattle.yq_core.specs.Tree as tree
 use Rattle.yq_core.specs.Nodes as inline
@@ -53,7 +53,7 @@ block_all v l step b h near =
     record {
       laid = laid_rows 0 _ [] unlimited laid refl;
       spelled = node_spelled v l 0 end [] b h ∙ ap (λ (t : List ℕ). block_node l 0 v ++ t) (append-nil end);
-      root = root_of (node_stands v l 0 end step b h (break_uncommented l.br));
+      root = root_of (node_is_there v l 0 end step b h (break_uncommented l.br));
       fit = node_fit v l 0 end h;
       gap = search rules;
       short = search rules;
@@ -66,7 +66,7 @@ empty_row l node = record { gap = []; column = 0; dashes = []; mark = rows.Bare;
 empty_all : (v : tree.Node) (l : Layout) (node : inline.FlowNode) → IsHead v node → ((t : List ℕ) → is_marker (node_text node t) ≡ false) →
     is_plain_content node ≡ false → IsAllOf v (node_text node [] ++ break_text l.br) (empty_row l node ∷ [])
 empty_all v l node h unmarked plain = record {
-  laid = search (rules, no_gap_here, break_ends, end_line, break_tail, h.stands);
+  laid = search (rules, no_gap_here, break_ends, end_line, break_tail, h.is_located);
   spelled = node_then node (break_text l.br ++ []) ∙ ap (λ (t : List ℕ). node_text node [] ++ t) (append-nil (break_text l.br));
   root = (_, subst (IsNodeOutline _ (lines_of_rows (empty_row l node ∷ []))) (unanchored _ v h.unnamed) (alone refl refl h.same));
   fit = ((tt, h.keys, h.unnamed), tt);

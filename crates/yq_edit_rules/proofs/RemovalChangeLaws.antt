@@ -12,19 +12,19 @@ use Rattle.yq_outline.specs.Places.{plug, lines_before, lines_after, FoundLine, 
 use Rattle.yq_outline.{proofs.Finding.{IsFoundIn, children-collection, path_node, path_whole, row_child}, proofs.PlaceLaws.at}
 use Rattle.yq_outline.{proofs.ChildLaws.anchored_children, specs.Lines.lines_of_rows}
 use Rattle.yq_row_table.{specs.Grammar.no_rows, specs.Rows.{Row, rows_text, Part, part_text, Cut, cut_text}}
-use Rattle.yq_row_table.specs.Splices.{first_gap, behind_first}
+use Rattle.yq_row_table.specs.Splices.{first_gap, after_first}
 use Rattle.yq_documents.{specs.Documents.lead_of, specs.Reading.{part_outline, read_at, root_of}, specs.Ready.begins_no_node}
 use Rattle.yq_documents.proofs.ReadLaws.{text_takes}
 use Rattle.yq_places.specs.PlacedRows.{PlacedPart, placed_document}
 use Rattle.yq_places.specs.RemovalPlaces.{OwnRows, own_rows, kept_gap, Removal, rows_out, removal_place, has_several}
 use Rattle.yq_places.{specs.RowPaths.IsReadable, proofs.PlacedPartLaws.map_some, proofs.RemovalTexts.old_text}
 use Rattle.yq_edit_rules.{specs.Changed.{IsChanged, KeepsRows, put_document}, specs.Conditions.AreSpared}
-use Rattle.yq_edit_rules.specs.DocumentRows.{IsDocumentPart, behind_document}
-use Rattle.yq_edit_rules.{specs.RemovalChanges.{mended, HasOwnRows, RemovalStands, IsTakenOut, MayTakeOut}, specs.Removes.without}
+use Rattle.yq_edit_rules.specs.DocumentRows.{IsDocumentPart, after_document}
+use Rattle.yq_edit_rules.{specs.RemovalChanges.{mended, HasOwnRows, RemovalIsThere, IsTakenOut, MayTakeOut}, specs.Removes.without}
 use Rattle.yq_edit_rules.{specs.Siblings.{IsEntry, HasEntries, IsEntryAt, NodeLines, lines_at, put_lines}, specs.TextPieces.IsPiece}
 use Rattle.yq_edit_rules.{proofs.AfterLaws.end_is_change, proofs.CollectionLaws.some_at}
-use Rattle.yq_edit_rules.{proofs.NodeLineLaws.{Under, lines_found, lines_even, put_under}, proofs.OwnRowLaws.own_rows_stand}
-use Rattle.yq_edit_rules.{proofs.PartLaws.document_known, proofs.PlacedPartLaws.document_stands_at}
+use Rattle.yq_edit_rules.{proofs.NodeLineLaws.{Under, lines_found, lines_even, put_under}, proofs.OwnRowLaws.own_rows_are_there}
+use Rattle.yq_edit_rules.{proofs.PartLaws.document_known, proofs.PlacedPartLaws.document_is_there_at}
 use Rattle.yq_edit_rules.{proofs.RemovalPieceLaws.{pieces_left, mended_piece}, proofs.RemovalTextLaws.new_text}
 use Rattle.yq_edit_rules.{proofs.RemoveLaws.block_gone, proofs.SiblingLaws.{entry_in, entry_out, flatten-append, next}}
 use Rattle.yq_edit_rules.{proofs.TextPieceLaws.{pieces_joined, text_is_piece}, proofs.ReplaceLaws.found_entries}
@@ -40,9 +40,9 @@ take_init ss s =
     let size : length (ss ++ (s ∷ [])) - 1 ≡ length ss = omega (arith, length-append ss (s ∷ [])) in
     ap (λ (n : ℕ). take n (ss ++ (s ∷ []))) size ∙ take-append_seam ss (s ∷ [])
 
-node_behind : (ss : List Step) (s : Step) (n : Node) → node_at (ss ++ (s ∷ [])) n ≡ option_and_then (node_at (s ∷ [])) (node_at ss n)
-node_behind [] s n = refl
-node_behind (t ∷ ts) s n = search (rules, node_behind ts s)
+node_after : (ss : List Step) (s : Step) (n : Node) → node_at (ss ++ (s ∷ [])) n ≡ option_and_then (node_at (s ∷ [])) (node_at ss n)
+node_after [] s n = refl
+node_after (t ∷ ts) s n = search (rules, node_after ts s)
 
 -- ---- the collection at a path
 
@@ -73,7 +73,7 @@ collection_node (t ∷ ts) o h e b = found (lines_found t ts o h e)
         }
 
 entry_node : (ss : List Step) (s : Step) (o : Outline) (h : NodeLines) (f : FoundLine) → IsEntryAt ss s o h f → node_at (ss ++ (s ∷ [])) (value o) ≡ Some (content_under f.line f.under)
-entry_node ss s o h f at = search (rules, collection_node ss o h at.place_is at.block, node_behind, row_child)
+entry_node ss s o h f at = search (rules, collection_node ss o h at.place_is at.block, node_after, row_child)
 
 -- ---- something is left
 
@@ -148,23 +148,23 @@ has_first p ss s own h = go own.own refl
     go [] e = let none : length (lines_of_rows own.own) ≡ 0 = ap (λ (x : List Row). length (lines_of_rows x)) e in absurd (omega (arith, none, h.rows.count))
     go (r ∷ rs) e = record { first = r; others = rs; own_are = e; rows_are = h.rows.rows_are ∙ ap (λ (x : List Row). own.front ++ (x ++ own.back)) e }
 
-stands_at : (c : Cut) (k : ℕ) (ss : List Step) (s : Step) (x : Removal) → read_at (cut_text c) ≡ Some c → IsRowsOut c k (ss ++ (s ∷ [])) x → cut_text c ≡ x.before ++ (x.gone ++ (x.gap ++ x.behind))
-stands_at c k ss s x read h =
-    let st = document_stands_at c k h.d h.is in
-    let own = own_rows_stand (cut_text c) c k h.d.part ss s h.own (record { read = read; there = st.there }) h.rows in
+is_located_at : (c : Cut) (k : ℕ) (ss : List Step) (s : Step) (x : Removal) → read_at (cut_text c) ≡ Some c → IsRowsOut c k (ss ++ (s ∷ [])) x → cut_text c ≡ x.before ++ (x.gone ++ (x.gap ++ x.after))
+is_located_at c k ss s x read h =
+    let st = document_is_there_at c k h.d h.is in
+    let own = own_rows_are_there (cut_text c) c k h.d.part ss s h.own (record { read = read; there = st.there }) h.rows in
     let first = has_first h.d.part ss s h.own own in
-    st.text ∙ (old_text h.d h.own own.rows.rows_are (ap no_rows first.own_are) ∙ ap (λ (y : Removal). y.before ++ (y.gone ++ (y.gap ++ y.behind))) h.out)
+    st.text ∙ (old_text h.d h.own own.rows.rows_are (ap no_rows first.own_are) ∙ ap (λ (y : Removal). y.before ++ (y.gone ++ (y.gap ++ y.after))) h.out)
 
-pub removal_stands : RemovalStands
-removal_stands c k steps x read e = go steps refl (out_is c k steps x e)
+pub removal_is_there : RemovalIsThere
+removal_is_there c k steps x read e = go steps refl (out_is c k steps x e)
   where
-    go : (ts : List Step) → steps ≡ ts → IsRowsOut c k steps x → cut_text c ≡ x.before ++ (x.gone ++ (x.gap ++ x.behind))
+    go : (ts : List Step) → steps ≡ ts → IsRowsOut c k steps x → cut_text c ≡ x.before ++ (x.gone ++ (x.gap ++ x.after))
     go [] is h = absurd (none-some _ (ap (λ (ts : List Step). own_rows ts h.d.part.rows) (sym is) ∙ h.rows))
-    go (t ∷ ts) is h = let y = snoc t ts in stands_at c k y.0 y.1 x read (subst (λ (zs : List Step). IsRowsOut c k zs x) (is ∙ y.2) h)
+    go (t ∷ ts) is h = let y = snoc t ts in is_located_at c k y.0 y.1 x read (subst (λ (zs : List Step). IsRowsOut c k zs x) (is ∙ y.2) h)
 
 -- the new text is one that may be read
 new_readable : (c : Cut) (k : ℕ) (d : PlacedPart) (own : OwnRows) (r : Row) (rs : List Row) → read_at (cut_text c) ≡ Some c → placed_document k c ≡ Some d → own.own ≡ r ∷ rs → d.part.rows ≡ own.front ++ ((r ∷ rs) ++ own.back) →
-    IsPiece ((rows_out d own).before ++ (mended (rows_out d own).seam (rows_out d own).gap ++ (rows_out d own).behind))
+    IsPiece ((rows_out d own).before ++ (mended (rows_out d own).seam (rows_out d own).gap ++ (rows_out d own).after))
 unfolding read_at
 new_readable c k d own r rs read is first rows =
     let cut = (text_takes (cut_text c) c (guard_then _ read).1).0 in
@@ -172,7 +172,7 @@ new_readable c k d own r rs read is first rows =
     let same : record { front = own.front; own = r ∷ rs; back = own.back } ≡ own = (λ i. record { front = own.front; own = sym first i; back = own.back }) in
     let h = pieces_left k c d own.front r rs own.back cut.parts is rows (text_is_piece c read) in
     let before : IsPiece x.before = subst (λ (o : OwnRows). IsPiece (rows_out d o).before) same h.before_is in
-    pieces_joined x.before (mended x.seam x.gap ++ x.behind) before (pieces_joined (mended x.seam x.gap) x.behind (mended_piece x.seam x.gap x.behind h.gap_stands h.gap_is) h.behind_is)
+    pieces_joined x.before (mended x.seam x.gap ++ x.after) before (pieces_joined (mended x.seam x.gap) x.after (mended_piece x.seam x.gap x.after h.gap_is_there h.gap_is) h.following_is)
 
 -- what is asked of an item or entry that may be taken out
 pub may_go : (t : List ℕ) (c : Cut) (k : ℕ) (p : Part) (ss : List Step) (s : Step) (h : NodeLines) (f : FoundLine) → IsDocumentPart t c k p → IsEntryAt ss s (part_outline p) h f → MayTakeOut c k (ss ++ (s ∷ [])) →
@@ -199,25 +199,25 @@ pub record AreRowsTaken (c : Cut) (k : ℕ) (x : Removal) (old new : Part) : Typ
   pub rows_are : old.rows ≡ front ++ ((first ∷ others) ++ back)
   pub new_is : new ≡ without front (first ∷ others) back old
   pub start : List ℕ
-  pub put : (q : Part) → cut_text (put_document k q c) ≡ start ++ part_text q (behind_document k c)
+  pub put : (q : Part) → cut_text (put_document k q c) ≡ start ++ part_text q (after_document k c)
   pub before_is : x.before ≡ start ++ rows_text front (kept_gap (first ∷ others) old.end)
-  pub behind_is : x.behind ≡ behind_first back old.end (behind_document k c)
+  pub following_is : x.after ≡ after_first back old.end (after_document k c)
   pub gap_is : x.gap ≡ first_gap back old.end
 
 taken_at : (c : Cut) (k : ℕ) (ss : List Step) (s : Step) (x : Removal) → read_at (cut_text c) ≡ Some c → IsRowsOut c k (ss ++ (s ∷ [])) x → MayTakeOut c k (ss ++ (s ∷ [])) →
-    length (x.before ++ (mended x.seam x.gap ++ x.behind)) ≤ text_limit →
-    (out : IsTakenOut c k (ss ++ (s ∷ [])) (x.before ++ (mended x.seam x.gap ++ x.behind))) × AreRowsTaken c k x out.old out.new
+    length (x.before ++ (mended x.seam x.gap ++ x.after)) ≤ text_limit →
+    (out : IsTakenOut c k (ss ++ (s ∷ [])) (x.before ++ (mended x.seam x.gap ++ x.after))) × AreRowsTaken c k x out.old out.new
 taken_at c k ss s x read h may size =
     let t : List ℕ = cut_text c in
-    let st = document_stands_at c k h.d h.is in
+    let st = document_is_there_at c k h.d h.is in
     let p : Part = h.d.part in
     let old : IsDocumentPart t c k p = record { read = read; there = st.there } in
-    let w = own_rows_stand t c k p ss s h.own old h.rows in
+    let w = own_rows_are_there t c k p ss s h.own old h.rows in
     let first = has_first p ss s h.own w in
     let o : Outline = part_outline p in
     let q : Part = without h.own.front h.own.own h.own.back p in
     let go = may_go t c k p ss s w.h w.f old w.entry may in
-    let text : cut_text (put_document k q c) ≡ x.before ++ (mended x.seam x.gap ++ x.behind) = search (rules, new_text, q, st) in
+    let text : cut_text (put_document k q c) ≡ x.before ++ (mended x.seam x.gap ++ x.after) = search (rules, new_text, q, st) in
     let piece : IsPiece (cut_text (put_document k q c)) =
     subst IsPiece (sym (st.put q ∙ new_text h.d h.own)) (new_readable c k h.d h.own first.first first.others read h.is first.own_are first.rows_are) in
     let readable : IsReadable (cut_text (put_document k q c)) = search (rules, is_utf8-from_IsUtf8) in
@@ -243,21 +243,21 @@ taken_at c k ss s x read h may size =
         rows_are = first.rows_are;
         new_is = ap (λ (rs : List Row). without h.own.front rs h.own.back p) own_is;
         start = h.d.before;
-        put = λ q. st.put q ∙ ap (λ u. h.d.before ++ part_text q u) (sym st.behind);
+        put = λ q. st.put q ∙ ap (λ u. h.d.before ++ part_text q u) (sym st.after);
         before_is = sym (ap (λ (y : Removal). y.before) h.out) ∙ ap (λ (rs : List Row). h.d.before ++ rows_text h.own.front (kept_gap rs p.end)) own_is;
-        behind_is = sym (ap (λ (y : Removal). y.behind) h.out) ∙ ap (behind_first h.own.back p.end) (sym st.behind);
+        following_is = sym (ap (λ (y : Removal). y.after) h.out) ∙ ap (after_first h.own.back p.end) (sym st.after);
         gap_is = sym (ap (λ (y : Removal). y.gap) h.out);
       },
     )
 
 pub entry_taken : (c : Cut) (k : ℕ) (steps : List Step) (x : Removal) → read_at (cut_text c) ≡ Some c → removal_place k steps c ≡ Some x → MayTakeOut c k steps →
-    length (x.before ++ (mended x.seam x.gap ++ x.behind)) ≤ text_limit → (out : IsTakenOut c k steps (x.before ++ (mended x.seam x.gap ++ x.behind))) × AreRowsTaken c k x out.old out.new
+    length (x.before ++ (mended x.seam x.gap ++ x.after)) ≤ text_limit → (out : IsTakenOut c k steps (x.before ++ (mended x.seam x.gap ++ x.after))) × AreRowsTaken c k x out.old out.new
 entry_taken c k steps x read e may size = go steps refl (out_is c k steps x e)
   where
-    go : (ts : List Step) → steps ≡ ts → IsRowsOut c k steps x → (out : IsTakenOut c k steps (x.before ++ (mended x.seam x.gap ++ x.behind))) × AreRowsTaken c k x out.old out.new
+    go : (ts : List Step) → steps ≡ ts → IsRowsOut c k steps x → (out : IsTakenOut c k steps (x.before ++ (mended x.seam x.gap ++ x.after))) × AreRowsTaken c k x out.old out.new
     go [] is h = absurd (none-some _ (ap (λ (ts : List Step). own_rows ts h.d.part.rows) (sym is) ∙ h.rows))
     go (t ∷ ts) is h =
         let y = snoc t ts in
         let same : steps ≡ y.0 ++ (y.1 ∷ []) = is ∙ y.2 in
-        subst (λ (zs : List Step). (out : IsTakenOut c k zs (x.before ++ (mended x.seam x.gap ++ x.behind))) × AreRowsTaken c k x out.old out.new) (sym same)
+        subst (λ (zs : List Step). (out : IsTakenOut c k zs (x.before ++ (mended x.seam x.gap ++ x.after))) × AreRowsTaken c k x out.old out.new) (sym same)
         (taken_at c k y.0 y.1 x read (subst (λ (zs : List Step). IsRowsOut c k zs x) same h) (subst (MayTakeOut c k) same may) size)

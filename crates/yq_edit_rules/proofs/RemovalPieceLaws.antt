@@ -7,9 +7,9 @@ use Rattle.yq_core.{specs.Block.RawLines, specs.BlockRepair.{is_short, is_outden
 use Rattle.yq_core.{specs.Characters.pairs_returns, specs.Lines.is_blank, specs.Text.{is_white, joined, text_lines, past_white}}
 use Rattle.yq_core.{proofs.Boundaries.white_ascii, proofs.SpaceLaws.white_drop}
 use Rattle.yq_row_table.{specs.Gap.{IsGap, IsGapLine, AreGapLines}, specs.Grammar.AreParts, specs.Rows.{Row, rows_text, Cut, cut_text}}
-use Rattle.yq_row_table.{specs.Splices.{behind_first, first_gap}, proofs.seams.GapFronts.gap_lines}
+use Rattle.yq_row_table.{specs.Splices.{after_first, first_gap}, proofs.seams.GapFronts.gap_lines}
 use Rattle.yq_places.{specs.PlacedRows.{PlacedPart, placed_document}, specs.RemovalPlaces.{Seam, kept_gap, rows_out}}
-use Rattle.yq_places.{proofs.CommentPieceLaws.{Ended, gap_end}, proofs.PlacedPartLaws.part_stands}
+use Rattle.yq_places.{proofs.CommentPieceLaws.{Ended, gap_end}, proofs.PlacedPartLaws.part_is_there}
 use Rattle.yq_places.{proofs.RemovalLines.{LineSeam, line_seam, lies_in, are_lines}, proofs.RemovalTexts.old_text}
 use Rattle.yq_edit_rules.{specs.RemovalChanges.mended, specs.TextPieces.IsPiece, proofs.TextPieceLaws.{line_cut, piece_back, pieces_joined}}
 
@@ -21,22 +21,22 @@ pub seam_pieces : (a b : List ℕ) → LineSeam a b → IsPiece (a ++ b) → IsP
 seam_pieces a b h1 h2 = search (rules, nothing_piece, line_cut, append-nil)
 
 -- The text before what is taken out, the gap after it and the text after that are pieces.
-pub record PiecesLeft (before gap behind : List ℕ) : Type 0 where
+pub record PiecesLeft (before gap after : List ℕ) : Type 0 where
   pub before_is : IsPiece before
   pub gap_is : IsPiece gap
-  pub behind_is : IsPiece behind
-  pub gap_stands : IsGap gap behind
+  pub following_is : IsPiece after
+  pub gap_is_there : IsGap gap after
 
 pub pieces_left : (k : ℕ) (c : Cut) (d : PlacedPart) (front : List Row) (r : Row) (rs back : List Row) → AreParts true c → placed_document k c ≡ Some d → d.part.rows ≡ front ++ ((r ∷ rs) ++ back) → IsPiece (cut_text c) →
-    PiecesLeft (d.before ++ rows_text front (kept_gap (r ∷ rs) d.part.end)) (first_gap back d.part.end) (behind_first back d.part.end d.behind)
+    PiecesLeft (d.before ++ rows_text front (kept_gap (r ∷ rs) d.part.end)) (first_gap back d.part.end) (after_first back d.part.end d.after)
 pieces_left k c d front r rs back parts e rows piece =
     let x = rows_out d (record { front = front; own = r ∷ rs; back = back }) in
     let h = are_lines d front r rs back (lies_in k c d parts e) rows in
-    let text : cut_text c ≡ x.before ++ (x.gone ++ (x.gap ++ x.behind)) = (part_stands k c d e).text ∙ old_text d (record { front = front; own = r ∷ rs; back = back }) rows refl in
-    let first = seam_pieces x.before (x.gone ++ (x.gap ++ x.behind)) (line_seam x.before (x.gone ++ (x.gap ++ x.behind)) h.before) (subst IsPiece text piece) in
-    let second = seam_pieces x.gone (x.gap ++ x.behind) (inr h.gone) first.1 in
-    let third = seam_pieces x.gap x.behind (gap_end x.gap x.behind h.gap) second.1 in
-    record { before_is = first.0; gap_is = third.0; behind_is = third.1; gap_stands = h.gap }
+    let text : cut_text c ≡ x.before ++ (x.gone ++ (x.gap ++ x.after)) = (part_is_there k c d e).text ∙ old_text d (record { front = front; own = r ∷ rs; back = back }) rows refl in
+    let first = seam_pieces x.before (x.gone ++ (x.gap ++ x.after)) (line_seam x.before (x.gone ++ (x.gap ++ x.after)) h.before) (subst IsPiece text piece) in
+    let second = seam_pieces x.gone (x.gap ++ x.after) (inr h.gone) first.1 in
+    let third = seam_pieces x.gap x.after (gap_end x.gap x.after h.gap) second.1 in
+    record { before_is = first.0; gap_is = third.0; following_is = third.1; gap_is_there = h.gap }
 
 -- ---- the gap that is mended
 

@@ -4,7 +4,7 @@ use Rattle.std.proofs.lemmas.Bool.{cases_Bool}
 use Rattle.yq_core.specs.Characters.{is_text}
 use Rattle.yq_text.specs.Limit.{text_limit}
 use Rattle.yq_row_table.{specs.Grammar.{IsCut, no_rows}, specs.Rows.{Row, rows_text, Part, Cut, cut_text}}
-use Rattle.yq_row_table.{specs.SpliceFits.{SpliceFits, is_after}, specs.Splices.{behind_part, is_started, marker_before, nth_part}}
+use Rattle.yq_row_table.{specs.SpliceFits.{SpliceFits, is_after}, specs.Splices.{after_part, is_started, marker_before, nth_part}}
 use Rattle.yq_row_table.{proofs.splices.PartPlaces.part_after, proofs.splices.SpliceLaws.spliced}
 use Rattle.yq_documents.{specs.Documents.{HaveFitKeys, HasShortRoot}, specs.PartNumbers.part_number}
 use Rattle.yq_outline.specs.Lines.{lines_of_rows}
@@ -17,7 +17,7 @@ document_rooted t c k p new gap old takes text =
     let cut : IsCut t c = (document_known t c k p old).cut in
     let j : ℕ = part_number k c in
     let n : ℕ = length p.rows in
-    let rest : List ℕ = behind_part j c in
+    let rest : List ℕ = after_part j c in
     let is : nth_part j c ≡ p = (part_numbered c k p old.there).0 in
     let all : p.rows ≡ [] ++ (p.rows ++ []) = sym (append-nil p.rows) in
     let same = rows_put c k p [] p.rows [] new gap old.there all in

@@ -3,11 +3,11 @@ use Rattle.std.proofs.Common.{◌≡◌, ℕ, List, [], ◌∷◌, ◌++◌, len
 use Rattle.yq_outline.{specs.Comments.{head_comment, line_comment}, specs.Laws.with_lines, specs.Outline.{Line, level, flatten, label}}
 use Rattle.yq_outline.specs.Lines.{mark_line, tail_of, lines_of_rows}
 use Rattle.yq_core.specs.Alike.{Alike}
-use Rattle.yq_row_table.{specs.Exchange.{asked_behind, with_content}, specs.Gap.IsGap, specs.Grammar.{unlimited, AreRows, IsRow, no_rows}}
-use Rattle.yq_row_table.{specs.Rows.{Content, Row, mark_column, print_row, rows_text, Part}, specs.Splices.{behind_first, first_gap}}
+use Rattle.yq_row_table.{specs.Exchange.{asked_after, with_content}, specs.Gap.IsGap, specs.Grammar.{unlimited, AreRows, IsRow, no_rows}}
+use Rattle.yq_row_table.{specs.Rows.{Content, Row, mark_column, print_row, rows_text, Part}, specs.Splices.{after_first, first_gap}}
 use Rattle.yq_row_table.{proofs.seams.SeamLaws.rows_drop, proofs.splices.SpliceTexts.{first_is, first_text, own_gap}}
 use Rattle.yq_documents.{specs.Documents.{HaveFitKeys, HasShortRoot, lead_of}, specs.TreeEdits.with_line_comment}
-use Rattle.yq_edit_rules.{specs.Appends.inserted, specs.Changed.put_document, specs.DocumentRows.behind_document}
+use Rattle.yq_edit_rules.{specs.Appends.inserted, specs.Changed.put_document, specs.DocumentRows.after_document}
 use Rattle.yq_edit_rules.{specs.LineRows.lines_before_entry, specs.Moved.dash_lines}
 use Rattle.yq_edit_rules.{specs.RowComments.{RowReplaces, ContentCommented, BlockCommented, with_header_tail}, specs.Siblings.put_lines}
 use Rattle.yq_edit_rules.{proofs.AnchorLaws.{fit_parts, fit_from}, proofs.BlockChangeLaws.entry_relabelled, proofs.EditedLaws.led_as}
@@ -16,25 +16,25 @@ use Rattle.yq_edit_rules.{proofs.PartLaws.{document_known, drop_front, is_put, p
 use Rattle.yq_edit_rules.proofs.ReplaceLaws.{document_replaced, rows_before_some}
 
 -- rows after rows
-pub rows_behind : (front back : List Row) (end rest : List ℕ) (p : Part) → p.rows ≡ front ++ back → AreRows unlimited p.rows end rest → (P : List Row → Type 0) →
-    ((a : List Row) → AreRows (asked_behind unlimited a) back end rest → P back) → P back
-rows_behind front back end rest p e h P f =
-    f (Rattle.std.specs.Prelude.take (length front) p.rows) (subst (λ (rs : List Row). AreRows (asked_behind unlimited (Rattle.std.specs.Prelude.take (length front) p.rows)) rs end rest) (drop_front p front back e)
+pub following_rows : (front back : List Row) (end rest : List ℕ) (p : Part) → p.rows ≡ front ++ back → AreRows unlimited p.rows end rest → (P : List Row → Type 0) →
+    ((a : List Row) → AreRows (asked_after unlimited a) back end rest → P back) → P back
+following_rows front back end rest p e h P f =
+    f (Rattle.std.specs.Prelude.take (length front) p.rows) (subst (λ (rs : List Row). AreRows (asked_after unlimited (Rattle.std.specs.Prelude.take (length front) p.rows)) rs end rest) (drop_front p front back e)
     (rows_drop (length front) p.rows unlimited end rest h))
 
 pub row_replaces : RowReplaces
 row_replaces t c k p front back r new old takes =
     let known = document_known t c k p old in
-    let rest : List ℕ = behind_document k c in
+    let rest : List ℕ = after_document k c in
     let gap : List ℕ = first_gap back p.end in
-    let behind : List ℕ = behind_first back p.end rest in
-    let text : rows_text back (p.end ++ rest) ≡ gap ++ behind = first_text back p.end rest in
-    let is_gap : IsGap gap behind =
-    rows_behind front (r ∷ back) p.end rest p takes.rows_are (part_rows t c k p old known.cut) (λ rs. IsGap gap behind) (λ a h. first_is _ back p.end rest h.1) in
+    let after : List ℕ = after_first back p.end rest in
+    let text : rows_text back (p.end ++ rest) ≡ gap ++ after = first_text back p.end rest in
+    let is_gap : IsGap gap after =
+    following_rows front (r ∷ back) p.end rest p takes.rows_are (part_rows t c k p old known.cut) (λ rs. IsGap gap after) (λ a h. first_is _ back p.end rest h.1) in
     record {
       rows_are = takes.rows_are;
       some = refl;
-      new_are = (subst (λ (u : List ℕ). IsRow (asked_behind unlimited front) new u) text takes.takes.row, is_gap);
+      new_are = (subst (λ (u : List ℕ). IsRow (asked_after unlimited front) new u) text takes.takes.row, is_gap);
       next = takes.next;
       alike = subst (λ (u : List ℕ). Alike (Some false) (print_row r (rows_text back (p.end ++ rest))) (print_row new u)) text takes.takes.alike;
     }

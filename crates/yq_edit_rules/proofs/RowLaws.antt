@@ -10,7 +10,7 @@ use Rattle.yq_edit_rules.specs.BlockRows.{block_key, children_rows, column_below
 use Rattle.yq_edit_rules.specs.BlockRows.{node_rows, indent_step}
 use Rattle.yq_edit_rules.specs.BlockValues.{EachHasNearKeys, HasNearKeys, IsEnd, IsFilled, IsNear, IsWritable}
 use Rattle.yq_edit_rules.{specs.declared.layout.Layout.Layout, proofs.BlockEndLaws.{break_tail, deeper_end, line_ends}}
-use Rattle.yq_edit_rules.{proofs.KeyLaws.key_unmarked, proofs.LaidRows.{AreLaid, laid_append, laid_behind, laid_line, no_gap_here}}
+use Rattle.yq_edit_rules.{proofs.KeyLaws.key_unmarked, proofs.LaidRows.{AreLaid, laid_append, laid_after, laid_line, no_gap_here}}
 use Rattle.yq_edit_rules.{proofs.ScalarLaws.{Heads, heads, key_is}, specs.BlockLaws.IsHead}
 use Rattle.yq_core.specs.Tree as tree
 use Rattle.yq_core.specs.Nodes as inline
@@ -63,7 +63,7 @@ entry_laid l column end true label n None below rest is near h e inner =
     rw is.1 (above_laid column (column + indent_step l n) l.br is.0 below rest is.2 (subst IsNear (ap (λ (x : tree.Label). x.key) is.1) near) (omega arith)
     (subst (λ (x : tree.Label). AreLaid (column_below l column x.key n) below rest) is.1 (inner h)))
 entry_laid l column end false label n (Some node) below rest is near h e inner = rw is (inline_laid column Dash end n node rest (dash_front column node end rest) h e)
-entry_laid l column end false label n None below rest is near h e inner = search (rules, laid_behind)
+entry_laid l column end false label n None below rest is near h e inner = search (rules, laid_after)
 
 below_deeper : (l : Layout) (column : ℕ) (key : Option (List ℕ)) (n : tree.Node) → column ≤ column_below l column key n
 below_deeper l column (Some k) n = omega arith
@@ -102,13 +102,13 @@ mutual
   children_laid tree.none l column end rest keyed h k e = tt
   children_laid (tree.child label n cs) l column end rest keyed h k e =
       let later = children_laid cs l column end rest keyed h.2 k.2 e in
-      let behind : List ℕ = rows_text (children_rows l column end cs) rest in
+      let after : List ℕ = rows_text (children_rows l column end cs) rest in
       let ends = end_laid l column end cs rest e later in
       let below : ℕ = column_below l column label.key n in
       let deep : column ≤ below = below_deeper l column label.key n in
       join l column end cs _ rest
-      (entry_laid l column (end_of_line_before l end cs) keyed label n (inline_of n) (node_rows l below (end_of_line_before l end cs) n) behind h.0 k.0 (heads n h.1) ends
-      (λ b. node_laid n l below (end_of_line_before l end cs) behind b h.1 k.1 (deeper_end column below (end_of_line_before l end cs) behind deep ends)))
+      (entry_laid l column (end_of_line_before l end cs) keyed label n (inline_of n) (node_rows l below (end_of_line_before l end cs) n) after h.0 k.0 (heads n h.1) ends
+      (λ b. node_laid n l below (end_of_line_before l end cs) after b h.1 k.1 (deeper_end column below (end_of_line_before l end cs) after deep ends)))
       later
 
 pub value_laid : (v : tree.Node) (l : Layout) (column : ℕ) (end rest : List ℕ) → IsWritable v column end rest → AreLaid column (node_rows l column end v) rest

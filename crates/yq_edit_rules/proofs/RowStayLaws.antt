@@ -7,17 +7,17 @@ use Rattle.yq_core.{specs.Answers.◌>>=◌, specs.Paths.{Step, node_at}, proofs
 use Rattle.yq_outline.{specs.Ends.line_at_steps, specs.Outline.{anchored, head_or, value}, specs.Places.content_under}
 use Rattle.yq_outline.{proofs.Finding.{FoundNode, path_node}, specs.Lines.{content_anchor, lines_of_rows}}
 use Rattle.yq_row_table.{specs.Grammar.{begins_document, no_rows}, specs.Rows.{Row, Part, Cut, last, marked, part_text}}
-use Rattle.yq_row_table.{specs.Splices.{behind_part, nth_part}, proofs.splices.SpliceTexts.{own_gap, own_end}}
+use Rattle.yq_row_table.{specs.Splices.{after_part, nth_part}, proofs.splices.SpliceTexts.{own_gap, own_end}}
 use Rattle.yq_documents.specs.Documents.{Document, begins_bare, document_parts, has_begin}
-use Rattle.yq_documents.{specs.LinesInRows.{RowLine, behind_one, row_line, row_line_of}, specs.PartNumbers.{number_from, part_number}}
+use Rattle.yq_documents.{specs.LinesInRows.{RowLine, one_row_later, row_line, row_line_of}, specs.PartNumbers.{number_from, part_number}}
 use Rattle.yq_documents.{specs.Reading.{part_document, part_outline}, specs.TreeEdits.change_nth, proofs.PartNumberLaws.part_there}
 use Rattle.yq_places.specs.PlacedRows.{PlacedPart, before_part, placed_at, placed_document}
-use Rattle.yq_places.{specs.Standings.{RowsOfEntry, entry_rows_at, rows_of_entry}, proofs.PlacedPartLaws.map_some}
+use Rattle.yq_places.{specs.Placements.{RowsOfEntry, entry_rows_at, rows_of_entry}, proofs.PlacedPartLaws.map_some}
 use Rattle.yq_places.proofs.RowLineSpans.{steps_row}
 use Rattle.yq_edit_rules.{specs.Changed.{KeepsRows, put_document, put_part}, specs.Rooms.{RowShape, row_shape}}
-use Rattle.yq_edit_rules.specs.RowStays.{EntriesStay, ExchangesStay, HeadNodes, RowLinesStay, RowsBehindStay, StandsStill, StaysFrom}
+use Rattle.yq_edit_rules.specs.RowStays.{EntriesStay, ExchangesStay, HeadNodes, RowLinesStay, FollowingRowsStay, StaysInRows, StaysFrom}
 use Rattle.yq_edit_rules.{proofs.ChangedLaws.{document_put, first_stays, nth_changed}, proofs.FlowKeptLaws.one_other}
-use Rattle.yq_edit_rules.{proofs.ShapeLaws.line_by_shape, proofs.StandingMarks.{even_there, under_it}}
+use Rattle.yq_edit_rules.{proofs.ShapeLaws.line_by_shape, proofs.PlacementMarks.{even_there, under_it}}
 use Rattle.yq_edit_rules.proofs.UnderLaws.{line_is, line_with}
 
 -- ---- rows of the same shapes
@@ -49,12 +49,12 @@ row_line_stays zero m rs ss s e same is less = ap (row_line m) same ∙ is
 row_line_stays (suc n) m [] ss s e same is less = absurd (none-some _ is)
 row_line_stays (suc n) m (r ∷ rs) [] s e same is less = absurd (no_shapes r rs e)
 row_line_stays (suc n) m (r ∷ rs) (x ∷ ss) s e same is less =
-    ap (λ (l : ℕ). cond (nat_lt l m) (option_map behind_one (row_line (m - suc l) ss)) (Some (record { before = 0; row = x; line = m }))) (ap length (same_dashes x r ss rs e))
+    ap (λ (l : ℕ). cond (nat_lt l m) (option_map one_row_later (row_line (m - suc l) ss)) (Some (record { before = 0; row = x; line = m }))) (ap length (same_dashes x r ss rs e))
     ∙ go (nat_lt (length r.dashes) m) (row_line (m - suc (length r.dashes)) rs) refl is (λ y. row_line_stays n (m - suc (length r.dashes)) rs ss y (same_others x r ss rs e) same)
   where
-    go : (b : Bool) (o : Option RowLine) → row_line (m - suc (length r.dashes)) rs ≡ o → cond b (option_map behind_one o) (Some (record { before = 0; row = r; line = m })) ≡ Some s →
+    go : (b : Bool) (o : Option RowLine) → row_line (m - suc (length r.dashes)) rs ≡ o → cond b (option_map one_row_later o) (Some (record { before = 0; row = r; line = m })) ≡ Some s →
         ((y : RowLine) → row_line (m - suc (length r.dashes)) rs ≡ Some y → n ≤ y.before → row_line (m - suc (length r.dashes)) ss ≡ Some y) →
-        cond b (option_map behind_one (row_line (m - suc (length r.dashes)) ss)) (Some (record { before = 0; row = x; line = m })) ≡ Some s
+        cond b (option_map one_row_later (row_line (m - suc (length r.dashes)) ss)) (Some (record { before = 0; row = x; line = m })) ≡ Some s
     go b o found there again = search (rules, arith, none-some, same_Some)
 
 line_there : (n : ℕ) (o : Option ℕ) (rs ss : List Row) (s : RowLine) → shapes ss ≡ shapes rs → drop n ss ≡ drop n rs → (o >>= λ m. row_line m rs) ≡ Some s → n ≤ s.before → (o >>= λ m. row_line m ss) ≡ Some s
@@ -96,17 +96,17 @@ numbers_rise true (suc k) zero (marked p marker c) less = absurd (omega (arith, 
 numbers_rise true (suc k) (suc m) (marked p marker c) less = omega (arith, numbers_rise (begins_document marker) k m c (omega (arith, less)))
 numbers_rise false k m (marked p marker c) less = omega (arith, numbers_rise (begins_document marker) k m c less)
 
-behind_other : (i j : ℕ) (q : Part) (c : Cut) → i ≤ j → behind_part j (put_part i q c) ≡ behind_part j c
-behind_other i j q (last p) less = refl
-behind_other zero zero q (marked p marker c) less = refl
-behind_other zero (suc j) q (marked p marker c) less = refl
-behind_other (suc i) zero q (marked p marker c) less = absurd (omega (arith, less))
-behind_other (suc i) (suc j) q (marked p marker c) less = behind_other i j q c (omega (arith, less))
+past_other : (i j : ℕ) (q : Part) (c : Cut) → i ≤ j → after_part j (put_part i q c) ≡ after_part j c
+past_other i j q (last p) less = refl
+past_other zero zero q (marked p marker c) less = refl
+past_other zero (suc j) q (marked p marker c) less = refl
+past_other (suc i) zero q (marked p marker c) less = absurd (omega (arith, less))
+past_other (suc i) (suc j) q (marked p marker c) less = past_other i j q c (omega (arith, less))
 
-behind_put : (i : ℕ) (q : Part) (c : Cut) → behind_part i (put_part i q c) ≡ behind_part i c
-behind_put i q (last p) = refl
-behind_put zero q (marked p marker c) = refl
-behind_put (suc i) q (marked p marker c) = behind_put i q c
+past_put : (i : ℕ) (q : Part) (c : Cut) → after_part i (put_part i q c) ≡ after_part i c
+past_put i q (last p) = refl
+past_put zero q (marked p marker c) = refl
+past_put (suc i) q (marked p marker c) = past_put i q c
 
 nth_other : (k m : ℕ) (q : Part) (ps : List Part) → k < m → slice_get (change_nth k (λ x. q) ps) m ≡ slice_get ps m
 nth_other k m q [] less = refl
@@ -117,7 +117,7 @@ nth_other (suc k) (suc m) q (x ∷ ps) less = nth_other k m q ps (omega (arith, 
 
 -- document k with this part, between the texts that are around it
 abbrev around : ℕ → Part → Cut → PlacedPart
-around k p c = record { before = before_part (part_number k c) c; part = p; behind = behind_part (part_number k c) c }
+around k p c = record { before = before_part (part_number k c) c; part = p; after = after_part (part_number k c) c }
 
 module _ (c : Cut) (k n : ℕ) (p q : Part) (there : slice_get (document_parts c) k ≡ Some p) (stays : StaysFrom n p q) where
   abbrev new : Cut
@@ -141,7 +141,7 @@ module _ (c : Cut) (k n : ℕ) (p q : Part) (there : slice_get (document_parts c
   placed_new : placed_document k new ≡ Some (around k q c)
   placed_new =
       ap (option_map (λ (x : Part). placed_at (part_number k new) new)) there_still
-      ∙ (ap (λ (j : ℕ). Some (placed_at j new)) number_is ∙ (λ j. Some (record { before = before_put i q c j; part = nth_put i q c j; behind = behind_put i q c j })))
+      ∙ (ap (λ (j : ℕ). Some (placed_at j new)) number_is ∙ (λ j. Some (record { before = before_put i q c j; part = nth_put i q c j; after = past_put i q c j })))
 
   -- the rows of an item or entry after those that are others
   module _ (steps : List Step) (e : RowsOfEntry) (is : rows_of_entry k steps c ≡ Some e) (less : n ≤ length e.front) where
@@ -165,7 +165,7 @@ module _ (c : Cut) (k n : ℕ) (p q : Part) (there : slice_get (document_parts c
     rows_same : entry_rows_at (around k q c) s ≡ record (entry_rows_at (around k p c) s) { front = take s.before q.rows }
     rows_same = search (rules, later)
 
-    entry_stays : StandsStill e k steps new
+    entry_stays : StaysInRows e k steps new
     entry_stays = record {
       start = before_part i c;
       front = take s.before q.rows;
@@ -187,15 +187,15 @@ module _ (c : Cut) (k n : ℕ) (p q : Part) (there : slice_get (document_parts c
     j = part_number m c
 
     abbrev now : PlacedPart
-    now = record { before = before_part j new; part = d.part; behind = d.behind }
+    now = record { before = before_part j new; part = d.part; after = d.after }
 
     placed_there : placed_document m new ≡ Some now
-    placed_there = search (rules, document_put, nth_other, first_stays, keeps, number_stays, part_there, behind_other, numbers_rise, later)
+    placed_there = search (rules, document_put, nth_other, first_stays, keeps, number_stays, part_there, past_other, numbers_rise, later)
 
     line_there_still : (s : RowLine) × (row_line_of steps d.part.rows ≡ Some s) × (entry_rows_at d s ≡ e)
     line_there_still = map_some (entry_rows_at d) (row_line_of steps d.part.rows) e other.2
 
-    other_stays : StandsStill e m steps new
+    other_stays : StaysInRows e m steps new
     other_stays = record {
       start = before_part j new;
       front = e.front;
@@ -207,7 +207,7 @@ module _ (c : Cut) (k n : ℕ) (p q : Part) (there : slice_get (document_parts c
 entries_stay : EntriesStay
 entries_stay c k n p q m steps e there stays is (inl later) = other_stays c k n p q there stays m steps e is later
 entries_stay c k n p q m steps e there stays is (inr same) =
-    subst (λ (x : ℕ). StandsStill e x steps (put_document k q c)) same.0
+    subst (λ (x : ℕ). StaysInRows e x steps (put_document k q c)) same.0
     (entry_stays c k n p q there stays steps e (ap (λ (x : ℕ). rows_of_entry x steps c) same.0 ∙ is) same.1)
 
 -- ---- one more row
@@ -229,5 +229,5 @@ head_nodes n t ts c e h there mark is =
     ∙ (path_node t ts (part_outline there.part)
     ∙ (ap FoundNode there.is ∙ ((λ j. Some (content_under (sym line j) there.found.under)) ∙ (λ j. Some (anchored (content_anchor e.row.content) (head_or (is j) (value there.found.under)))))))
 
-pub rows_stay_there : RowsBehindStay
+pub rows_stay_there : FollowingRowsStay
 rows_stay_there = record { lines = row_lines_stay; entries = entries_stay; exchanges = exchanges_stay; nodes = head_nodes }

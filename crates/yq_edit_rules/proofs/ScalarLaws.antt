@@ -39,7 +39,7 @@ unfolding chars
 key_is k rest u near h =
     let one : length (chars (58 ∷ [])) ≡ 1 = refl in
     record {
-      scalar = (key_spelled k u).stands None (58 ∷ rest) (rw h refl);
+      scalar = (key_spelled k u).is_located None (58 ∷ rest) (rw h refl);
       colon_is = record { white = []; spelled = refl; blank = tt; separated = h };
       near = omega (arith, near, one);
     }
@@ -60,7 +60,7 @@ empty_map = search (rules, none_gap)
 scalar_head : (s : ScalarText) → IsValid s → IsHead (scalar_node s) (inline.scalar (scalar_text s places.Block))
 unfolding tree_of IsFlowNode
 scalar_head s v = let w = scalar_spelled s v in record {
-  stands = λ n rest h. record { valid = w.stands (Some (deeper n)) rest h; something = refl };
+  is_located = λ n rest h. record { valid = w.is_located (Some (deeper n)) rest h; something = refl };
   same = ap (λ x. Some (scalar_node x)) w.same;
   unnamed = refl;
   more = refl;

@@ -67,12 +67,12 @@ pub even_replaced : (n : ℕ) (a b c d : Outline) → IsEven n (append_outline a
 even_replaced n a b c d even new old block =
     let left : IsEven n a = even_left n a (append_outline b c) (entries _ old) even in
     let back : IsEven n c = even_right n b c (even_right n a (append_outline b c) even) in
-    even_append n a (append_outline d c) (entries _ block) left (even_append n d c (behind a n left block new back) new back)
+    even_append n a (append_outline d c) (entries _ block) left (even_append n d c (after a n left block new back) new back)
   where
     run : (d : Outline) (n : ℕ) (l : Line) → allowing.IsEntry l.mark → level l ≡ n → IsEven n d → IsEven n c → IsCollection (append_outline d c)
     run end n l e h new back = next n l c e h back
     run (row k v d) n l e h new back = next n l (row k v d) e h new
 
-    behind : (a : Outline) (n : ℕ) → IsEven n a → HasEntries (append_outline a (append_outline d c)) → IsEven n d → IsEven n c → IsCollection (append_outline d c)
-    behind end n e b new back = entries (append_outline d c) b
-    behind (row l u a) n e b new back = run d n l (entry_in l.mark b) e.0 new back
+    after : (a : Outline) (n : ℕ) → IsEven n a → HasEntries (append_outline a (append_outline d c)) → IsEven n d → IsEven n c → IsCollection (append_outline d c)
+    after end n e b new back = entries (append_outline d c) b
+    after (row l u a) n e b new back = run d n l (entry_in l.mark b) e.0 new back

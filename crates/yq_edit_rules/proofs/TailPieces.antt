@@ -26,26 +26,26 @@ pub record HasTailPieces (w : PlacedRow) (tail more : List ℕ) (h : IsTail tail
   pub before : IsPiece (w.before ++ text_to_line_end w.row)
   pub white : IsPiece h.white
   pub line : IsPiece (h.white ++ h.comment)
-  pub behind : IsPiece (h.line.break ++ more)
+  pub after : IsPiece (h.line.break ++ more)
 
 front_utf8 : (a b : List ℕ) → IsPiece (a ++ b) → Rattle.yq_row_table.proofs.NodePieces.BeginsAscii b → IsUtf8 a
 front_utf8 a b h k = subst IsUtf8 (take-append_seam a b) (IsUtf8-take (a ++ b) (length a) h.utf8 (before_ascii a b k))
 
-pub pieces : (w : PlacedRow) (limit : Limit) → IsRow limit w.row w.behind → IsPiece (w.before ++ print_row w.row w.behind) →
-    (h : IsTail (slices w.row).tail ((slices w.row).raw ++ w.behind)) → HasTailPieces w (slices w.row).tail ((slices w.row).raw ++ w.behind) h
+pub pieces : (w : PlacedRow) (limit : Limit) → IsRow limit w.row w.after → IsPiece (w.before ++ print_row w.row w.after) →
+    (h : IsTail (slices w.row).tail ((slices w.row).raw ++ w.after)) → HasTailPieces w (slices w.row).tail ((slices w.row).raw ++ w.after) h
 pieces w limit row whole h =
     let tail : List ℕ = (slices w.row).tail in
-    let more : List ℕ = (slices w.row).raw ++ w.behind in
+    let more : List ℕ = (slices w.row).raw ++ w.after in
     let front_text : List ℕ = w.before ++ text_to_line_end w.row in
     let line : List ℕ = h.white ++ h.comment in
-    let behind : List ℕ = h.line.break ++ more in
+    let after : List ℕ = h.line.break ++ more in
     let text : IsPiece (front_text ++ (tail ++ more)) = subst IsPiece (line_whole w) whole in
-    let pairs : pairs_returns (print_row w.row w.behind) ≡ true = pairs_back w.before (print_row w.row w.behind) (and_parts _ (pairs_returns (w.before ++ print_row w.row w.behind)) whole.characters).1 in
+    let pairs : pairs_returns (print_row w.row w.after) ≡ true = pairs_back w.before (print_row w.row w.after) (and_parts _ (pairs_returns (w.before ++ print_row w.row w.after)) whole.characters).1 in
     let first = clean_cut front_text (tail ++ more) text (front_utf8 front_text (tail ++ more) text (tail_ascii tail more h))
-    (λ f. ends_more w.before (text_to_line_end w.row) (line_some limit w.row w.behind row h) ∙ line_ends_clean limit w.row w.behind row pairs f) in
-    let split : tail ++ more ≡ line ++ behind = search (rules, append_assoc, more, line) in
-    let rest : IsPiece (line ++ behind) = subst IsPiece split first.1 in
+    (λ f. ends_more w.before (text_to_line_end w.row) (line_some limit w.row w.after row h) ∙ line_ends_clean limit w.row w.after row pairs f) in
+    let split : tail ++ more ≡ line ++ after = search (rules, append_assoc, more, line) in
+    let rest : IsPiece (line ++ after) = subst IsPiece split first.1 in
     let ends : IsTail h.line.break more = record { white = []; comment = []; line = record { break = h.line.break; spelled = refl; blank = tt; as_comment = tt; ends = h.line.ends }; apart = refl } in
-    let none : NoneIn ends_line line behind = white_none h.white h.comment behind h.line.blank (Rattle.yq_places.proofs.LineEndLaws.comment_more h.comment h.line.break more h.line.as_comment h.line.ends) in
-    let second = clean_cut line behind rest (front_utf8 line behind rest (tail_ascii h.line.break more ends)) (λ f. none_clean line behind none f) in
-    record { before = first.0; white = white_piece h.white h.line.blank; line = second.0; behind = second.1 }
+    let none : NoneIn ends_line line after = white_none h.white h.comment after h.line.blank (Rattle.yq_places.proofs.LineEndLaws.comment_more h.comment h.line.break more h.line.as_comment h.line.ends) in
+    let second = clean_cut line after rest (front_utf8 line after rest (tail_ascii h.line.break more ends)) (λ f. none_clean line after none f) in
+    record { before = first.0; white = white_piece h.white h.line.blank; line = second.0; after = second.1 }

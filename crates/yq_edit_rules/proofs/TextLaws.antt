@@ -21,12 +21,12 @@ entry_spelled : (l : Layout) (column below : ℕ) (end : List ℕ) (key : Option
 entry_spelled l column below end key n node rs t rest h1 h2 = search (rules, node_then, append_assoc, append_cancel_left)
 
 -- what comes after an entry or item
-abbrev behind_text : Layout → ℕ → Children → List ℕ → List ℕ → List ℕ
-behind_text l column tree.none end rest = rest
-behind_text l column (tree.child label n cs) end rest = indented column (block_children l column (tree.child label n cs)) (end ++ rest)
+abbrev after_text : Layout → ℕ → Children → List ℕ → List ℕ → List ℕ
+after_text l column tree.none end rest = rest
+after_text l column (tree.child label n cs) end rest = indented column (block_children l column (tree.child label n cs)) (end ++ rest)
 
 then_spelled : (l : Layout) (column : ℕ) (end : List ℕ) (cs : Children) (t rest : List ℕ) →
-    indented column t (end_of_line_before l end cs ++ behind_text l column cs end rest) ≡ indented column
+    indented column t (end_of_line_before l end cs ++ after_text l column cs end rest) ≡ indented column
     (t ++ then_lines l column cs (block_children l column cs)) (end ++ rest)
 then_spelled l column end cs t rest = search (rules, append-nil, append_assoc)
 
@@ -41,16 +41,16 @@ mutual
   node_spelled (tree.map a tree.none) l column end rest b h = absurd b
   node_spelled (tree.map a (tree.child label n cs)) l column end rest b h = children_spelled (tree.child label n cs) l column end rest true h.1
 
-  children_spelled : (cs : Children) (l : Layout) (column : ℕ) (end rest : List ℕ) (keyed : Bool) → AreValueTrees keyed cs → rows_text (children_rows l column end cs) rest ≡ behind_text l column cs end rest
+  children_spelled : (cs : Children) (l : Layout) (column : ℕ) (end rest : List ℕ) (keyed : Bool) → AreValueTrees keyed cs → rows_text (children_rows l column end cs) rest ≡ after_text l column cs end rest
   children_spelled tree.none l column end rest keyed h = refl
   children_spelled (tree.child label n cs) l column end rest keyed h =
       let below : ℕ = column_below l column label.key n in
       let last : List ℕ = end_of_line_before l end cs in
       let here : List Row = entry_rows l column last label.key (inline_of n) (node_rows l below last n) in
-      let behind : List ℕ = behind_text l column cs end rest in
+      let after : List ℕ = after_text l column cs end rest in
       rows_text-append here (children_rows l column end cs) rest
       ∙ (ap (rows_text here) (children_spelled cs l column end rest keyed h.2)
-      ∙ (entry_spelled l column below last label.key n (inline_of n) (node_rows l below last n) (block_node l below n) behind (heads n h.1) (λ b. (node_begun n l below last b h.1, node_spelled n l below last behind b h.1))
+      ∙ (entry_spelled l column below last label.key n (inline_of n) (node_rows l below last n) (block_node l below n) after (heads n h.1) (λ b. (node_begun n l below last b h.1, node_spelled n l below last after b h.1))
       ∙ then_spelled l column end cs (block_entry l below label.key (inline_of n) (block_node l below n)) rest))
 
 pub value_spelled : (v : tree.Node) (l : Layout) (column : ℕ) (end rest : List ℕ) → IsFilled v → IsValueTree v → rows_text (node_rows l column end v) rest ≡ indented column (block_value l column v) (end ++ rest)

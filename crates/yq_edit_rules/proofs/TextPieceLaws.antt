@@ -6,7 +6,7 @@ use Rattle.std.{proofs.lemmas.Bool.{and_from, and_parts}, specs.Str.{IsUtf8, IsC
 use Rattle.yq_core.{specs.Characters.pairs_returns, specs.Text.{front, is_feed}, proofs.Bools.guard_then}
 use Rattle.yq_row_table.specs.Rows.{cut_text}
 use Rattle.yq_row_table.proofs.CharacterLaws.{all_text, all_join, pairs_join, pairs_back, pairs_front, pairs_cut, EndsBlack}
-use Rattle.yq_row_table.proofs.NodePieces.{EndsAscii, BeginsAscii, behind_ascii, before_ascii}
+use Rattle.yq_row_table.proofs.NodePieces.{EndsAscii, BeginsAscii, following_ascii, before_ascii}
 use Rattle.yq_documents.{specs.Reading.read_at, proofs.ReadLaws.text_takes}
 use Rattle.yq_edit_rules.specs.TextPieces.{IsPiece, TextIsPiece, PiecesJoined, LineCut, BeginsPiece, ByteCut}
 
@@ -31,7 +31,7 @@ text_is_piece c h =
 -- What is on both sides of a place in a text: no LF comes after it, or a byte other than CR before it.
 data MayCut : List ℕ → List ℕ → Type 0 where
   before : {a b : List ℕ} → front is_feed b ≡ false → MayCut a b
-  behind : {a b : List ℕ} → EndsBlack a → MayCut a b
+  after : {a b : List ℕ} → EndsBlack a → MayCut a b
 
 -- after a text that is UTF-8
 pub piece_back : (a b : List ℕ) → IsUtf8 a → IsPiece (a ++ b) → IsPiece b
@@ -45,11 +45,11 @@ pieces_cut : (a b : List ℕ) → IsPiece (a ++ b) → IsUtf8 a → MayCut a b �
 pieces_cut a b h u may = search (rules, and_parts, all_text, all_join, and_from, pairs_front, append_assoc, pairs_cut, piece_back)
 
 -- after an ASCII byte that is no CR
-pub cut_behind : (a b : List ℕ) → IsPiece (a ++ b) → EndsAscii a → EndsBlack a → IsPiece a × IsPiece b
-cut_behind a b h e k = pieces_cut a b h (subst IsUtf8 (take-append_seam a b) (IsUtf8-take (a ++ b) (length a) h.utf8 (behind_ascii a b h.utf8 e))) (behind k)
+pub cut_after : (a b : List ℕ) → IsPiece (a ++ b) → EndsAscii a → EndsBlack a → IsPiece a × IsPiece b
+cut_after a b h e k = pieces_cut a b h (subst IsUtf8 (take-append_seam a b) (IsUtf8-take (a ++ b) (length a) h.utf8 (following_ascii a b h.utf8 e))) (after k)
 
 pub line_cut : LineCut
-line_cut a b h = cut_behind (a ++ 10 ∷ []) b h (record { front = a; last = 10; is = refl; ascii = omega arith }) (record { front = a; last = 10; is = refl; no_return = refl })
+line_cut a b h = cut_after (a ++ 10 ∷ []) b h (record { front = a; last = 10; is = refl; ascii = omega arith }) (record { front = a; last = 10; is = refl; no_return = refl })
 
 -- before an ASCII byte that is no LF, or at the end
 ascii_front : (b : List ℕ) → BeginsPiece b → BeginsAscii b × (front is_feed b ≡ false)

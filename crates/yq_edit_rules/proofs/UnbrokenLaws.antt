@@ -3,16 +3,16 @@ use Rattle.std.proofs.Common.{◌≡◌, inl, inr, ℕ, true, false, List, [], �
 use Rattle.std.{proofs.Common.rules, proofs.lemmas.Bool.false≢true}
 use Rattle.yq_core.{specs.Paths.Step, specs.Text.{is_empty, is_line}}
 use Rattle.yq_outline.{specs.Comments.head_comment, specs.Lines.{lines_from, lines_of_rows}}
-use Rattle.yq_row_table.{specs.Appending.closed_by, specs.Exchange.{asked_behind, row_front}}
+use Rattle.yq_row_table.{specs.Appending.closed_by, specs.Exchange.{asked_after, row_front}}
 use Rattle.yq_row_table.specs.Grammar.{Limit, unlimited, limit_after, allows, AreRows, no_rows}
 use Rattle.yq_row_table.specs.Rows.{Content, content_text, Row, parent_indent, print_row, rows_text, Part, part_text, Cut}
-use Rattle.yq_row_table.{specs.Seams.{is_block, tail_behind, with_tail}, specs.Splices.first_gap, proofs.PlaceLaws.row_front-append}
+use Rattle.yq_row_table.{specs.Seams.{is_block, tail_after, with_tail}, specs.Splices.first_gap, proofs.PlaceLaws.row_front-append}
 use Rattle.yq_row_table.{proofs.seams.FrontSeams.rows_some, proofs.seams.SeamLaws.rows_text-append}
 use Rattle.yq_places.{specs.CollectionEnds.{CollectionEnd, is_broken}, specs.PrintedLines.end_break}
 use Rattle.yq_places.proofs.ContentEndLaws.{Ends, content_ends}
 use Rattle.yq_documents.{specs.Documents.lead_of, specs.Ready.begins_no_node}
-use Rattle.yq_edit_rules.{specs.CollectionPlaces.IsCollectionEnd, specs.DocumentRows.behind_document, specs.Ends.closed_with}
-use Rattle.yq_edit_rules.{specs.Rooms.is_block_root, proofs.AppendPlaceLaws.{EndAllows, last_limit, rows_behind}}
+use Rattle.yq_edit_rules.{specs.CollectionPlaces.IsCollectionEnd, specs.DocumentRows.after_document, specs.Ends.closed_with}
+use Rattle.yq_edit_rules.{specs.Rooms.is_block_root, proofs.AppendPlaceLaws.{EndAllows, last_limit, following_rows}}
 use Rattle.yq_edit_rules.proofs.EndedRowLaws.{row_there, rows_then}
 
 -- ---- nothing is after
@@ -21,9 +21,9 @@ none_both : (a b : List ℕ) → a ++ b ≡ [] → (a ≡ []) × (b ≡ [])
 none_both [] b e = (refl, e)
 none_both (x ∷ a) b e = absurd (cc)
 
-none_behind : (limit : Limit) (rs : List Row) (gap rest : List ℕ) → AreRows limit rs gap rest → rows_text rs (gap ++ rest) ≡ [] → (rs ≡ []) × (gap ≡ []) × (rest ≡ [])
-none_behind limit [] gap rest h e = let z = none_both gap rest e in (refl, z.0, z.1)
-none_behind limit (r ∷ rs) gap rest h e = absurd (false≢true (sym (rows_some limit (r ∷ rs) gap rest refl h) ∙ ap is_empty e))
+none_following : (limit : Limit) (rs : List Row) (gap rest : List ℕ) → AreRows limit rs gap rest → rows_text rs (gap ++ rest) ≡ [] → (rs ≡ []) × (gap ≡ []) × (rest ≡ [])
+none_following limit [] gap rest h e = let z = none_both gap rest e in (refl, z.0, z.1)
+none_following limit (r ∷ rs) gap rest h e = absurd (false≢true (sym (rows_some limit (r ∷ rs) gap rest refl h) ∙ ap is_empty e))
 
 ends_none : (break rest : List ℕ) → Ends false break rest → rest ≡ []
 ends_none break rest (inl h) = absurd (false≢true h.0)
@@ -33,26 +33,26 @@ ends_none break rest (inr h) = h.2
 pub record EndsText (c : Cut) (k : ℕ) (p : Part) (x : CollectionEnd) (others : List Row) (last : Row) : Type 0 where
   pub rows_are : p.rows ≡ others ++ (last ∷ [])
   pub end_is : p.end ≡ []
-  pub rest_is : behind_document k c ≡ []
+  pub rest_is : after_document k c ≡ []
   pub inline : is_block last.content ≡ false
-  pub bare : is_line (tail_behind last.content) ≡ false
+  pub bare : is_line (tail_after last.content) ≡ false
   pub allowed : allows (limit_after last) x.column ≡ true
-  pub behind_is : x.behind ≡ []
+  pub following_is : x.after ≡ []
 
 pub ends_text : (c : Cut) (k : ℕ) (p : Part) (steps : List Step) (x : CollectionEnd) (e : IsCollectionEnd c k p steps x) → EndAllows c k p x e.front e.back → x.broken ≡ false → EndsText c k p x e.others e.last
 ends_text c k p steps x e h broken =
-    let rest : List ℕ = behind_document k c in
+    let rest : List ℕ = after_document k c in
     let front : e.front ++ e.back ≡ e.others ++ (e.last ∷ e.back) = ap (λ rs. rs ++ e.back) e.front_is ∙ append_assoc e.others (e.last ∷ []) e.back in
     let row = row_there unlimited e.others e.last e.back p.end rest (subst (λ rs. AreRows unlimited rs p.end rest) front h.rows) in
     let bare : is_broken e.last.content ≡ false = sym e.broken ∙ broken in
     let ends : Ends (is_broken e.last.content) (end_break e.last.content) (rows_text e.back (p.end ++ rest)) = content_ends (parent_indent e.last) e.last.content (rows_text e.back (p.end ++ rest)) row.1.content in
     let none : rows_text e.back (p.end ++ rest) ≡ [] = ends_none (end_break e.last.content) (rows_text e.back (p.end ++ rest)) (subst (λ b. Ends b (end_break e.last.content) (rows_text e.back (p.end ++ rest))) bare ends) in
-    let parts = none_behind (asked_behind unlimited e.front) e.back p.end rest (rows_behind e.front e.back unlimited p.end rest h.rows) none in
+    let parts = none_following (asked_after unlimited e.front) e.back p.end rest (following_rows e.front e.back unlimited p.end rest h.rows) none in
     search (rules, false≢true, append-nil, last_limit, e.front_is)
 
 -- ---- the text
 
-closed_content : (c : Content) (break t : List ℕ) → is_block c ≡ false → content_text (with_tail (tail_behind c ++ break) c) t ≡ content_text c (break ++ t)
+closed_content : (c : Content) (break t : List ℕ) → is_block c ≡ false → content_text (with_tail (tail_after c ++ break) c) t ≡ content_text c (break ++ t)
 closed_content c break t h1 = search (rules, append_assoc, false≢true)
 
 pub closed_row : (r : Row) (break t : List ℕ) → is_block r.content ≡ false → print_row (closed_by break r) t ≡ print_row r (break ++ t)

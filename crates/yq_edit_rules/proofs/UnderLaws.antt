@@ -7,7 +7,7 @@ use Rattle.yq_outline.{specs.Places.{lines_before, lines_after}, proofs.Decides.
 use Rattle.yq_row_table.{specs.Grammar.is_entry, specs.Rows.{Content, Row, mark_column, Part}}
 use Rattle.yq_documents.specs.Reading.{part_outline}
 use Rattle.yq_edit_rules.{specs.Moved.dash_lines, specs.Unders.HasUnder, proofs.AppendLaws.around}
-use Rattle.yq_edit_rules.proofs.LineLaws.{above_mark, dashes_count, mark_behind}
+use Rattle.yq_edit_rules.proofs.LineLaws.{above_mark, dashes_count, mark_after}
 use Rattle.yq_edit_rules.proofs.PlacedLaws.{found_is_entry, rows_in_parts, same_parts, whole_line}
 
 -- the line of a row's mark, with a content
@@ -20,7 +20,7 @@ dashes_of r = dash_lines (head_comment r.gap) r.column r.dashes
 
 -- the lines of the rows that go, and of the one that comes
 pub gone_lines : (r : Row) (under : List Row) → lines_of_rows (r ∷ under) ≡ dashes_of r ++ (line_with r r.content ∷ lines_of_rows under)
-gone_lines r under = ap (λ (ls : List Line). ls ++ lines_of_rows under) (mark_behind (head_comment r.gap) r.column r.dashes r.mark r.content) ∙ append_assoc (dashes_of r) (line_with r r.content ∷ []) (lines_of_rows under)
+gone_lines r under = ap (λ (ls : List Line). ls ++ lines_of_rows under) (mark_after (head_comment r.gap) r.column r.dashes r.mark r.content) ∙ append_assoc (dashes_of r) (line_with r r.content ∷ []) (lines_of_rows under)
 
 -- ---- the lines under the row
 

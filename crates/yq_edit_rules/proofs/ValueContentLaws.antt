@@ -72,15 +72,15 @@ module _ (v : Node) (node : inline.FlowNode) (is : IsValueNode v node) where
   plain_short : (is_plain_content node && holds_break (node_text node [])) ≡ false
   plain_short = search rules
 
-  behind_anchor : (n g : List ℕ) → list_any is_feed n ≡ false → list_any is_feed g ≡ false → (is_plain_content node && holds_break (38 ∷ (n ++ (g ++ node_text node [])))) ≡ false
-  behind_anchor n g a b = search (rules, list_any-append)
+  following_anchor : (n g : List ℕ) → list_any is_feed n ≡ false → list_any is_feed g ≡ false → (is_plain_content node && holds_break (38 ∷ (n ++ (g ++ node_text node [])))) ≡ false
+  following_anchor n g a b = search (rules, list_any-append)
 
   core_short : (old : inline.FlowNode) (spaces : Option ℕ) (d : ℕ) (rest : List ℕ) → IsFlowNode false spaces d old rest → (is_plain_content (recore node old) && holds_break (node_text (recore node old) [])) ≡ false
   unfolding IsFlowNode node_text
-  core_short (anchored n g empty) spaces d rest h = behind_anchor n (32 ∷ []) (name_feed n (g ++ rest) h.0.inside) refl
+  core_short (anchored n g empty) spaces d rest h = following_anchor n (32 ∷ []) (name_feed n (g ++ rest) h.0.inside) refl
   core_short (anchored n g (alias m)) spaces d rest h = absurd (false≢true h.3)
-  core_short (anchored n g (scalar p)) spaces d rest h = behind_anchor n g (name_feed n (g ++ (p ++ rest)) h.0.inside) (gap_feed g _ h.1)
-  core_short (anchored n g (coll k x xs)) spaces d rest h = behind_anchor n g (name_feed n _ h.0.inside) (gap_feed g _ h.1)
+  core_short (anchored n g (scalar p)) spaces d rest h = following_anchor n g (name_feed n (g ++ (p ++ rest)) h.0.inside) (gap_feed g _ h.1)
+  core_short (anchored n g (coll k x xs)) spaces d rest h = following_anchor n g (name_feed n _ h.0.inside) (gap_feed g _ h.1)
   core_short (anchored n g (anchored m x old)) spaces d rest h = absurd (false≢true h.3)
   core_short _ spaces d rest h = plain_short
 

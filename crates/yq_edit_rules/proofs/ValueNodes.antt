@@ -22,11 +22,11 @@ use Rattle.yq_core.specs.Nodes as inline
 
 -- ---- scalars
 
-marker_behind : (t rest : List ℕ) → begins_marker t ≡ false → separates rest ≡ true → is_marker (t ++ rest) ≡ false
-marker_behind t rest h1 h2 = search (rules, no_first, front_not, no_second, no_third)
+marker_after : (t rest : List ℕ) → begins_marker t ≡ false → separates rest ≡ true → is_marker (t ++ rest) ≡ false
+marker_after t rest h1 h2 = search (rules, no_first, front_not, no_second, no_third)
 
 style_unmarked : (s : ScalarText) (style : Style) (rest : List ℕ) → IsValid s → IsOneLine style → can_write s style places.Block ≡ true → separates rest ≡ true → is_marker (written_scalar style s.text ++ rest) ≡ false
-style_unmarked s styles.Plain rest v i h sep = marker_behind s.text rest (not-true (begins_marker s.text) (and_parts _ (not (begins_marker s.text)) (writable_text s.kind s.text false v.kind h)).1) sep
+style_unmarked s styles.Plain rest v i h sep = marker_after s.text rest (not-true (begins_marker s.text) (and_parts _ (not (begins_marker s.text)) (writable_text s.kind s.text false v.kind h)).1) sep
 style_unmarked s styles.Single rest v i h sep = no_first 39 _ refl refl
 style_unmarked s styles.Double rest v i h sep = no_first 34 _ refl refl
 style_unmarked s styles.Literal rest v i h sep = absurd i
@@ -39,7 +39,7 @@ scalar_is a kind t style h i can =
     let s : ScalarText = record { kind = kind; text = t } in
     let w : SpellsScalar s (written_scalar style t) = styled_spells s style h.1 i can in (
       record {
-        stands = λ n rest ends. record { valid = w.stands (Some (deeper n)) rest ends; something = refl };
+        is_located = λ n rest ends. record { valid = w.is_located (Some (deeper n)) rest ends; something = refl };
         head = ap (λ (x : ScalarText). Some (scalar_node x)) w.same ∙ ap (λ (x : Option (List ℕ)). Some (tree.scalar x kind t)) (sym h.0);
         unnamed = refl;
         takes = refl;
@@ -120,7 +120,7 @@ flow_piece v h = node_piece v [] h nothing
 pub list_is : (a : Option (List ℕ)) (cs : Children) → IsValueTree (tree.list a cs) → depth (tree.list a cs) ≤ depth_limit → has_long_key (tree.list a cs) ≡ false → IsValueNode (tree.list a cs) (flow_of (tree.list a cs))
 unfolding flow_of node_text
 list_is a cs h deep long = record {
-  stands = λ n rest ends. record { valid = written_node (tree.list a cs) false (Some (deeper n)) depth_limit rest h deep ends; something = refl };
+  is_located = λ n rest ends. record { valid = written_node (tree.list a cs) false (Some (deeper n)) depth_limit rest h deep ends; something = refl };
   head = ap Some (written_tree (tree.list a cs) h);
   unnamed = refl;
   takes = refl;
@@ -133,7 +133,7 @@ list_is a cs h deep long = record {
 pub map_is : (a : Option (List ℕ)) (cs : Children) → IsValueTree (tree.map a cs) → depth (tree.map a cs) ≤ depth_limit → has_long_key (tree.map a cs) ≡ false → IsValueNode (tree.map a cs) (flow_of (tree.map a cs))
 unfolding flow_of node_text
 map_is a cs h deep long = record {
-  stands = λ n rest ends. record { valid = written_node (tree.map a cs) false (Some (deeper n)) depth_limit rest h deep ends; something = refl };
+  is_located = λ n rest ends. record { valid = written_node (tree.map a cs) false (Some (deeper n)) depth_limit rest h deep ends; something = refl };
   head = ap Some (written_tree (tree.map a cs) h);
   unnamed = refl;
   takes = refl;

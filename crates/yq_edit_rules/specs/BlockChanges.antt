@@ -5,7 +5,7 @@ use Rattle.yq_core.{specs.Tree.{Label, Node}, specs.Anchors.names_of}
 use Rattle.yq_outline.{specs.Comments.{head_comment, line_comment}, specs.LineAnchors.HaveOneAnchorEach, specs.Laws.with_lines}
 use Rattle.yq_outline.{specs.Lines.{lines_from, lines_of_rows}, specs.Outline.{Line, Outline, flatten, IsEven, label, children, value}}
 use Rattle.yq_outline.specs.Places.{lines_before, plug, FoundLine, find, content_under}
-use Rattle.yq_row_table.specs.Rows.{Row, behind_columns, Part, Cut}
+use Rattle.yq_row_table.specs.Rows.{Row, after_columns, Part, Cut}
 use Rattle.yq_documents.{specs.Documents.lead_of, specs.Reading.{part_outline, root_of}, specs.TreeEdits.replaced_node}
 use Rattle.yq_edit_rules.{specs.Conditions.AreSpared, specs.Edited.{IsPut, LineFits}, specs.Moved.{moved_up, emptied_row}}
 use Rattle.yq_edit_rules.specs.SoundRoots.{IsNewKey, IsNewValue, MayReplace}
@@ -64,7 +64,7 @@ EntryRelabelled =
 -- begins in the same column and has no comment above it.
 pub record MovesUp (r b : Row) (n : ℕ) (ns es : List ℕ) : Type 0 where
   pub dashes : r.dashes ≡ n ∷ (ns ++ es)
-  pub column : b.column ≡ behind_columns r.column (n ∷ ns)
+  pub column : b.column ≡ after_columns r.column (n ∷ ns)
   pub bare : head_comment b.gap ≡ []
 
 -- So many lines come before an item or entry, and so many are its own.
@@ -75,10 +75,10 @@ pub record AreCounted (h : NodeLines) (f : FoundLine) (before size : ℕ) : Type
 -- The first item or entry of a compact collection is removed: the next one's row comes after the dash.
 abbrev pub FirstRemoved : Type 0
 FirstRemoved =
-    (t : List ℕ) (c : Cut) (k : ℕ) (p q : Part) (steps : List Step) (h : NodeLines) (s : Step) (f : FoundLine) (before gone behind : List Row) (r b : Row)
+    (t : List ℕ) (c : Cut) (k : ℕ) (p q : Part) (steps : List Step) (h : NodeLines) (s : Step) (f : FoundLine) (before gone after : List Row) (r b : Row)
     (n : ℕ) (ns es : List ℕ) → IsPut t c k p q →
-    IsEntryAt steps s (part_outline p) h f → HasEntries (plug f.place f.after) → p.rows ≡ before ++ (r ∷ (gone ++ (b ∷ behind))) →
-    q.rows ≡ before ++ (moved_up r (n ∷ ns) b ∷ behind) →
+    IsEntryAt steps s (part_outline p) h f → HasEntries (plug f.place f.after) → p.rows ≡ before ++ (r ∷ (gone ++ (b ∷ after))) →
+    q.rows ≡ before ++ (moved_up r (n ∷ ns) b ∷ after) →
     MovesUp r b n ns es →
     AreCounted h f (length (lines_of_rows before) + length (n ∷ ns)) (length (lines_from [] b.column es r.mark r.content ++ lines_of_rows gone)) →
     AreSpared (names_of (content_under f.line f.under)) [] (names_of (root_of p)) →
@@ -92,11 +92,11 @@ pub record StaysEmpty (r : Row) (n : ℕ) (ns es tail : List ℕ) : Type 0 where
 -- The first item or entry of a compact collection is removed: the next one's row keeps its place below the dash.
 abbrev pub FirstDropped : Type 0
 FirstDropped =
-    (t : List ℕ) (c : Cut) (k : ℕ) (p q : Part) (steps : List Step) (h : NodeLines) (s : Step) (f : FoundLine) (before gone behind : List Row) (r : Row)
+    (t : List ℕ) (c : Cut) (k : ℕ) (p q : Part) (steps : List Step) (h : NodeLines) (s : Step) (f : FoundLine) (before gone after : List Row) (r : Row)
     (n : ℕ) (ns es tail : List ℕ) → IsPut t c k p q →
-    IsEntryAt steps s (part_outline p) h f → HasEntries (plug f.place f.after) → p.rows ≡ before ++ (r ∷ (gone ++ behind)) →
-    q.rows ≡ before ++ (emptied_row r ns tail ∷ behind) → StaysEmpty r n ns es tail →
+    IsEntryAt steps s (part_outline p) h f → HasEntries (plug f.place f.after) → p.rows ≡ before ++ (r ∷ (gone ++ after)) →
+    q.rows ≡ before ++ (emptied_row r ns tail ∷ after) → StaysEmpty r n ns es tail →
     AreCounted h f (length (lines_of_rows before) + length (ns ++ (n ∷ [])))
-    (length (lines_from [] (behind_columns r.column (ns ++ (n ∷ []))) es r.mark r.content ++ lines_of_rows gone)) →
+    (length (lines_from [] (after_columns r.column (ns ++ (n ∷ []))) es r.mark r.content ++ lines_of_rows gone)) →
     AreSpared (names_of (content_under f.line f.under)) [] (names_of (root_of p)) →
     IsChangedBy c k q (lead_of q) (changed_at steps (within (remove_child s)))

@@ -6,8 +6,9 @@ use Rattle.yq_core.{specs.Piece.deeper, specs.Plain.ends_plain, specs.Scalar.str
 use Rattle.yq_core.{specs.NodesWritten.scalar_text, specs.Trees.{node_anchor, node_head}, specs.FitKeys.key_limit}
 use Rattle.yq_text.specs.Limit.{text_limit}
 use Rattle.yq_flow_edits.specs.Valued.{IsValueTree}
-use Rattle.yq_outline.{specs.Comments.line_comment, specs.LineAnchors.HaveOneAnchorEach, specs.Lines.lines_of_rows, specs.Outline.Stands}
-use Rattle.yq_row_table.{specs.Exchange.asked_behind, specs.Grammar.{is_more, Limit, allows, AreRows}, specs.Rows.rows_text}
+use Rattle.yq_outline.{specs.Comments.line_comment, specs.LineAnchors.HaveOneAnchorEach, specs.Lines.lines_of_rows}
+use Rattle.yq_outline.specs.Outline.{IsLocatedAt}
+use Rattle.yq_row_table.{specs.Exchange.asked_after, specs.Grammar.{is_more, Limit, allows, AreRows}, specs.Rows.rows_text}
 use Rattle.yq_documents.specs.Documents.{HasFitKeys, HaveFitKeys, ReadsDocuments}
 use Rattle.yq_edit_rules.{specs.declared.layout.Layout.Layout, specs.BlockRows.{inline_of, column_below, node_rows}}
 use Rattle.yq_edit_rules.specs.BlockText.{block_value}
@@ -18,7 +19,7 @@ use Rattle.yq_core.specs.Nodes as inline
 -- An inline node is a value's: it is one below any parent, before any rest at which a plain scalar ends; it means the value and has no anchor; it may
 -- are alone on its line; and its keys are fit (own).
 pub record IsHead (v : tree.Node) (node : inline.FlowNode) : Type 0 where
-  pub stands : (n : ℤ) (rest : List ℕ) → ends_plain false (Some (deeper n)) rest ≡ true → IsInline Block n 0 node rest
+  pub is_located : (n : ℤ) (rest : List ℕ) → ends_plain false (Some (deeper n)) rest ≡ true → IsInline Block n 0 node rest
   pub same : node_head node ≡ Some v
   pub unnamed : node_anchor node ≡ None
   pub more : is_more node ≡ true
@@ -41,12 +42,12 @@ RowsWritten = (v : tree.Node) (l : Layout) (column : ℕ) (end rest : List ℕ) 
 -- After them a row may begin at any column up to theirs (own).
 abbrev pub RowsFollow : Type 0
 RowsFollow = (v : tree.Node) (l : Layout) (column c : ℕ) (end rest : List ℕ) (limit : Limit) → IsWritable v column end rest →
-    c ≤ column → allows (asked_behind limit (node_rows l column end v)) c ≡ true
+    c ≤ column → allows (asked_after limit (node_rows l column end v)) c ≡ true
 
 -- Their lines mean the value, at the level of their column, where a mapping is deeper than its key and no comment is in the last line (own).
 abbrev pub LinesWritten : Type 0
 LinesWritten = (v : tree.Node) (l : Layout) (column : ℕ) (end : List ℕ) → 1 ≤ l.mapping → IsFilledValue v → line_comment end ≡ None →
-    Stands (lines_of_rows (node_rows l column end v)) v (level_at column v)
+    IsLocatedAt (lines_of_rows (node_rows l column end v)) v (level_at column v)
 
 -- They are deeper than the line of the key or dash under which they are (own).
 abbrev pub LinesDeeper : Type 0

@@ -1,7 +1,7 @@
 -- Rows that are put in the place of others, and values that are written there (own).
 use Rattle.std.specs.Prelude.{◌≡◌, ℕ, ◌≤◌, List, [], ◌∷◌, ◌++◌, true, false, Some}
 use Rattle.yq_core.{specs.Text.separates, specs.Alike.Alike}
-use Rattle.yq_row_table.{specs.Alone.holds_nothing, specs.Exchange.{asked_behind, with_content}}
+use Rattle.yq_row_table.{specs.Alone.holds_nothing, specs.Exchange.{asked_after, with_content}}
 use Rattle.yq_row_table.{specs.Grammar.{IsContent, is_entry, Limit, allows, IsRow, AreRows}, specs.Joined.{dashed_row, compact_row}}
 use Rattle.yq_row_table.specs.Rows.{Dash, Content, Nothing, content_text, Row, parent_indent, mark_column, print_row, rows_text}
 use Rattle.yq_outline.specs.Lines.{row_lines, lines_of_rows}
@@ -24,7 +24,7 @@ pub data IsUpto : Row → Row → Type 0 where
 pub record Replaces (limit : Limit) (column : ℕ) (r : Row) (old : List ℕ) (new : List Row) (rest : List ℕ) : Type 0 where
   pub rows : AreRows limit new [] rest
   pub alike : Alike (Some false) (print_row r old) (rows_text new rest)
-  pub follow : (c : ℕ) → c ≤ column → allows (asked_behind limit new) c ≡ true
+  pub follow : (c : ℕ) → c ≤ column → allows (asked_after limit new) c ≡ true
 
 -- A row, cut after a key or dash where nothing but an anchor and the end of the line is, is above rows at a column: it is no deeper (own).
 pub record IsAbove (limit : Limit) (r : Row) (old : List ℕ) (s : Row) (x : Content) (below : ℕ) (rest : List ℕ) : Type 0 where
@@ -46,13 +46,13 @@ abbrev pub compact_node : Layout → List ℕ → Row → tree.Node → List Row
 compact_node l end s v = compact_rows s (node_rows l (item_column (mark_column s)) end v)
 
 -- A value may be written on the line of any dash of a row, after a space, in the place of what comes after it (own).
-abbrev pub BehindWritten : Type 0
-BehindWritten = (v : tree.Node) (l : Layout) (limit : Limit) (r s : Row) (old end rest : List ℕ) → IsWritable v (mark_column s) end rest →
+abbrev pub AfterWritten : Type 0
+AfterWritten = (v : tree.Node) (l : Layout) (limit : Limit) (r s : Row) (old end rest : List ℕ) → IsWritable v (mark_column s) end rest →
     IsRow limit r old → IsUpto s r → s.mark ≡ Dash → Replaces limit (mark_column s) r old (compact_node l end s v) rest
 
 -- The lines of these rows are those of the row up to its dash, and those of the value (own).
-abbrev pub BehindLines : Type 0
-BehindLines = (v : tree.Node) (l : Layout) (s : Row) (end : List ℕ) → IsFilledValue v →
+abbrev pub AfterLines : Type 0
+AfterLines = (v : tree.Node) (l : Layout) (s : Row) (end : List ℕ) → IsFilledValue v →
     lines_of_rows (compact_node l end s v) ≡ row_lines (dashed_row s.dashes (Nothing []) s) ++ lines_of_rows (node_rows l (item_column (mark_column s)) end v)
 
 -- the first of these rows, if there is one, begins at a column up to this one (own)
@@ -64,5 +64,5 @@ BeginsUpto column (r ∷ rs) = r.column ≤ column
 abbrev pub RowsReplaced : Type 0
 RowsReplaced = (limit : Limit) (column : ℕ) (before under after new : List Row) (r : Row) (end rest : List ℕ) →
     AreRows limit (before ++ (r ∷ (under ++ after))) end rest → BeginsUpto column after →
-    Replaces (asked_behind limit before) column r (rows_text (under ++ after) (end ++ rest)) new (rows_text after (end ++ rest)) →
+    Replaces (asked_after limit before) column r (rows_text (under ++ after) (end ++ rest)) new (rows_text after (end ++ rest)) →
     AreRows limit (before ++ (new ++ after)) end rest

@@ -1,7 +1,7 @@
 -- The rows in which values are written in block style (YAML 1.2.2, sections 8.2.1 and 8.2.2).
 use Rattle.std.specs.Prelude.{ℕ, ◌+◌, List, [], ◌∷◌, ◌++◌, Option, Some, None}
 use Rattle.yq_core.{specs.BlockWritten.break_text, specs.Scalar.string_of, specs.Tree.Children, specs.NodesWritten.scalar_text}
-use Rattle.yq_row_table.specs.Rows.{Dash, Key, Content, Nothing, Inline, Row, behind_columns}
+use Rattle.yq_row_table.specs.Rows.{Dash, Key, Content, Nothing, Inline, Row, after_columns}
 use Rattle.yq_edit_rules.specs.declared.layout.Layout.{Layout}
 use Rattle.yq_core.specs.declared.style.Place.TheVariants as places
 use Rattle.yq_core.specs.Tree as tree
@@ -29,7 +29,7 @@ indent_step l (tree.map a cs) = l.mapping
 
 -- the column of an item's node: after its dash and a space (YAML 1.2.2, section 8.2.1)
 abbrev pub item_column : ℕ → ℕ
-item_column column = behind_columns column (1 ∷ [])
+item_column column = after_columns column (1 ∷ [])
 
 -- the column of a node's rows: a step deeper than its key, or that of an item (YAML 1.2.2, sections 8.2.1 and 8.2.2; own)
 abbrev pub column_below : Layout → ℕ → Option (List ℕ) → tree.Node → ℕ

@@ -5,7 +5,7 @@ use Rattle.yq_outline.{specs.Comments.head_comment, specs.LineAnchors.HaveOneAnc
 use Rattle.yq_row_table.{specs.Grammar.{IsCut, no_rows}, specs.Rows.{Part, Cut, last, marked, cut_text}}
 use Rattle.yq_documents.specs.Documents.{Document, HaveFitKeys, HasShortRoot, IsDocument, document_parts, lead_of}
 use Rattle.yq_documents.{specs.PartNumbers.part_number, specs.Reading.{documents, read_at, root_of}, specs.TreeEdits.change_nth}
-use Rattle.yq_edit_rules.specs.Siblings.{StandsSomewhere}
+use Rattle.yq_edit_rules.specs.Siblings.{AreSomewhere}
 use Rattle.yq_places.specs.RowPaths.{IsReadable}
 
 -- a cut with another part i, or another last one
@@ -47,7 +47,7 @@ ChangesIfReadable c k q lead f = IsReadable (cut_text (put_document k q c)) → 
 
 -- The rows of a part mean a root as is asked of a document's.
 pub record HasRoot (q : Part) (root : Node) : Type 0 where
-  pub stands : StandsSomewhere (lines_of_rows q.rows) root
+  pub is_located : AreSomewhere (lines_of_rows q.rows) root
   pub keys : HaveFitKeys q.rows
   pub unique : HasUniqueKeys root
   pub nested : depth root ≤ depth_limit
@@ -56,8 +56,8 @@ pub record HasRoot (q : Part) (root : Node) : Type 0 where
   pub short : HasShortRoot q.rows
 
 -- A part whose rows mean a root, as is asked, is a document of that root.
-abbrev pub PartStands : Type 0
-PartStands = (q : Part) (root : Node) → HasRoot q root → IsDocument q (record { lead = lead_of q; root = root })
+abbrev pub PartIsThere : Type 0
+PartIsThere = (q : Part) (root : Node) → HasRoot q root → IsDocument q (record { lead = lead_of q; root = root })
 
 -- With another part for document k, where the new text has that cut, and the part means the old root changed, it reads as the same documents but for this
 -- one.

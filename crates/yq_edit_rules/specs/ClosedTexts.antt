@@ -10,6 +10,6 @@ is_closed_text (b ∷ (d ∷ t)) = is_closed_text (d ∷ t)
 
 -- lines put after a line: with a break after them, or, where that line has none, with the break in front of them, so that the text again ends without one
 -- (own)
-abbrev pub lines_put_behind : (closed : Bool) → List ℕ → List ℕ → List ℕ
-lines_put_behind true br lines = lines ++ br
-lines_put_behind false br lines = br ++ lines
+abbrev pub closed_lines_put : (closed : Bool) → List ℕ → List ℕ → List ℕ
+closed_lines_put true br lines = lines ++ br
+closed_lines_put false br lines = br ++ lines

@@ -5,7 +5,7 @@ use Rattle.yq_row_table.specs.Rows.{Row, rows_text, Part, part_text, Cut, cut_te
 use Rattle.yq_outline.{specs.Outline.{Outline, end, row, flatten}, specs.Places.lines_before, specs.Lines.lines_of_rows}
 use Rattle.yq_places.specs.CollectionEnds.{CollectionEnd, is_broken}
 use Rattle.yq_documents.specs.Reading.{part_outline}
-use Rattle.yq_edit_rules.{specs.Changed.put_document, specs.DocumentRows.behind_document, specs.Siblings.{NodeLines, IsCollectionAt}}
+use Rattle.yq_edit_rules.{specs.Changed.put_document, specs.DocumentRows.after_document, specs.Siblings.{NodeLines, IsCollectionAt}}
 
 -- the first of lines begins at a column
 abbrev pub BeginsAt : ℕ → Outline → Type 0
@@ -28,6 +28,6 @@ pub record IsCollectionEnd (c : Cut) (k : ℕ) (p : Part) (steps : List Step) (x
   pub count : length (lines_of_rows front) ≡ length (lines_before h.place) + length (flatten h.lines)
   pub start : List ℕ
   pub before_is : x.before ≡ start ++ rows_text front []
-  pub behind_is : x.behind ≡ rows_text back (p.end ++ behind_document k c)
-  pub old_text : cut_text c ≡ start ++ part_text p (behind_document k c)
-  pub new_text : (q : Part) → cut_text (put_document k q c) ≡ start ++ part_text q (behind_document k c)
+  pub following_is : x.after ≡ rows_text back (p.end ++ after_document k c)
+  pub old_text : cut_text c ≡ start ++ part_text p (after_document k c)
+  pub new_text : (q : Part) → cut_text (put_document k q c) ≡ start ++ part_text q (after_document k c)

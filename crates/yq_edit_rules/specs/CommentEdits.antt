@@ -1,11 +1,11 @@
 -- LineComment and HeadComment: what is exchanged, by what is at the place (YAML 1.2.2, 6.6; own).
 use Rattle.std.specs.Prelude.{ℕ, ◌==◌, ◌&&◌, not, List, [], ◌∷◌, ◌++◌, length, replicate, Option, Some, None, if◌then◌else◌}
 use Rattle.yq_core.{specs.Answers.◌>>=◌, specs.BlockWritten.break_text, specs.Paths.Step, specs.Text.is_empty}
-use Rattle.yq_row_table.specs.Rows.{Cut, behind_gap, cut_text, rows_text}
+use Rattle.yq_row_table.specs.Rows.{Cut, following_gap, cut_text, rows_text}
 use Rattle.yq_documents.specs.Pieces.{TextPiece}
 use Rattle.yq_edit_rules.specs.PiecePuts.{piece_replaced}
 use Rattle.yq_places.{specs.CommentPlaces.gap_above, specs.FirstBreak.first_break}
-use Rattle.yq_places.specs.Standings.{Held, RowsOfEntry, before_entry, behind_entry, held, rows_of_entry}
+use Rattle.yq_places.specs.Placements.{Held, RowsOfEntry, before_entry, after_entry, held, rows_of_entry}
 use Rattle.yq_semantics.specs.Meaning.{head_comment_lines}
 use Rattle.yq_text.specs.Script.{Segment, keep, put}
 
@@ -21,7 +21,7 @@ white_put text h = if is_empty text && not (is_empty h.comment) then put h.white
 abbrev pub comment_put : List ℕ → Held → List Segment
 comment_put text h =
     keep h.before ∷ (keep h.space ∷ (keep h.head ∷ (white_put text h ∷ (put h.comment (comment_written text h.comment) ∷
-    (keep h.break ∷ (keep h.lines ∷ (keep h.last ∷ (keep h.behind ∷ []))))))))
+    (keep h.break ∷ (keep h.lines ∷ (keep h.last ∷ (keep h.after ∷ []))))))))
 
 -- LineComment: in the tail of a row, for the item or entry of its last mark (6.6)
 abbrev pub line_comment_put : List ℕ → RowsOfEntry → Option (List Segment)
@@ -29,7 +29,7 @@ line_comment_put text e = if e.line == length e.row.dashes then Some (comment_pu
 
 -- the column of the first of rows, and the comment that ends its gap (6.6)
 abbrev pub above_rows : RowsOfEntry → ℕ × TextPiece
-above_rows e = (e.row.column, gap_above (before_entry e) e.row.gap (behind_gap e.row (rows_text e.under (behind_entry e))))
+above_rows e = (e.row.column, gap_above (before_entry e) e.row.gap (following_gap e.row (rows_text e.under (after_entry e))))
 
 -- a line of a head comment: `#` in a column, and, where the text isn't empty, a space and the text; with a break (6.6)
 abbrev pub comment_line : ℕ → List ℕ → List ℕ → List ℕ

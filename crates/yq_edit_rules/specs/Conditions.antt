@@ -19,10 +19,10 @@ aliases_in (Anchors a ∷ names) = aliases_in names
 aliases_in (Refers a ∷ names) = a ∷ aliases_in names
 
 -- the anchors that are known after names, where these are known before them
-abbrev pub known_behind : List (List ℕ) → List Name → List (List ℕ)
-known_behind known [] = known
-known_behind known (Anchors a ∷ names) = known_behind (a ∷ known) names
-known_behind known (Refers a ∷ names) = known_behind known names
+abbrev pub known_after : List (List ℕ) → List Name → List (List ℕ)
+known_after known [] = known
+known_after known (Anchors a ∷ names) = known_after (a ∷ known) names
+known_after known (Refers a ∷ names) = known_after known names
 
 -- Of the anchors that are replaced, each that has an alias among other names comes again.
 abbrev pub AreSpared : List Name → List Name → List Name → Type 0
@@ -31,7 +31,7 @@ AreSpared gone come others = (a : List ℕ) → IsAmong a (anchors_in gone) → 
 -- Where names are replaced by others that are bound, and no alias after them loses its anchor, all names stay bound (7.1).
 abbrev pub BoundStays : Type 0
 BoundStays =
-    (known : List (List ℕ)) (before gone come after : List Name) → AreBound known (before ++ (gone ++ after)) → AreBound (known_behind known before) come →
+    (known : List (List ℕ)) (before gone come after : List Name) → AreBound known (before ++ (gone ++ after)) → AreBound (known_after known before) come →
     AreSpared gone come after → AreBound known (before ++ (come ++ after))
 
 -- The names before and after the node at a path, which stay where that node is changed.

@@ -3,13 +3,13 @@ use Rattle.std.specs.Prelude.{◌≡◌, ℕ, suc, ◌+◌, List, [], ◌∷◌,
 use Rattle.yq_core.{specs.Paths.{Step, changed_at}, specs.Tree.Node}
 use Rattle.yq_outline.{specs.Comments.line_comment, specs.Outline.flatten, specs.Places.{lines_before, FoundLine, find, content_under}}
 use Rattle.yq_outline.specs.Lines.{content_anchor, head_of, tail_of, lines_of_rows}
-use Rattle.yq_row_table.{specs.Exchange.{asked_behind, with_content}, specs.Grammar.unlimited}
-use Rattle.yq_row_table.{specs.Rows.{Bare, Content, Row, rows_text, Part, Cut, cut_text}, specs.SpliceFits.StandsFor}
+use Rattle.yq_row_table.{specs.Exchange.{asked_after, with_content}, specs.Grammar.unlimited}
+use Rattle.yq_row_table.{specs.Rows.{Bare, Content, Row, rows_text, Part, Cut, cut_text}, specs.SpliceFits.RemovalMeans}
 use Rattle.yq_documents.{specs.Documents.{ContentHasFitKeys, is_long_plain, lead_of}, specs.Reading.{part_outline, root_of}}
 use Rattle.yq_documents.specs.TreeEdits.{replaced_node}
 use Rattle.yq_places.specs.RowPaths.{IsReadable}
 use Rattle.yq_edit_rules.{specs.Appends.inserted, specs.Changed.{put_document, IsChangedBy}}
-use Rattle.yq_edit_rules.{specs.DocumentRows.{IsDocumentPart, behind_document}, specs.SoundRoots.MayReplace}
+use Rattle.yq_edit_rules.{specs.DocumentRows.{IsDocumentPart, after_document}, specs.SoundRoots.MayReplace}
 
 -- a part in which one row has another content
 abbrev pub recontent : (front : List Row) → Row → (back : List Row) → Content → Part → Part
@@ -20,7 +20,7 @@ recontent front r back new p = inserted front (with_content new r ∷ []) back p
 pub record TakesContent (t : List ℕ) (c : Cut) (k : ℕ) (p : Part) (front : List Row) (r : Row) (back : List Row) (v : Node) (new : Content) : Type 0 where
   pub old : IsDocumentPart t c k p
   pub rows_are : p.rows ≡ front ++ (r ∷ back)
-  pub row : StandsFor (asked_behind unlimited front) r (with_content new r) back (rows_text back (p.end ++ behind_document k c))
+  pub row : RemovalMeans (asked_after unlimited front) r (with_content new r) back (rows_text back (p.end ++ after_document k c))
   pub head_is : head_of new ≡ Some v
   pub anchor_is : content_anchor new ≡ content_anchor r.content
   pub comment_is : line_comment (tail_of new) ≡ line_comment (tail_of r.content)

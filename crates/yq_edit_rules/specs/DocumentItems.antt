@@ -2,14 +2,14 @@
 use Rattle.std.specs.Prelude.{◌≡◌, ℕ, List, [], ◌∷◌, ◌++◌, slice_get, Some}
 use Rattle.yq_row_table.{specs.Items.{Item, end_item, rows_items, items_of_cut, items_text}, specs.Rows.{Part, Cut}}
 use Rattle.yq_documents.specs.Documents.{document_parts}
-use Rattle.yq_edit_rules.{specs.Changed.put_document, specs.DocumentRows.behind_document}
+use Rattle.yq_edit_rules.{specs.Changed.put_document, specs.DocumentRows.after_document}
 
 -- Document k of a cut is among items, and so does another part that is put in its place; all other items stay.
 pub record HasItems (c : Cut) (k : ℕ) (p : Part) : Type 0 where
   pub above : List Item
   pub marker : List ℕ
   pub below : List Item
-  pub behind : behind_document k c ≡ marker ++ items_text below []
+  pub after : after_document k c ≡ marker ++ items_text below []
   pub old : items_of_cut c ≡ above ++ rows_items p.rows (end_item p.end marker ∷ below)
   pub put : (q : Part) → items_of_cut (put_document k q c) ≡ above ++ rows_items q.rows (end_item q.end marker ∷ below)
 

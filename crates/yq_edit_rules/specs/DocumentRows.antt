@@ -1,8 +1,8 @@
 -- Rows of one document exchanged in a cut (own).
 use Rattle.std.specs.Prelude.{◌≡◌, ℕ, ◌+◌, true, false, List, ◌++◌, length, slice_get, Some}
-use Rattle.yq_row_table.{specs.Exchange.{allows_first, asked_behind}, specs.Grammar.{unlimited, AreRows, IsCut, no_rows}}
+use Rattle.yq_row_table.{specs.Exchange.{allows_first, asked_after}, specs.Grammar.{unlimited, AreRows, IsCut, no_rows}}
 use Rattle.yq_row_table.specs.Rows.{Row, rows_text, Part, Cut, cut_text}
-use Rattle.yq_row_table.specs.Splices.{with_first_gap, end_gap, behind_first, splice_part, splice, nth_part, behind_part}
+use Rattle.yq_row_table.specs.Splices.{with_first_gap, end_gap, after_first, splice_part, splice, nth_part, after_part}
 use Rattle.yq_row_table.specs.Seams.{are_seamed}
 use Rattle.yq_documents.{specs.Documents.{IsDocument, document_parts}, specs.PartNumbers.part_number}
 use Rattle.yq_documents.specs.Reading.{part_document, part_outline, read_at}
@@ -16,8 +16,8 @@ pub record IsDocumentPart (t : List ℕ) (c : Cut) (k : ℕ) (p : Part) : Type 0
   pub there : slice_get (document_parts c) k ≡ Some p
 
 -- the text after document k
-abbrev pub behind_document : ℕ → Cut → List ℕ
-behind_document k c = behind_part (part_number k c) c
+abbrev pub after_document : ℕ → Cut → List ℕ
+after_document k c = after_part (part_number k c) c
 
 -- a part with other rows between those before and those after, and this gap after them
 abbrev pub put_rows : (front new back : List Row) → List ℕ → Part → Part
@@ -49,15 +49,15 @@ DocumentKnown = (t : List ℕ) (c : Cut) (k : ℕ) (p : Part) → IsDocumentPart
 -- Rows may be between those before and those after, with this gap after them: they are rows there, the next row may follow, and what then comes after
 -- the rows in front may be there.
 pub record RowsFit (front new back : List Row) (gap : List ℕ) (p : Part) (rest : List ℕ) : Type 0 where
-  pub rows : AreRows (asked_behind unlimited front) new gap (behind_first back p.end rest)
-  pub next : allows_first (asked_behind (asked_behind unlimited front) new) back ≡ true
-  pub seam : are_seamed front (rows_text new (gap ++ behind_first back p.end rest)) ≡ true
+  pub rows : AreRows (asked_after unlimited front) new gap (after_first back p.end rest)
+  pub next : allows_first (asked_after (asked_after unlimited front) new) back ≡ true
+  pub seam : are_seamed front (rows_text new (gap ++ after_first back p.end rest)) ≡ true
 
 -- A cut in which rows of a document that has some are replaced by others that fit is a cut, where the new text may be.
 abbrev pub DocumentSpliced : Type 0
 DocumentSpliced =
     (t : List ℕ) (c : Cut) (k : ℕ) (p : Part) (front gone back new : List Row) (gap : List ℕ) → IsDocumentPart t c k p → IsCut t c →
     p.rows ≡ front ++ (gone ++ back) → no_rows p.rows ≡ false →
-    RowsFit front new back gap p (behind_document k c) →
+    RowsFit front new back gap p (after_document k c) →
     IsReadable (cut_text (put_document k (put_rows front new back gap p) c)) →
     IsCut (cut_text (put_document k (put_rows front new back gap p) c)) (put_document k (put_rows front new back gap p) c)

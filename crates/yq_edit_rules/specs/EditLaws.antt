@@ -6,7 +6,7 @@ use Rattle.yq_row_table.specs.Rows.{Cut, cut_text}
 use Rattle.yq_documents.specs.Reading.{documents, read_at}
 use Rattle.yq_places.{specs.FirstBreak.first_break, specs.FlowNodes.flow_collection, specs.NodesAt.node_in}
 use Rattle.yq_places.specs.RemovalPlaces.{has_others_at}
-use Rattle.yq_places.specs.Standings.{FlowPart, RowsOfEntry, Standing, flow_standing, last_step, rows_of_entry, standing_at}
+use Rattle.yq_places.specs.Placements.{FlowPart, RowsOfEntry, Placement, flow_placement, last_step, rows_of_entry, placement_at}
 use Rattle.yq_semantics.{specs.Fits.Fits, specs.Operations.{Operation, replace, append, remove, line_comment, head_comment}}
 use Rattle.yq_semantics.specs.Rooms.{room_of}
 use Rattle.yq_edit_rules.{specs.CommentEdits.{head_comment_put, line_comment_put}, specs.Edits.{appended, op_edits, empty_collection}}
@@ -27,15 +27,15 @@ pub record IsEdit (op : Operation) (c : Cut) (ss : List Segment) : Type 0 where
 -- Replace: a value put where something is.
 abbrev pub ValuesArePut : Type 0
 ValuesArePut =
-    (n : ℕ) (steps : List Step) (v : Node) (c : Cut) (t : Standing) →
-    read_at (cut_text c) ≡ Some c → standing_at n steps c ≡ Some t → keeps_scalar (node_in n steps c) v ≡ false →
+    (n : ℕ) (steps : List Step) (v : Node) (c : Cut) (t : Placement) →
+    read_at (cut_text c) ≡ Some c → placement_at n steps c ≡ Some t → keeps_scalar (node_in n steps c) v ≡ false →
     IsEdit (replace n steps v) c (value_put (has_text (node_in n steps c)) (layout_of n c) v t)
 
 -- Replace in a flow collection.
 abbrev pub FlowValuesArePut : Type 0
 FlowValuesArePut =
     (n : ℕ) (steps : List Step) (v : Node) (c : Cut) (x : FlowPart) →
-    read_at (cut_text c) ≡ Some c → flow_standing n c (last_step steps) ≡ Some x → keeps_scalar (node_in n steps c) v ≡ false →
+    read_at (cut_text c) ≡ Some c → flow_placement n c (last_step steps) ≡ Some x → keeps_scalar (node_in n steps c) v ≡ false →
     IsEdit (replace n steps v) c (flow_put (cut_text c) v x)
 
 -- An equal scalar leaves all bytes.
@@ -47,8 +47,8 @@ EqualScalarsStay =
 -- Append: one more item or entry at the end of a block collection.
 abbrev pub MoreIsPut : Type 0
 MoreIsPut =
-    (n : ℕ) (steps : List Step) (key : Option (List ℕ)) (v : Node) (c : Cut) (t : Standing) (ss : List Segment) →
-    read_at (cut_text c) ≡ Some c → standing_at n steps c ≡ Some t →
+    (n : ℕ) (steps : List Step) (key : Option (List ℕ)) (v : Node) (c : Cut) (t : Placement) (ss : List Segment) →
+    read_at (cut_text c) ≡ Some c → placement_at n steps c ≡ Some t →
     block_more (layout_of n c) key v t ≡ Some ss → IsEdit (append n steps key v) c ss
 
 -- Append: one more part at the end of a flow collection.

@@ -3,7 +3,7 @@ use Rattle.std.{specs.Option.option_or, specs.Prelude.{ℕ, List, [], ◌∷◌,
 use Rattle.yq_core.{specs.Answers.◌>>=◌, specs.Paths.Step, specs.Tree.{Node, alias, scalar, list, map, none}}
 use Rattle.yq_row_table.specs.Rows.{Cut, cut_text}
 use Rattle.yq_places.{specs.FlowNodes.flow_collection, specs.NodesAt.node_in, specs.RemovalPlaces.has_others_at}
-use Rattle.yq_places.specs.Standings.{flow_standing, last_step}
+use Rattle.yq_places.specs.Placements.{flow_placement, last_step}
 use Rattle.yq_semantics.specs.Operations.{Operation, replace, append, remove, line_comment, head_comment}
 use Rattle.yq_text.specs.Script.{Segment, keep}
 use Rattle.yq_edit_rules.{specs.CommentEdits.{head_comment_at, line_comment_at}, specs.EntryEdits.{more_at, one_removed}}
@@ -14,7 +14,7 @@ use Rattle.yq_edit_rules.specs.Replacing.{keeps_scalar}
 abbrev pub replace_segments : ℕ → List Step → Node → Cut → Option (List Segment)
 replace_segments n steps v c =
     if keeps_scalar (node_in n steps c) v then Some (keep (cut_text c) ∷ [])
-    else option_or (value_put_at n steps v c) (option_map (flow_put (cut_text c) v) (flow_standing n c (last_step steps)))
+    else option_or (value_put_at n steps v c) (option_map (flow_put (cut_text c) v) (flow_placement n c (last_step steps)))
 
 -- Append: rows after those of a block collection, or else a part more in a flow collection
 abbrev pub appended : ℕ → List Step → Option (List ℕ) → Node → Cut → Option (List Segment)

@@ -5,7 +5,7 @@ use Rattle.yq_row_table.{specs.Grammar.{AreRows, limit_after}, specs.Rows.{Row, 
 use Rattle.yq_documents.{specs.Documents.lead_of, specs.Reading.part_outline}
 use Rattle.yq_outline.{specs.Lines.lines_of_rows, specs.Outline.{Line, Outline, flatten, label}, specs.Places.{lines_before, content_under}}
 use Rattle.yq_edit_rules.{specs.Siblings.{NodeLines, IsCollectionAt}, specs.Appends.AreAppendedRows}
-use Rattle.yq_edit_rules.{specs.DocumentRows.{IsDocumentPart, behind_document, put_rows}, specs.Changed.ChangesIfReadable}
+use Rattle.yq_edit_rules.{specs.DocumentRows.{IsDocumentPart, after_document, put_rows}, specs.Changed.ChangesIfReadable}
 
 -- a part whose last row gets a break, and rows after it
 abbrev pub closed_with : (front : List Row) → Row → (break : List ℕ) → (new : List Row) → Part → Part
@@ -26,5 +26,5 @@ EndAppended =
     (u : Outline) → IsDocumentPart t c k p →
     IsCollectionAt steps (part_outline p) h → length (lines_of_rows p.rows) ≡ length (lines_before h.place) + length (flatten h.lines) →
     AreAppendedRows h new m l u (length steps) →
-    TakesRowsLast p front r break new (behind_document k c) →
+    TakesRowsLast p front r break new (after_document k c) →
     ChangesIfReadable c k (closed_with front r break new p) (lead_of p) (changed_at steps (within (append_child (label l) (content_under l u))))

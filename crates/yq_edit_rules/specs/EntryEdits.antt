@@ -3,9 +3,9 @@ use Rattle.std.{specs.Option.option_or, specs.Prelude.{ℕ, not, List, [], ◌�
 use Rattle.yq_core.{specs.Answers.◌>>=◌, specs.BlockWritten.break_text, specs.Paths.Step, specs.Text.is_empty, specs.Tree.Node}
 use Rattle.yq_row_table.specs.Rows.{Cut}
 use Rattle.yq_places.{specs.FirstPlaces.first_removal, specs.RemovalPlaces.removal_place}
-use Rattle.yq_places.specs.Standings.{Held, Standing, alone, beside, under, compact, block, root, no_rows, standing_at}
-use Rattle.yq_edit_rules.{specs.declared.layout.Layout.Layout, specs.BlockText.block_value, specs.ClosedTexts.lines_put_behind}
-use Rattle.yq_edit_rules.{specs.Layouts.layout_of, specs.PiecePuts.behind_lines, specs.Removing.{first_removed, rows_removed}}
+use Rattle.yq_places.specs.Placements.{Held, Placement, alone, beside, under, compact, block, root, no_rows, placement_at}
+use Rattle.yq_edit_rules.{specs.declared.layout.Layout.Layout, specs.BlockText.block_value, specs.ClosedTexts.closed_lines_put}
+use Rattle.yq_edit_rules.{specs.Layouts.layout_of, specs.PiecePuts.after_lines, specs.Removing.{first_removed, rows_removed}}
 use Rattle.yq_text.specs.Script.{Segment, keep, put}
 use Rattle.yq_edit_rules.specs.Alone as single
 
@@ -17,27 +17,27 @@ entry_lines l column key v = replicate column 32 ++ block_value l column (single
 
 -- the lines of one more item or entry after the last line of a block collection, with a break after them, or in front where that line has none (8.2)
 abbrev pub more_lines : Layout → Option (List ℕ) → Node → ℕ → List ℕ → List ℕ
-more_lines l key v column last = lines_put_behind (not (is_empty last)) (break_text l.br) (entry_lines l column key v)
+more_lines l key v column last = closed_lines_put (not (is_empty last)) (break_text l.br) (entry_lines l column key v)
 
 -- these lines put after what a key or dash holds
-abbrev pub behind_held : Held → List ℕ → List Segment
-behind_held h new =
+abbrev pub after_held : Held → List ℕ → List Segment
+after_held h new =
     keep h.before ∷ (keep h.space ∷ (keep h.head ∷ (keep h.white ∷ (keep h.comment ∷
-    (keep h.break ∷ (keep h.lines ∷ (keep h.last ∷ (put [] new ∷ (keep h.behind ∷ [])))))))))
+    (keep h.break ∷ (keep h.lines ∷ (keep h.last ∷ (put [] new ∷ (keep h.after ∷ [])))))))))
 
 -- one more item or entry at the end of what is there, if that is a block collection (8.2)
-abbrev pub block_more : Layout → Option (List ℕ) → Node → Standing → Option (List Segment)
+abbrev pub block_more : Layout → Option (List ℕ) → Node → Placement → Option (List Segment)
 block_more l key v (alone w) = None
 block_more l key v (beside h) = None
-block_more l key v (under h column) = Some (behind_held h (more_lines l key v column h.last))
-block_more l key v (compact mark column w) = Some (behind_lines w (more_lines l key v column w.last))
+block_more l key v (under h column) = Some (after_held h (more_lines l key v column h.last))
+block_more l key v (compact mark column w) = Some (after_lines w (more_lines l key v column w.last))
 block_more l key v (block h indent) = None
-block_more l key v (root column w) = Some (behind_lines w (more_lines l key v column w.last))
+block_more l key v (root column w) = Some (after_lines w (more_lines l key v column w.last))
 block_more l key v (no_rows w) = None
 
 -- the same where steps lead in document n
 abbrev pub more_at : ℕ → List Step → Cut → Option (List ℕ) → Node → Option (List Segment)
-more_at n steps c key v = standing_at n steps c >>= block_more (layout_of n c) key v
+more_at n steps c key v = placement_at n steps c >>= block_more (layout_of n c) key v
 
 -- ---- Remove
 

@@ -4,14 +4,14 @@ use Rattle.yq_core.{specs.Paths.Step, specs.Written.written_scalar, specs.declar
 use Rattle.yq_core.{specs.Collections.CollPieces, specs.Nodes.{FlowNode, alias, scalar, node_text, without_anchor}}
 use Rattle.yq_core.{specs.Scalars.scalar_style, specs.NodesWritten.{flow_key, flow_of}}
 use Rattle.yq_flow_edits.{specs.FlowEdits.{FlowEdit, appending, replacing}, specs.Removals.removing}
-use Rattle.yq_places.specs.Standings.{FlowPart}
+use Rattle.yq_places.specs.Placements.{FlowPart}
 use Rattle.yq_text.specs.Script.{Segment, keep, put, script_text_before}
 use Rattle.yq_edit_rules.specs.Style.{style_in}
 use Rattle.yq_core.specs.Tree as tree
 
 -- the segments of a text in which a flow collection is edited
 abbrev pub flow_segments : List ℕ → FlowEdit → List Segment
-flow_segments t e = keep (script_text_before t (e.old ++ e.behind)) ∷ (put e.old e.lead ∷ (put [] e.written ∷ (keep e.behind ∷ [])))
+flow_segments t e = keep (script_text_before t (e.old ++ e.after)) ∷ (put e.old e.lead ∷ (put [] e.written ∷ (keep e.after ∷ [])))
 
 -- a value as an inline node in the place of a text: a scalar in the style of that, if this can write it in flow, else plain if it can be, else in double
 -- quotes; a collection in flow style (7.4)

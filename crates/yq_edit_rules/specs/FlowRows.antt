@@ -8,7 +8,7 @@ use Rattle.yq_row_table.{specs.Exchange.with_content, specs.Rows.{Inline, Row, p
 use Rattle.yq_documents.{specs.Documents.{HasFitKeys, document_parts, lead_of}, specs.Reading.{part_outline, read_at, root_of}}
 use Rattle.yq_places.specs.FlowNodes.{find_head, flow_collection}
 use Rattle.yq_edit_rules.{specs.Appends.inserted, specs.Changed.{put_document, ChangesIfReadable}}
-use Rattle.yq_edit_rules.{specs.DocumentRows.{IsDocumentPart, behind_document}, specs.SoundRoots.IsSoundRoot}
+use Rattle.yq_edit_rules.{specs.DocumentRows.{IsDocumentPart, after_document}, specs.SoundRoots.IsSoundRoot}
 use Rattle.yq_core.specs.declared.style.Place.TheVariants as places
 
 -- An inline node in a row of a document: the rows before and after that one, and the pieces of its content.
@@ -21,8 +21,8 @@ pub record InlineRow : Type 0 where
   pub tail : List ℕ
 
 -- the text after the inline node of a row in document k
-abbrev pub behind_node : Cut → ℕ → Part → InlineRow → List ℕ
-behind_node c k p i = i.tail ++ rows_text i.back (p.end ++ behind_document k c)
+abbrev pub text_after_node : Cut → ℕ → Part → InlineRow → List ℕ
+text_after_node c k p i = i.tail ++ rows_text i.back (p.end ++ after_document k c)
 
 -- a collection in the inline node of a row in document k
 abbrev pub row_collection : Cut → ℕ → Part → InlineRow → List Step → CollPieces → CollAt
@@ -31,7 +31,7 @@ row_collection c k p i steps w = record {
   indent = parent_indent i.row;
   around = 0;
   node = i.node;
-  rest = behind_node c k p i;
+  rest = text_after_node c k p i;
   steps = steps;
   coll = w;
 }
@@ -50,11 +50,11 @@ pub record IsFlowAt (c : Cut) (k : ℕ) (p : Part) (steps : List Step) (f : Foun
   pub rows_are : p.rows ≡ i.front ++ (i.row ∷ i.back)
   pub content_is : i.row.content ≡ Inline i.space i.node i.tail
   pub number : length (lines_of_rows i.front) + length i.row.dashes ≡ length (lines_before f.place)
-  pub along : coll_along rest i.node (behind_node c k p i) ≡ Some w
+  pub along : coll_along rest i.node (text_after_node c k p i) ≡ Some w
 
 -- A collection to which a path leads is in the inline node of its row.
-abbrev pub FlowStands : Type 0
-FlowStands =
+abbrev pub FlowIsThere : Type 0
+FlowIsThere =
     (t : List ℕ) (c : Cut) (k : ℕ) (p : Part) (steps : List Step) (f : FoundLine) (rest : List Step) (i : InlineRow) (w : CollPieces) →
     IsDocumentPart t c k p → IsFlowAt c k p steps f rest i w →
     IsCollAt (row_collection c k p i rest w)
@@ -82,13 +82,13 @@ abbrev pub FlowFound : Type 0
 FlowFound = (t : List ℕ) (c : Cut) (k : ℕ) (steps : List Step) (w : CollPieces) → read_at t ≡ Some c → flow_collection k steps c ≡ Some w → FlowAt c k steps w
 
 -- The text of a cut with an inline node, and with another one in its place.
-pub record NodeStands (c : Cut) (k : ℕ) (p : Part) (i : InlineRow) : Type 0 where
+pub record NodeIsThere (c : Cut) (k : ℕ) (p : Part) (i : InlineRow) : Type 0 where
   pub before : List ℕ
-  pub old : cut_text c ≡ before ++ node_text i.node (behind_node c k p i)
-  pub new : (m : FlowNode) → cut_text (put_document k (with_node p i m) c) ≡ before ++ node_text m (behind_node c k p i)
+  pub old : cut_text c ≡ before ++ node_text i.node (text_after_node c k p i)
+  pub new : (m : FlowNode) → cut_text (put_document k (with_node p i m) c) ≡ before ++ node_text m (text_after_node c k p i)
 
 -- With another inline node in a row the text of a cut is the same outside that node.
 abbrev pub RowTexts : Type 0
 RowTexts =
     (c : Cut) (k : ℕ) (p : Part) (i : InlineRow) → slice_get (document_parts c) k ≡ Some p → p.rows ≡ i.front ++ (i.row ∷ i.back) →
-    i.row.content ≡ Inline i.space i.node i.tail → NodeStands c k p i
+    i.row.content ≡ Inline i.space i.node i.tail → NodeIsThere c k p i

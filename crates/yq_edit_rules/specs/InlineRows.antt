@@ -30,7 +30,7 @@ LeadsToLone p (s ∷ ss) front r = LeadsBelow p s ss front r
 -- An inline node is that of a value: below any parent it is one before any rest at which a plain scalar ends; it means the value and has no anchor; its
 -- keys are fit; it is more than an anchor, and no marker; and if it is plain, it is on one line.
 pub record IsValueNode (v : Node) (node : inline.FlowNode) : Type 0 where
-  pub stands : (n : ℤ) (rest : List ℕ) → ends_plain false (Some (deeper n)) rest ≡ true → IsInline Block n 0 node rest
+  pub is_located : (n : ℤ) (rest : List ℕ) → ends_plain false (Some (deeper n)) rest ≡ true → IsInline Block n 0 node rest
   pub head : node_head node ≡ Some v
   pub unnamed : node_anchor node ≡ None
   pub takes : takes_anchor node ≡ true

@@ -3,7 +3,7 @@ use Rattle.std.{specs.Prelude.{◌≡◌, ℕ, ◌&&◌, ◌||◌, not, Bool, tr
 use Rattle.yq_core.specs.Tree.{Node, alias, scalar, list, map, Children, none, child}
 use Rattle.yq_row_table.specs.Rows.{Cut, cut_text}
 use Rattle.yq_places.{specs.FirstBreak.first_break, specs.Steps.document_steps}
-use Rattle.yq_places.specs.Standings.{Standing, alone, beside, under, compact, block, root, no_rows}
+use Rattle.yq_places.specs.Placements.{Placement, alone, beside, under, compact, block, root, no_rows}
 use Rattle.yq_edit_rules.{specs.BlockReading.is_filled, specs.declared.layout.Layout.Layout}
 
 -- how block style looks in document n of a cut: with the text's first break, and that document's steps (own)
@@ -35,7 +35,7 @@ unfoldable mutual
   children_ask dashes (child label n cs) = (is_some label.key && is_filled_as dashes n) || (node_asks dashes n || children_ask dashes cs)
 
 -- whether a key holds what is there (8.2.2)
-abbrev pub is_under_key : Standing → Bool
+abbrev pub is_under_key : Placement → Bool
 is_under_key (alone w) = false
 is_under_key (beside h) = h.mark.keyed
 is_under_key (under h column) = h.mark.keyed

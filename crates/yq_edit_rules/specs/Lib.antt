@@ -44,7 +44,7 @@ pub mod FlowRows
 pub mod FlowKept
 pub mod Unders
 pub mod DocumentItems
-pub mod StandingLaws
+pub mod PlacementLaws
 pub mod RowStays
 pub mod BlockRows
 pub mod BlockText

@@ -6,7 +6,7 @@ use Rattle.yq_row_table.{specs.Rows.{Row, parent_indent, rows_text, Part, Cut}, 
 use Rattle.yq_row_table.specs.Splices.{first_gap}
 use Rattle.yq_documents.{specs.Documents.lead_of, specs.Reading.part_outline, specs.TreeEdits.with_line_comment}
 use Rattle.yq_edit_rules.{specs.Siblings.{IsEntryAt, NodeLines}, specs.LineRows.lines_before_entry}
-use Rattle.yq_edit_rules.{specs.DocumentRows.{IsDocumentPart, behind_document, put_rows}, specs.Changed.ChangesIfReadable}
+use Rattle.yq_edit_rules.{specs.DocumentRows.{IsDocumentPart, after_document, put_rows}, specs.Changed.ChangesIfReadable}
 
 -- a part in which a row has another tail
 abbrev pub retailed : (front : List Row) → Row → (back : List Row) → List ℕ → Part → Part
@@ -27,6 +27,6 @@ abbrev pub LineCommented : Type 0
 LineCommented =
     (t : List ℕ) (c : Cut) (k : ℕ) (p : Part) (steps : List Step) (s : Step) (h : NodeLines) (f : FoundLine) (front back : List Row) (r : Row)
     (tail : List ℕ) → IsDocumentPart t c k p →
-    IsEntryAt steps s (part_outline p) h f → TakesTail p front r back tail (behind_document k c) → IsMarkLine front r h f →
+    IsEntryAt steps s (part_outline p) h f → TakesTail p front r back tail (after_document k c) → IsMarkLine front r h f →
     ChangesIfReadable c k (retailed front r back tail p) (lead_of p)
     (changed_at steps (within (relabel_child s (with_line_comment (line_comment tail)))))

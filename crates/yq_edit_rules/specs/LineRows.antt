@@ -30,10 +30,10 @@ Begins n [] = ⊤
 Begins n (l ∷ ls) = level l ≤ n
 
 -- the first of lines is no deeper than the last of those before them (8.2)
-abbrev pub StandApart : List Line → List Line → Type 0
-StandApart [] zs = ⊤
-StandApart (l ∷ []) zs = Begins (level l) zs
-StandApart (l ∷ (k ∷ ls)) zs = StandApart (k ∷ ls) zs
+abbrev pub AreApartLines : List Line → List Line → Type 0
+AreApartLines [] zs = ⊤
+AreApartLines (l ∷ []) zs = Begins (level l) zs
+AreApartLines (l ∷ (k ∷ ls)) zs = AreApartLines (k ∷ ls) zs
 
 -- Rows are in two parts, of which the first has these lines, and the second those after them.
 pub record InRows (rs : List Row) (a z : List Line) : Type 0 where
@@ -45,23 +45,23 @@ pub record InRows (rs : List Row) (a z : List Line) : Type 0 where
 
 -- A line that is no deeper than the one before it begins a row.
 abbrev pub RowBegins : Type 0
-RowBegins = (rs : List Row) (a z : List Line) → lines_of_rows rs ≡ a ++ z → StandApart a z → InRows rs a z
+RowBegins = (rs : List Row) (a z : List Line) → lines_of_rows rs ≡ a ++ z → AreApartLines a z → InRows rs a z
 
 -- After the lines of the block collection at a path a row begins; its first line is less deep than they are.
 abbrev pub LinesApart : Type 0
 LinesApart =
     (n : ℕ) (o : Outline) (steps : List Step) (h : NodeLines) → IsEven n o → lines_at steps o ≡ Some h → HasEntries h.lines →
-    StandApart (lines_before h.place ++ flatten h.lines) (lines_after h.place) × Begins h.above (lines_after h.place)
+    AreApartLines (lines_before h.place ++ flatten h.lines) (lines_after h.place) × Begins h.above (lines_after h.place)
 
 -- the lines after those of an item or entry
-abbrev pub lines_behind : NodeLines → FoundLine → List Line
-lines_behind h f = (flatten f.after ++ lines_after f.place) ++ lines_after h.place
+abbrev pub following_lines : NodeLines → FoundLine → List Line
+following_lines h f = (flatten f.after ++ lines_after f.place) ++ lines_after h.place
 
 -- An item or entry, but for the first one, begins no deeper than the line before it, and what is after it is no deeper than its last line and its own one.
 pub record EntryApart (h : NodeLines) (f : FoundLine) : Type 0 where
-  pub begin : (lines_before f.place ≡ [] → ⊥) → StandApart (lines_before h.place ++ lines_before f.place) ((f.line ∷ flatten f.under) ++ lines_behind h f)
-  pub end : StandApart ((lines_before h.place ++ lines_before f.place) ++ (f.line ∷ flatten f.under)) (lines_behind h f)
-  pub next : Begins (level f.line) (lines_behind h f)
+  pub begin : (lines_before f.place ≡ [] → ⊥) → AreApartLines (lines_before h.place ++ lines_before f.place) ((f.line ∷ flatten f.under) ++ following_lines h f)
+  pub end : AreApartLines ((lines_before h.place ++ lines_before f.place) ++ (f.line ∷ flatten f.under)) (following_lines h f)
+  pub next : Begins (level f.line) (following_lines h f)
 
 -- After the lines of an item or entry a row begins, and so it does where they begin, but for the first one; the line after them is no deeper.
 abbrev pub EntriesApart : Type 0

@@ -27,7 +27,7 @@ pub record IsLocal (ss : List Segment) (c new : Cut) : Type 0 where
   pub old_are : items_of_cut c ≡ front ++ (gone ++ back)
   pub new_are : items_of_cut new ≡ front ++ (come ++ back)
   pub before_is : kept_front ss ≡ items_text front lead
-  pub behind_is : kept_back ss ≡ trail ++ items_text back []
+  pub following_is : kept_back ss ≡ trail ++ items_text back []
   pub begins : InFirst lead gone × InFirst lead come
   pub ends : InLast trail gone × InLast trail come
 

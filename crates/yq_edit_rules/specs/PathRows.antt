@@ -7,7 +7,7 @@ use Rattle.yq_row_table.specs.Rows.{Row, Part, Cut}
 use Rattle.yq_documents.{specs.Documents.lead_of, specs.Reading.part_outline, specs.LinesInRows.{RowLine, row_line_of}}
 use Rattle.yq_documents.specs.TreeEdits.{with_head_comment, with_line_comment}
 use Rattle.yq_edit_rules.{specs.Siblings.{IsEntryAt, NodeLines}, specs.Heads.{rerun, TakesRun}, specs.LineRows.lines_before_entry}
-use Rattle.yq_edit_rules.{specs.DocumentRows.{IsDocumentPart, behind_document}, specs.LineComments.{retailed, TakesTail}}
+use Rattle.yq_edit_rules.{specs.DocumentRows.{IsDocumentPart, after_document}, specs.LineComments.{retailed, TakesTail}}
 use Rattle.yq_edit_rules.specs.Changed.{ChangesIfReadable}
 
 -- Line n is that of an item or entry of the block collection at a path.
@@ -27,7 +27,7 @@ PathIsEntry =
 abbrev pub PathLineCommented : Type 0
 PathLineCommented =
     (t : List ℕ) (c : Cut) (k : ℕ) (p : Part) (steps : List Step) (s : Step) (x : RowLine) (front back : List Row) (tail : List ℕ) → IsDocumentPart t c k p →
-    row_line_of (steps ++ (s ∷ [])) p.rows ≡ Some x → x.line ≡ length x.row.dashes → TakesTail p front x.row back tail (behind_document k c) →
+    row_line_of (steps ++ (s ∷ [])) p.rows ≡ Some x → x.line ≡ length x.row.dashes → TakesTail p front x.row back tail (after_document k c) →
     length front ≡ x.before →
     ChangesIfReadable c k (retailed front x.row back tail p) (lead_of p)
     (changed_at steps (within (relabel_child s (with_line_comment (line_comment tail)))))
@@ -36,6 +36,6 @@ PathLineCommented =
 abbrev pub PathHeadCommented : Type 0
 PathHeadCommented =
     (t : List ℕ) (c : Cut) (k : ℕ) (p : Part) (steps : List Step) (s : Step) (x : RowLine) (front back : List Row) (run : List ℕ) → IsDocumentPart t c k p →
-    row_line_of (steps ++ (s ∷ [])) p.rows ≡ Some x → x.line ≡ 0 → TakesRun p front x.row back run (behind_document k c) → length front ≡ x.before →
+    row_line_of (steps ++ (s ∷ [])) p.rows ≡ Some x → x.line ≡ 0 → TakesRun p front x.row back run (after_document k c) → length front ≡ x.before →
     ChangesIfReadable c k (rerun front x.row back run p) (lead_of (rerun front x.row back run p))
     (changed_at steps (within (relabel_child s (with_head_comment (head_comment run)))))

@@ -5,7 +5,7 @@ use Rattle.yq_outline.specs.Comments.{line_comment}
 use Rattle.yq_row_table.{specs.Exchange.with_content, specs.Grammar.IsTail}
 use Rattle.yq_row_table.specs.Rows.{Content, Nothing, Inline, Block, Row, rows_text, Part, Cut}
 use Rattle.yq_documents.{specs.Documents.lead_of, specs.LinesInRows.{RowLine, row_line_of}, specs.TreeEdits.with_line_comment}
-use Rattle.yq_edit_rules.{specs.Appends.inserted, specs.DocumentRows.{IsDocumentPart, behind_document}, specs.Changed.ChangesIfReadable}
+use Rattle.yq_edit_rules.{specs.Appends.inserted, specs.DocumentRows.{IsDocumentPart, after_document}, specs.Changed.ChangesIfReadable}
 
 -- a content with another end of its line: a block scalar has that in its header
 abbrev pub with_line_tail : List ℕ → Content → Content
@@ -32,7 +32,7 @@ pub record TakesLineTail (p : Part) (front : List Row) (r : Row) (back : List Ro
 abbrev pub PathTailPut : Type 0
 PathTailPut =
     (t : List ℕ) (c : Cut) (k : ℕ) (p : Part) (steps : List Step) (s : Step) (x : RowLine) (front back : List Row) (tail : List ℕ) → IsDocumentPart t c k p →
-    row_line_of (steps ++ (s ∷ [])) p.rows ≡ Some x → x.line ≡ length x.row.dashes → TakesLineTail p front x.row back tail (behind_document k c) →
+    row_line_of (steps ++ (s ∷ [])) p.rows ≡ Some x → x.line ≡ length x.row.dashes → TakesLineTail p front x.row back tail (after_document k c) →
     length front ≡ x.before →
     ChangesIfReadable c k (inserted front (tailed tail x.row ∷ []) back p) (lead_of p)
     (changed_at steps (within (relabel_child s (with_line_comment (line_comment tail)))))

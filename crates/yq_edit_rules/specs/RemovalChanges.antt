@@ -19,8 +19,8 @@ pub record HasOwnRows (p : Part) (steps : List Step) (s : Step) (x : OwnRows) : 
   pub rows : HasWholeRows p h f x.front x.own x.back
 
 -- The rows that are found for an item or entry are its own.
-abbrev pub OwnRowsStand : Type 0
-OwnRowsStand =
+abbrev pub OwnRowsAreThere : Type 0
+OwnRowsAreThere =
     (t : List ℕ) (c : Cut) (k : ℕ) (p : Part) (steps : List Step) (s : Step) (x : OwnRows) → IsDocumentPart t c k p →
     own_rows (steps ++ (s ∷ [])) p.rows ≡ Some x → HasOwnRows p steps s x
 
@@ -30,10 +30,10 @@ mended None gap = gap
 mended (Some s) gap = joined (repair s.keeps s.indent s.column (text_lines gap))
 
 -- What is taken out with an item or entry is in the text between its gap and the text before it.
-abbrev pub RemovalStands : Type 0
-RemovalStands =
+abbrev pub RemovalIsThere : Type 0
+RemovalIsThere =
     (c : Cut) (k : ℕ) (steps : List Step) (x : Removal) → read_at (cut_text c) ≡ Some c → removal_place k steps c ≡ Some x →
-    cut_text c ≡ x.before ++ (x.gone ++ (x.gap ++ x.behind))
+    cut_text c ≡ x.before ++ (x.gone ++ (x.gap ++ x.after))
 
 -- With another part for document k, which keeps rows, a cut is this text, and reads without the item or entry.
 pub record IsTakenOut (c : Cut) (k : ℕ) (steps : List Step) (t : List ℕ) : Type 0 where
@@ -57,5 +57,5 @@ pub record MayTakeOut (c : Cut) (k : ℕ) (steps : List Step) : Type 0 where
   pub spared : AreSpared (names_of node) [] (names_of (root_of part))
 
 -- What is taken out with the first item or entry of a compact collection is in the text.
-abbrev pub FirstStands : Type 0
-FirstStands = (c : Cut) (k : ℕ) (steps : List Step) (x : TextPiece) → first_removal k steps c ≡ Some x → cut_text c ≡ x.before ++ (x.text ++ x.behind)
+abbrev pub FirstIsThere : Type 0
+FirstIsThere = (c : Cut) (k : ℕ) (steps : List Step) (x : TextPiece) → first_removal k steps c ≡ Some x → cut_text c ≡ x.before ++ (x.text ++ x.after)

@@ -31,7 +31,7 @@ gap_mended (Some s) gap = lines_mended s (text_lines gap)
 
 -- the lines of an item or entry go, and the gap after them is mended (own)
 abbrev pub rows_removed : Removal → List Segment
-rows_removed x = keep x.before ∷ (put x.gone [] ∷ (gap_mended x.seam x.gap ++ (keep x.behind ∷ [])))
+rows_removed x = keep x.before ∷ (put x.gone [] ∷ (gap_mended x.seam x.gap ++ (keep x.after ∷ [])))
 
 -- the first item or entry of a compact collection goes, with what goes with it (8.2.1; own)
 abbrev pub first_removed : TextPiece → List Segment

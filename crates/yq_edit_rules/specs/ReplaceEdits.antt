@@ -7,10 +7,10 @@ use Rattle.yq_core.{specs.Writable.{can_write, is_string}, specs.Written.double,
 use Rattle.yq_core.specs.declared.style.Style.TheVariants.{Literal}
 use Rattle.yq_row_table.specs.Rows.{Cut}
 use Rattle.yq_places.specs.NodesAt.{node_in, scalar_in}
-use Rattle.yq_places.specs.Standings.{Held, LinesIn, Standing, alone, beside, under, compact, block, root, no_rows, standing_at}
+use Rattle.yq_places.specs.Placements.{Held, LinesIn, Placement, alone, beside, under, compact, block, root, no_rows, placement_at}
 use Rattle.yq_documents.specs.Pieces.{TextPiece}
 use Rattle.yq_edit_rules.{specs.declared.layout.Layout.Layout, specs.BlockText.block_value}
-use Rattle.yq_edit_rules.{specs.ClosedTexts.{is_closed_text, lines_put_behind}, specs.Layouts.layout_of}
+use Rattle.yq_edit_rules.{specs.ClosedTexts.{is_closed_text, closed_lines_put}, specs.Layouts.layout_of}
 use Rattle.yq_edit_rules.specs.PiecePuts.{lines_replaced, piece_replaced}
 use Rattle.yq_edit_rules.specs.WrittenValues.{Written, inline, compact_text, lines, value_text, written_at, written_under}
 use Rattle.yq_text.specs.Script.{Segment, keep, put}
@@ -27,15 +27,15 @@ abbrev pub held_put : List ℕ → Held → Written → List Segment
 -- inline: in the place of the head, or after a space where none is; lines below go, up to the last break
 held_put br h (inline t) =
     keep h.before ∷ (keep h.space ∷ (put h.head (spaced_text h.head t) ∷ (keep h.white ∷ (keep h.comment ∷
-    (put h.break [] ∷ (put h.lines [] ∷ (keep h.last ∷ (keep h.behind ∷ []))))))))
+    (put h.break [] ∷ (put h.lines [] ∷ (keep h.last ∷ (keep h.after ∷ []))))))))
 -- compact: a space and the text in the place of the white space and the head; lines below go, up to the last break
 held_put br h (compact_text t) =
     keep h.before ∷ (put (h.space ++ h.head) (32 ∷ t) ∷ (keep h.white ∷ (keep h.comment ∷
-    (put h.break [] ∷ (put h.lines [] ∷ (keep h.last ∷ (keep h.behind ∷ [])))))))
+    (put h.break [] ∷ (put h.lines [] ∷ (keep h.last ∷ (keep h.after ∷ [])))))))
 -- block lines: the white space and the head go; a break and the lines come at the end of the line, in the place of lines below, up to the last break
 held_put br h (lines t) =
     keep h.before ∷ (put (h.space ++ h.head) [] ∷ (keep h.white ∷ (keep h.comment ∷
-    (put h.break [] ∷ (put h.lines (br ++ t) ∷ (keep h.last ∷ (keep h.behind ∷ [])))))))
+    (put h.break [] ∷ (put h.lines (br ++ t) ∷ (keep h.last ∷ (keep h.after ∷ [])))))))
 
 -- ---- a block scalar
 
@@ -50,7 +50,7 @@ raw_last h = if is_empty h.break then [] else h.last
 -- the lines of a block scalar are replaced by others, each with its break; what comes after the mark is replaced by a header, or goes (8.1)
 abbrev pub raw_put : Held → Segment → Segment → List ℕ → List Segment
 raw_put h space head raw = keep h.before ∷ (space ∷ (head ∷ (keep h.white ∷ (keep h.comment ∷
-    (keep (line_break h) ∷ (put h.lines [] ∷ (put (raw_last h) raw ∷ (keep h.behind ∷ []))))))))
+    (keep (line_break h) ∷ (put h.lines [] ∷ (put (raw_last h) raw ∷ (keep h.after ∷ []))))))))
 
 -- a text as a literal block scalar in the place of another block scalar: header and lines (8.1.2)
 abbrev pub literal_put : List ℕ → Held → ℕ → List ℕ → List Segment
@@ -91,12 +91,12 @@ root_put l v column w = lines_replaced w (block_value l column v)
 
 -- the same on lines of its own after the gap of a document without rows (9.1)
 abbrev pub no_rows_put : Layout → Node → TextPiece → List Segment
-no_rows_put l v w = piece_replaced w (lines_put_behind (is_closed_text w.before) (break_text l.br) (block_value l 0 v))
+no_rows_put l v w = piece_replaced w (closed_lines_put (is_closed_text w.before) (break_text l.br) (block_value l 0 v))
 
 -- ---- the table
 
 -- a value put where something is outside flow collections
-abbrev pub value_put : (has_text : Bool) → Layout → Node → Standing → List Segment
+abbrev pub value_put : (has_text : Bool) → Layout → Node → Placement → List Segment
 value_put has_text l v (alone w) = lone_put w v
 value_put has_text l v (beside h) = held_put (break_text l.br) h (written_at l h.mark h.head v)
 value_put has_text l v (under h column) = held_put (break_text l.br) h (written_under l h.mark v)
@@ -116,4 +116,4 @@ has_text n = holds_text (n >>= scalar_in)
 
 -- a value put where steps lead in document n, if something is there outside flow collections
 abbrev pub value_put_at : ℕ → List Step → Node → Cut → Option (List Segment)
-value_put_at n steps v c = option_map (value_put (has_text (node_in n steps c)) (layout_of n c) v) (standing_at n steps c)
+value_put_at n steps v c = option_map (value_put (has_text (node_in n steps c)) (layout_of n c) v) (placement_at n steps c)

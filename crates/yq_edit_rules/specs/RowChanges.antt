@@ -5,7 +5,7 @@ use Rattle.yq_core.{specs.Paths.Step, specs.Text.is_empty, specs.Tree.Node, spec
 use Rattle.yq_core.{specs.BlockWritten.break_text, specs.declared.block_types.Break.Break}
 use Rattle.yq_row_table.{specs.Rows.{Cut, Part, Row, cut_text}, specs.Seams.is_block, specs.View.slices}
 use Rattle.yq_documents.{specs.Documents.document_parts, specs.Reading.{documents, read_at}, specs.Pieces.TextPiece}
-use Rattle.yq_places.{specs.Standings.{Held, RowsOfEntry, held, rows_of_entry}, specs.NodesAt.node_in, specs.FirstBreak.first_break}
+use Rattle.yq_places.{specs.Placements.{Held, RowsOfEntry, held, rows_of_entry}, specs.NodesAt.node_in, specs.FirstBreak.first_break}
 use Rattle.yq_edit_rules.{specs.Appends.inserted, specs.Changed.put_document, specs.Rooms.row_shape, specs.BlockReading.is_filled}
 use Rattle.yq_edit_rules.specs.CommentEdits.{above_rows, comment_put, comment_written, head_comment_segments}
 use Rattle.yq_edit_rules.{specs.PiecePuts.piece_replaced, specs.Edits.op_edits, specs.Operands.HasOperand, specs.ReplaceEdits.held_put}
@@ -26,9 +26,9 @@ pub record ChangesRow (n : ℕ) (c : Cut) (e : RowsOfEntry) (ss : List Segment) 
   pub read : read_at (new_text ss) ≡ Some (put_document n (inserted front (new ∷ []) back part) c)
 
 -- Segments put one text in the place of another, between a text in front and one after (own).
-pub record PutsOne (ss : List Segment) (front old new behind : List ℕ) : Type 0 where
-  pub old_is : old_text ss ≡ front ++ (old ++ behind)
-  pub new_is : new_text ss ≡ front ++ (new ++ behind)
+pub record PutsOne (ss : List Segment) (front old new after : List ℕ) : Type 0 where
+  pub old_is : old_text ss ≡ front ++ (old ++ after)
+  pub new_is : new_text ss ≡ front ++ (new ++ after)
   pub changes_are : changes ss ≡ splice_at (length front) old new
 
 -- An item or entry holds an inline node on the line of its key or dash, which is the last one of its row (7, 8.2).
@@ -90,7 +90,7 @@ HeadCommentEdits =
 abbrev pub InlinePutsOne : Type 0
 InlinePutsOne =
     (v : Node) (h : Held) → is_empty h.head ≡ false → h.break ≡ [] → h.lines ≡ [] →
-    PutsOne (inline_put v h) (h.before ++ h.space) h.head (value_text InBlock h.head v) (h.white ++ (h.comment ++ (h.last ++ h.behind)))
+    PutsOne (inline_put v h) (h.before ++ h.space) h.head (value_text InBlock h.head v) (h.white ++ (h.comment ++ (h.last ++ h.after)))
 
 -- whether a line comment takes the white space before it away with it
 abbrev pub takes_white : List ℕ → Held → Bool
@@ -108,11 +108,11 @@ comment_old text h = (if takes_white text h then h.white else []) ++ h.comment
 abbrev pub CommentPutsOne : Type 0
 CommentPutsOne =
     (text : List ℕ) (h : Held) →
-    PutsOne (comment_put text h) (comment_front text h) (comment_old text h) (comment_written text h.comment) (h.break ++ (h.lines ++ (h.last ++ h.behind)))
+    PutsOne (comment_put text h) (comment_front text h) (comment_old text h) (comment_written text h.comment) (h.break ++ (h.lines ++ (h.last ++ h.after)))
 
 -- A text in the place of a piece is one text in the place of another one, or of none.
 abbrev pub PiecePutsOne : Type 0
-PiecePutsOne = (w : TextPiece) (t : List ℕ) → PutsOne (piece_replaced w t) w.before w.text t w.behind
+PiecePutsOne = (w : TextPiece) (t : List ℕ) → PutsOne (piece_replaced w t) w.before w.text t w.after
 
 -- These laws together (own).
 pub record RowEdits : Type 0 where

@@ -4,8 +4,8 @@ use Rattle.yq_core.{specs.Paths.Step, specs.Tree.Node}
 use Rattle.yq_outline.{specs.Outline.anchored, specs.Lines.{content_anchor, head_of}}
 use Rattle.yq_row_table.specs.Rows.{Row, Part, Cut}
 use Rattle.yq_documents.{specs.Documents.document_parts, specs.LinesInRows.{RowLine, row_line_of}}
-use Rattle.yq_places.{specs.NodesAt.node_in, specs.Standings.{RowsOfEntry, rows_of_entry}}
-use Rattle.yq_edit_rules.{specs.Appends.inserted, specs.Changed.put_document, specs.Rooms.row_shape, specs.StandingLaws.StandsThere}
+use Rattle.yq_places.{specs.NodesAt.node_in, specs.Placements.{RowsOfEntry, rows_of_entry}}
+use Rattle.yq_edit_rules.{specs.Appends.inserted, specs.Changed.put_document, specs.Rooms.row_shape, specs.PlacementLaws.HasItsRows}
 
 -- A part is another one but for the first so many of its rows, which keep their shapes (own).
 pub record StaysFrom (n : ℕ) (p q : Part) : Type 0 where
@@ -20,11 +20,11 @@ RowLinesStay =
     row_line_of steps q.rows ≡ Some s
 
 -- A row of a document comes after so many rows of document k (own).
-abbrev pub IsBehind : (k n m i : ℕ) → Type 0
-IsBehind k n m i = (k < m) ⊎ ((k ≡ m) × (n ≤ i))
+abbrev pub IsAfter : (k n m i : ℕ) → Type 0
+IsAfter k n m i = (k < m) ⊎ ((k ≡ m) × (n ≤ i))
 
 -- In another cut too, steps lead to the rows of an item or entry, of which those in front may be others, and the text before its document (own).
-pub record StandsStill (e : RowsOfEntry) (m : ℕ) (steps : List Step) (c : Cut) : Type 0 where
+pub record StaysInRows (e : RowsOfEntry) (m : ℕ) (steps : List Step) (c : Cut) : Type 0 where
   pub start : List ℕ
   pub front : List Row
   pub found : rows_of_entry m steps c ≡ Some (record e { start = start; front = front })
@@ -34,7 +34,7 @@ pub record StandsStill (e : RowsOfEntry) (m : ℕ) (steps : List Step) (c : Cut)
 abbrev pub EntriesStay : Type 0
 EntriesStay =
     (c : Cut) (k n : ℕ) (p q : Part) (m : ℕ) (steps : List Step) (e : RowsOfEntry) → slice_get (document_parts c) k ≡ Some p → StaysFrom n p q →
-    rows_of_entry m steps c ≡ Some e → IsBehind k n m (length e.front) → StandsStill e m steps (put_document k q c)
+    rows_of_entry m steps c ≡ Some e → IsAfter k n m (length e.front) → StaysInRows e m steps (put_document k q c)
 
 -- With one row exchanged for another one of its shape, a part is that one but for the rows up to it (own).
 abbrev pub ExchangesStay : Type 0
@@ -45,11 +45,11 @@ ExchangesStay =
 -- The node of an item or entry is what the row of its key or dash spells after that, if anything is written there (8.2).
 abbrev pub HeadNodes : Type 0
 HeadNodes =
-    (n : ℕ) (s : Step) (ss : List Step) (c : Cut) (e : RowsOfEntry) (h : Node) → StandsThere n s ss c e → e.line ≡ length e.row.dashes →
+    (n : ℕ) (s : Step) (ss : List Step) (c : Cut) (e : RowsOfEntry) (h : Node) → HasItsRows n s ss c e → e.line ≡ length e.row.dashes →
     head_of e.row.content ≡ Some h → node_in n (s ∷ ss) c ≡ Some (anchored (content_anchor e.row.content) h)
 
 -- These laws together (own).
-pub record RowsBehindStay : Type 0 where
+pub record FollowingRowsStay : Type 0 where
   pub lines : RowLinesStay
   pub entries : EntriesStay
   pub exchanges : ExchangesStay

@@ -3,7 +3,7 @@ use Rattle.std.specs.Prelude.{◌≡◌, ℕ, ◌<◌, List, [], ◌∷◌, ◌+
 use Rattle.yq_core.{specs.Paths.{Step, append_child, changed_at, relabel_child, remove_child, within}, specs.Tree.{Label, Node, Children}}
 use Rattle.yq_outline.{specs.Group.level_or, specs.Laws.with_lines}
 use Rattle.yq_outline.specs.Outline.{LineMark, Bare, Key, Dash, Line, level, Outline, end, row, flatten, IsOpen, IsEven, anchored, label}
-use Rattle.yq_outline.specs.Outline.{children, value, Stands}
+use Rattle.yq_outline.specs.Outline.{children, value, IsLocatedAt}
 use Rattle.yq_outline.specs.Places.{Context, here, below, plug, lines_before, lines_after, compose, FoundLine, find_row, find}
 use Rattle.yq_outline.specs.Places.{content_under}
 
@@ -50,8 +50,8 @@ abbrev pub put_lines : NodeLines → List Line → List Line
 put_lines h ls = lines_before h.place ++ (ls ++ lines_after h.place)
 
 -- lines mean a node at some level
-abbrev pub StandsSomewhere : List Line → Node → Type 0
-StandsSomewhere ls node = (k : ℕ) × Stands ls node k
+abbrev pub AreSomewhere : List Line → Node → Type 0
+AreSomewhere ls node = (k : ℕ) × IsLocatedAt ls node k
 
 -- The block collection at a path has these lines (8.2).
 pub record IsCollectionAt (steps : List Step) (o : Outline) (h : NodeLines) : Type 0 where
@@ -89,7 +89,7 @@ pub record IsRelabelled (g : Label → Label) (old new : Line) : Type 0 where
 abbrev pub LinesReplaced : Type 0
 LinesReplaced =
     (n m : ℕ) (o u : Outline) (steps : List Step) (h : NodeLines) (g : Node → Node) → IsEven n o → lines_at steps o ≡ Some h → LinesFit h g m u →
-    (flatten o ≡ put_lines h (flatten h.lines)) × StandsSomewhere (put_lines h (flatten u)) (changed_at steps g (value o))
+    (flatten o ≡ put_lines h (flatten h.lines)) × AreSomewhere (put_lines h (flatten u)) (changed_at steps g (value o))
 
 -- Where the lines of the collection at a path are replaced by others at their level, the lines mean the tree with its items or entries exchanged.
 abbrev pub CollectionReplaced : Type 0
@@ -97,14 +97,14 @@ CollectionReplaced =
     (n : ℕ) (o u : Outline) (steps : List Step) (h : NodeLines) (g : Children → Children) → IsEven n o → IsCollectionAt steps o h → HasEntries u →
     IsEven (level_or 0 h.lines) u →
     children u ≡ g (children h.lines) → (flatten o ≡ put_lines h (flatten h.lines)) ×
-    StandsSomewhere (put_lines h (flatten u)) (changed_at steps (within g) (value o))
+    AreSomewhere (put_lines h (flatten u)) (changed_at steps (within g) (value o))
 
 -- With the lines of one item or entry more at the end of the collection at a path, lines mean the tree with that one.
 abbrev pub Appended : Type 0
 Appended =
     (n m : ℕ) (o v : Outline) (l : Line) (steps : List Step) (h : NodeLines) → IsEven n o → IsCollectionAt steps o h → EntryFits h m l v →
     (flatten o ≡ put_lines h (flatten h.lines)) ×
-    StandsSomewhere (put_lines h (flatten h.lines ++ (l ∷ flatten v))) (changed_at steps (within (append_child (label l) (content_under l v))) (value o))
+    AreSomewhere (put_lines h (flatten h.lines ++ (l ∷ flatten v))) (changed_at steps (within (append_child (label l) (content_under l v))) (value o))
 
 -- Without the lines of one of several items or entries of the collection at a path, lines mean the tree without that one.
 abbrev pub Removed : Type 0
@@ -112,7 +112,7 @@ Removed =
     (n : ℕ) (o : Outline) (steps : List Step) (h : NodeLines) (s : Step) (f : FoundLine) → IsEven n o → IsEntryAt steps s o h f →
     HasEntries (plug f.place f.after) →
     (flatten o ≡ put_lines h (with_lines f (f.line ∷ flatten f.under))) ×
-    StandsSomewhere (put_lines h (with_lines f [])) (changed_at steps (within (remove_child s)) (value o))
+    AreSomewhere (put_lines h (with_lines f [])) (changed_at steps (within (remove_child s)) (value o))
 
 -- With another head comment or line comment of an item or entry of the collection at a path, lines mean the tree with that one.
 abbrev pub Relabelled : Type 0
@@ -120,4 +120,4 @@ Relabelled =
     (n : ℕ) (o : Outline) (steps : List Step) (h : NodeLines) (s : Step) (f : FoundLine) (g : Label → Label) (l : Line) → IsEven n o →
     IsEntryAt steps s o h f → IsRelabelled g f.line l →
     (flatten o ≡ put_lines h (with_lines f (f.line ∷ flatten f.under))) ×
-    StandsSomewhere (put_lines h (with_lines f (l ∷ flatten f.under))) (changed_at steps (within (relabel_child s g)) (value o))
+    AreSomewhere (put_lines h (with_lines f (l ∷ flatten f.under))) (changed_at steps (within (relabel_child s g)) (value o))

@@ -3,7 +3,7 @@ use Rattle.std.{specs.Prelude.{ℕ, ◌∷◌, List, Vec, map, String}, specs.de
 use Rattle.yq_core.{specs.Values.{field_of, value_node}, specs.declared.value.Value.Value}
 use Rattle.yq_flow_edits.specs.Valued.{IsValueTree}
 use Rattle.yq_outline.specs.Bodies.{borrowed}
-use Rattle.yq_places.{specs.StandingViews.held_mark_view, specs.declared.places.held.EntryMark.EntryMark}
+use Rattle.yq_places.{specs.PlacementViews.held_mark_view, specs.declared.places.held.EntryMark.EntryMark}
 use Rattle.yq_edit_rules.{specs.declared.entry.Child.Child, specs.declared.layout.Layout.Layout, specs.Alone.singleton}
 use Rattle.yq_edit_rules.{specs.BlockReading.{block_item, block_list, block_map, block_pair}, specs.BlockRows.item_column}
 use Rattle.yq_edit_rules.{specs.BlockText.block_value, specs.BlockValues.IsCollection, specs.WrittenValues.{column_under, lines_in}}

@@ -2,7 +2,7 @@
 use Rattle.std.specs.Prelude.{ℕ, ◌+◌, ◌||◌, not, List, [], ◌++◌, replicate, Bool, if◌then◌else◌}
 use Rattle.yq_core.{specs.Tree.{Node, alias, scalar, list, map}, specs.Written.written_scalar, specs.declared.style.Place.Place}
 use Rattle.yq_core.{specs.declared.style.Place.TheVariants.Block as InBlock, specs.Scalars.scalar_style, specs.NodesWritten.flow_text}
-use Rattle.yq_places.specs.Standings.{MarkPieces}
+use Rattle.yq_places.specs.Placements.{MarkPieces}
 use Rattle.yq_edit_rules.{specs.declared.layout.Layout.Layout, specs.BlockReading.is_filled, specs.BlockRows.{indent_step, item_column}}
 use Rattle.yq_edit_rules.{specs.BlockText.block_value, specs.Style.style_in}
 

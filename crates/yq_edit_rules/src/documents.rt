@@ -1,5 +1,5 @@
 //! Laws on lines exchanged, for the crates above.
-ghost use Rattle.yq_edit_rules.{specs.After.EndIsChange, specs.Changed.{DocumentChanged, DocumentPut, LeadIsFirst, PartStands}};
+ghost use Rattle.yq_edit_rules.{specs.After.EndIsChange, specs.Changed.{DocumentChanged, DocumentPut, LeadIsFirst, PartIsThere}};
 ghost use Rattle.yq_edit_rules.specs.Conditions.{AnchorsStay, BoundChanged, BoundStays, DepthChanged, LinesAmong, NamesAround};
 ghost use Rattle.yq_edit_rules.specs.Conditions.{UniqueChanged};
 ghost use Rattle.yq_edit_rules.specs.Edited.{LinesAreThere, LeadIsAbove, LineExchanged, LineRelabelled, LinesAppended, LinesExchanged};
@@ -34,10 +34,10 @@ pub fn conditions_changed()
 {}
 
 /// A text with another part for one document reads as the same documents but for that one.
-#[tactic(auto, using(crate::proofs::ChangedLaws::document_put, crate::proofs::ChangedLaws::part_stands, crate::proofs::ChangedLaws::lead_is_first))]
+#[tactic(auto, using(crate::proofs::ChangedLaws::document_put, crate::proofs::ChangedLaws::part_is_there, crate::proofs::ChangedLaws::lead_is_first))]
 pub fn document_changed()
     ensures put { DocumentPut }
-    ensures part { PartStands }
+    ensures part { PartIsThere }
     ensures read { DocumentChanged }
     ensures lead { LeadIsFirst }
 {}

@@ -19,8 +19,8 @@ pub fn block_written()
 /// A collection may be written on the lines after a key or dash, or on the line of a dash.
 pub fn block_placed()
     ensures under { places.UnderWritten }
-    ensures behind { places.BehindWritten }
-    ensures lines { places.BehindLines }
+    ensures after { places.AfterWritten }
+    ensures lines { places.AfterLines }
     ensures replaced { places.RowsReplaced }
 {}
 

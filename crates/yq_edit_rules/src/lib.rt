@@ -8,10 +8,10 @@ mod laws;
 mod layout;
 pub mod operations;
 mod pieces;
+pub mod placement;
 mod printing;
 pub mod removals;
 pub mod rooms;
-pub mod standing;
 mod style;
 mod write;
 mod written_value;
@@ -23,5 +23,5 @@ pub use printing::print;
 pub use style::is_same;
 pub use write::{indent_step, is_filled, push_block};
 pub use written_value::{
-    behind_space, break_and_lines, compact_text, lines_and_break, takes_compact, value_text,
+    after_a_space, break_and_lines, compact_text, lines_and_break, takes_compact, value_text,
 };

@@ -1,11 +1,11 @@
 //! Whole operations, by the rows that they exchange.
-ghost use Rattle.yq_edit_rules.{specs.Appends.BlockAppended, specs.Columns.{BlockIsDeeper, ClosedStandsLess, NextAllowed, NextStays}};
+ghost use Rattle.yq_edit_rules.{specs.Appends.BlockAppended, specs.Columns.{BlockIsDeeper, ClosedIsLessDeep, NextAllowed, NextStays}};
 ghost use Rattle.yq_edit_rules.{specs.Ends.EndAppended, specs.Heads.HeadCommented};
 ghost use Rattle.yq_edit_rules.specs.Contents.{LowerContentReplaced, RootContentReplaced};
 ghost use Rattle.yq_edit_rules.specs.DocumentRows.{DocumentKnown, DocumentSpliced, PartNumbered, RowsPut};
 ghost use Rattle.yq_edit_rules.{specs.LineComments.LineCommented, specs.PathRows.{PathHeadCommented, PathIsEntry, PathLineCommented}};
 ghost use Rattle.yq_edit_rules.{specs.RowComments.{BlockCommented, ContentCommented, RowReplaces}, specs.EntryRows.EntryRows};
-ghost use Rattle.yq_edit_rules.specs.FlowRows.{FlowEdited, FlowFound, FlowStands, RowTexts};
+ghost use Rattle.yq_edit_rules.specs.FlowRows.{FlowEdited, FlowFound, FlowIsThere, RowTexts};
 ghost use Rattle.yq_edit_rules.specs.Replaces.{DocumentReplaced, DocumentRooted, FirstRowDropped, FirstRowMoved, NodeRowsReplaced};
 ghost use Rattle.yq_edit_rules.specs.Replaces.{RootRowsReplaced};
 ghost use Rattle.yq_edit_rules.specs.LineRows.{EntriesApart, EvenClosed, LinesApart, RowBegins, RowLineSplits};
@@ -41,7 +41,7 @@ pub fn rows_by_levels()
     ensures next { NextAllowed }
     ensures stays { NextStays }
     ensures block { BlockIsDeeper }
-    ensures less { ClosedStandsLess }
+    ensures less { ClosedIsLessDeep }
 {}
 
 /// One item or entry more.
@@ -98,10 +98,10 @@ pub fn content_replaced()
 {}
 
 /// A flow collection at a path, and its items or entries changed.
-#[tactic(auto, using(crate::proofs::FlowRowLaws::flow_stands, crate::proofs::FlowPathLaws::flow_found, crate::proofs::FlowPathLaws::row_texts))]
+#[tactic(auto, using(crate::proofs::FlowRowLaws::flow_is_there, crate::proofs::FlowPathLaws::flow_found, crate::proofs::FlowPathLaws::row_texts))]
 pub fn flow_changed()
     ensures found { FlowFound }
     ensures texts { RowTexts }
-    ensures stands { FlowStands }
+    ensures is_located { FlowIsThere }
     ensures edited { FlowEdited }
 {}

@@ -1,7 +1,7 @@
 //! How a value is written at a place.
 ghost use Rattle.std.specs.Prelude.{◌≡◌, ◌∷◌, ◌++◌, IfOk, string_bytes};
 ghost use Rattle.yq_core.{specs.Values.value_node, specs.BlockWritten.break_text, specs.Strings.{AddsText, GivesText}};
-ghost use Rattle.yq_places.specs.StandingViews.{held_mark_view};
+ghost use Rattle.yq_places.specs.PlacementViews.{held_mark_view};
 ghost use Rattle.yq_edit_rules.specs.ValuesWritten.{value_column, lines_at_mark, compact_block};
 ghost use Rattle.yq_edit_rules.specs.WrittenValues as spec;
 
@@ -38,7 +38,7 @@ pub fn value_text(
 }
 
 /// A text after a space.
-pub fn behind_space(alloc: Global, text: &str) -> Result<String, AllocError>
+pub fn after_a_space(alloc: Global, text: &str) -> Result<String, AllocError>
     ensures { IfOk result (λ s. string_bytes s ≡ 32 ∷ text.now) }
 {
     let mut out = String::new(alloc);

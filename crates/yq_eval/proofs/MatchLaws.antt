@@ -13,7 +13,7 @@ use Rattle.yq_semantics.specs.Places.{FoundPlace, root_place, child_place, for_e
 use Rattle.yq_semantics.{specs.Places.{step_from, step_on, chained}, specs.Program.{PathStep, key, index, each, Stage, path, select}}
 use Rattle.yq_semantics.{specs.declared.refusal.Refusal.Refusal, specs.declared.refusal.Refusal.TheVariants.{NotAMap, NotASequence}}
 use Rattle.yq_semantics.proofs.JudgementLaws.{then_gives, gives_same}
-use Rattle.yq_eval.{specs.PlaceView.put_behind, specs.TreeScalars.{HasScalars, EachHasScalars, HaveScalars}}
+use Rattle.yq_eval.{specs.PlaceView.put_after, specs.TreeScalars.{HasScalars, EachHasScalars, HaveScalars}}
 use Rattle.yq_eval.proofs.EachLaws.{fails_then, put_both}
 use Rattle.yq_core.specs.declared.kind.Kind.TheVariants as kinds
 use Rattle.yq_core.specs.Paths as paths
@@ -144,23 +144,23 @@ document_there (d ∷ ds) zero h = (d, refl, refl)
 document_there (d ∷ ds) (suc i) h = document_there ds i (omega arith)
 
 -- what is found in the documents from one on, that one being known
-behind_document : (pipe : List Stage) (docs : List Document) (i : ℕ) (d : Document) (before : List (ℕ × Node)) → drop i docs ≡ d ∷ drop (suc i) docs →
-    put_behind before (matches_from i pipe (drop i docs)) ≡ and_then (λ ys. put_behind ys (matches_from (i + 1) pipe (drop (i + 1) docs))) (put_behind before (matches_in i pipe d.root))
-behind_document pipe docs i d before at =
-    ap (λ ds. put_behind before (matches_from i pipe ds)) at
+after_document : (pipe : List Stage) (docs : List Document) (i : ℕ) (d : Document) (before : List (ℕ × Node)) → drop i docs ≡ d ∷ drop (suc i) docs →
+    put_after before (matches_from i pipe (drop i docs)) ≡ and_then (λ ys. put_after ys (matches_from (i + 1) pipe (drop (i + 1) docs))) (put_after before (matches_in i pipe d.root))
+after_document pipe docs i d before at =
+    ap (λ ds. put_after before (matches_from i pipe ds)) at
     ∙ (put_both before (matches_in i pipe d.root) (matches_from (suc i) pipe (drop (suc i) docs))
-    ∙ ap (λ (n : ℕ). and_then (λ ys. put_behind ys (matches_from n pipe (drop n docs))) (put_behind before (matches_in i pipe d.root))) (sym (add-one i)))
+    ∙ ap (λ (n : ℕ). and_then (λ ys. put_after ys (matches_from n pipe (drop n docs))) (put_after before (matches_in i pipe d.root))) (sym (add-one i)))
 
 pub document_more : (pipe : List Stage) (docs : List Document) (i : ℕ) (d : Document) (before after : List (ℕ × Node)) (all : Judgement (List (ℕ × Node))) → drop i docs ≡ d ∷ drop (suc i) docs →
-    put_behind before (matches_in i pipe d.root) ≡ gives after → put_behind before (matches_from i pipe (drop i docs)) ≡ all → put_behind after (matches_from (i + 1) pipe (drop (i + 1) docs)) ≡ all
-document_more pipe docs i d before after all at h so_far = search (rules, behind_document)
+    put_after before (matches_in i pipe d.root) ≡ gives after → put_after before (matches_from i pipe (drop i docs)) ≡ all → put_after after (matches_from (i + 1) pipe (drop (i + 1) docs)) ≡ all
+document_more pipe docs i d before after all at h so_far = search (rules, after_document)
 
 pub document_fails : (pipe : List Stage) (docs : List Document) (i : ℕ) (d : Document) (before : List (ℕ × Node)) (all : Judgement (List (ℕ × Node))) (e : ExprError) → drop i docs ≡ d ∷ drop (suc i) docs →
-    MatchFails e (put_behind before (matches_in i pipe d.root)) → put_behind before (matches_from i pipe (drop i docs)) ≡ all → MatchFails e all
+    MatchFails e (put_after before (matches_in i pipe d.root)) → put_after before (matches_from i pipe (drop i docs)) ≡ all → MatchFails e all
 document_fails pipe docs i d before all e at h so_far =
-    subst (MatchFails e) (sym (behind_document pipe docs i d before at) ∙ so_far)
-    (fails_then (λ ys. put_behind ys (matches_from (i + 1) pipe (drop (i + 1) docs))) (put_behind before (matches_in i pipe d.root)) e h)
+    subst (MatchFails e) (sym (after_document pipe docs i d before at) ∙ so_far)
+    (fails_then (λ ys. put_after ys (matches_from (i + 1) pipe (drop (i + 1) docs))) (put_after before (matches_in i pipe d.root)) e h)
 
 -- after the last document nothing more is found
-pub documents_done : (pipe : List Stage) (docs : List Document) (i : ℕ) (before : List (ℕ × Node)) (all : Judgement (List (ℕ × Node))) → length docs ≤ i → put_behind before (matches_from i pipe (drop i docs)) ≡ all → all ≡ gives before
+pub documents_done : (pipe : List Stage) (docs : List Document) (i : ℕ) (before : List (ℕ × Node)) (all : Judgement (List (ℕ × Node))) → length docs ≤ i → put_after before (matches_from i pipe (drop i docs)) ≡ all → all ≡ gives before
 documents_done pipe docs i before all h so_far = search (rules, drop_all, append-nil)

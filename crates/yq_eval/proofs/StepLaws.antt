@@ -4,7 +4,7 @@ use Rattle.std.{proofs.Common.{◌∙◌, rules, arith, append-nil}, specs.Prelu
 use Rattle.yq_core.{specs.Paths.{Nth, child_at}, specs.Tree.{Node, Children, children_of}}
 use Rattle.yq_nodes.{specs.Nodes.{kind_of, node_of}, specs.declared.nodes.node.NodeKind.NodeKind}
 use Rattle.yq_eval.{specs.declared.matching.place.Missing.{Missing, Further, Nothing, the_lemmas}, specs.FoundView.child_places}
-use Rattle.yq_eval.{specs.PlaceView.{missing_of, path_of, place_of, places_of, put_behind}, proofs.PlaceLaws.missed_on}
+use Rattle.yq_eval.{specs.PlaceView.{missing_of, path_of, place_of, places_of, put_after}, proofs.PlaceLaws.missed_on}
 use Rattle.yq_semantics.{specs.Judgement.{and_then, gives}, specs.Matching.{item_at_index, item_number}}
 use Rattle.yq_semantics.specs.Places.{FoundPlace, all_steps, child_place, for_each, miss, step_from, step_on, stepped}
 use Rattle.yq_semantics.{specs.Program.{PathStep, each}, specs.View.program_step}
@@ -23,9 +23,9 @@ pub none_missing : (m : Missing) → m ≡ Nothing → missing_of m ≡ []
 none_missing m is = ap missing_of is ∙ search (rules, the_lemmas)
 
 -- after a missing step
-pub step_missed : (before : List FoundPlace) (s last : PathStep) (p : FoundPlace) (front : List PathStep) → p.missing ≡ front ++ last ∷ [] → put_behind before (step_on s p)
+pub step_missed : (before : List FoundPlace) (s last : PathStep) (p : FoundPlace) (front : List PathStep) → p.missing ≡ front ++ last ∷ [] → put_after before (step_on s p)
     ≡ gives (before ++ miss s p)
-step_missed before s last p front is = ap (λ ms. put_behind before (step_from ms s p)) is ∙ ap (put_behind before) (missed_on front last s p)
+step_missed before s last p front is = ap (λ ms. put_after before (step_from ms s p)) is ∙ ap (put_after before) (missed_on front last s p)
 
 -- ---- from a node, by its kind
 

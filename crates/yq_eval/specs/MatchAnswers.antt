@@ -6,7 +6,7 @@ use Rattle.yq_nodes.{specs.Nodes.node_of, specs.declared.nodes.node.Node.Node}
 use Rattle.yq_semantics.{specs.Copies.{match_at, matches, matches_in}, specs.Judgement.{Judgement, Judges, ExprError}}
 use Rattle.yq_semantics.{specs.Places.for_each, specs.Program.{Stage as PipeStage, read}, specs.View.{program_of, stage_of}}
 use Rattle.yq_semantics.{specs.declared.program.Stage.Stage, specs.declared.program.Syntax.Syntax}
-use Rattle.yq_eval.{specs.MatchView.matches_of, specs.PlaceView.{places_of, put_behind}, specs.declared.matched.Match.Match}
+use Rattle.yq_eval.{specs.MatchView.matches_of, specs.PlaceView.{places_of, put_after}, specs.declared.matched.Match.Match}
 use Rattle.yq_eval.specs.declared.matching.place.FoundPlace.{FoundPlace}
 
 -- an answer's matches are those that come of something, or its refusal is the one that does
@@ -15,7 +15,7 @@ JudgesMatches r j = Judges (λ v. matches_of v.items) r j
 
 -- the matches after a call are those before it, and then those that come of something; or its refusal is the one that does
 abbrev pub AddsMatches : {T : Type 0} → Result T ExprError → (old new : Vec Match Global) → Judgement (List (ℕ × TreeNode)) → Type 0
-AddsMatches r old new j = Judges (λ _. matches_of new.items) r (put_behind (matches_of old.items) j)
+AddsMatches r old new j = Judges (λ _. matches_of new.items) r (put_after (matches_of old.items) j)
 
 -- an answer's matches are those of a program in the documents of a text, where it is a read
 abbrev pub JudgesRead : Result (Vec Match Global) ExprError → Syntax → List ℕ → Type 0

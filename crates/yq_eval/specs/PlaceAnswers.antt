@@ -7,7 +7,7 @@ use Rattle.yq_semantics.specs.Places.{child_place, for_each, further_place, foun
 use Rattle.yq_semantics.{specs.Places.FoundPlace as Place, specs.Pipes.{places, select_on}, specs.Program.{each, path}}
 use Rattle.yq_semantics.{specs.View.{condition_of, program_step, stage_of}, specs.declared.program.PathStep.PathStep}
 use Rattle.yq_semantics.{specs.declared.program.Condition.Condition, specs.declared.program.Stage.Stage}
-use Rattle.yq_eval.{specs.FoundView.child_places, specs.PlaceView.{found_of, missing_of, path_of, place_of, places_of, put_behind}}
+use Rattle.yq_eval.{specs.FoundView.child_places, specs.PlaceView.{found_of, missing_of, path_of, place_of, places_of, put_after}}
 use Rattle.yq_eval.{specs.declared.matching.place.FoundPlace.FoundPlace, specs.declared.matching.place.Missing.Missing}
 use Rattle.yq_eval.{specs.declared.matching.place.NodePath.NodePath, specs.declared.matching.place.NodeStep.NodeStep}
 
@@ -17,7 +17,7 @@ JudgesPlaces r j = Judges (λ v. places_of v.items) r j
 
 -- the places after a call are those before it, and then those that come of something; or its refusal is the one that does
 abbrev pub AddsPlaces : {T : Type 0} → Result T ExprError → (old new : Vec FoundPlace Global) → Judgement (List Place) → Type 0
-AddsPlaces r old new j = Judges (λ _. places_of new.items) r (put_behind (places_of old.items) j)
+AddsPlaces r old new j = Judges (λ _. places_of new.items) r (put_after (places_of old.items) j)
 
 -- a success puts these places after those that were there
 abbrev pub PutsPlaces : {T E : Type 0} → Result T E → (old new : Vec FoundPlace Global) → List Place → Type 0

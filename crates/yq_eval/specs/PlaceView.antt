@@ -55,5 +55,5 @@ abbrev pub found_of : Option (steps.NodeStep × nodes.Node) → ChildFound
 found_of x = option_map (λ c. (node_step_of c.0, node_of c.1)) x
 
 -- what comes of something, put after what is there (own)
-abbrev pub put_behind : {A : Type 0} → List A → Judgement (List A) → Judgement (List A)
-put_behind before j = and_then (λ xs. gives (before ++ xs)) j
+abbrev pub put_after : {A : Type 0} → List A → Judgement (List A) → Judgement (List A)
+put_after before j = and_then (λ xs. gives (before ++ xs)) j

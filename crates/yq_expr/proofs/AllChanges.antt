@@ -7,13 +7,13 @@ use Rattle.yq_semantics.specs.Changes.{Room, Changed, put_with_path, at_each, wi
 use Rattle.yq_semantics.{specs.Judgement.{MatchFails, Judgement, and_then, gives, ExprError}, specs.Meaning.roots_of}
 use Rattle.yq_semantics.{specs.Places.{FoundPlace, for_each}, specs.Program.{Stage, Term, Update, assign}, specs.RightValues.right_value}
 use Rattle.yq_semantics.specs.declared.program.Operator.{Operator}
-use Rattle.yq_eval.specs.PlaceView.{put_behind}
+use Rattle.yq_eval.specs.PlaceView.{put_after}
 use Rattle.yq_semantics.specs.declared.program.Operator.TheVariants as operator
 
 -- ---- places
 
 -- after the last one nothing more comes
-pub each_done : {X A B : Type 0} (v : X → A) (f : A → Judgement (List B)) (before : List B) (xs : List X) (i : ℕ) (all : Judgement (List B)) → length xs ≤ i → put_behind before (for_each f (map v (drop i xs))) ≡ all → all ≡ gives before
+pub each_done : {X A B : Type 0} (v : X → A) (f : A → Judgement (List B)) (before : List B) (xs : List X) (i : ℕ) (all : Judgement (List B)) → length xs ≤ i → put_after before (for_each f (map v (drop i xs))) ≡ all → all ≡ gives before
 each_done v f before xs i all past so_far = search (rules, drop_all, append-nil)
 
 -- ---- the value of a right side
@@ -23,7 +23,7 @@ pub value_there : (root : Node) (right : Judgement Node) (f : FoundPlace → Nod
 value_there root right f ps v some is = search rules
 
 -- a refusal at the only place is one of all
-pub only_fails : {B : Type 0} (before : List B) (j : Judgement (List B)) (e : ExprError) → MatchFails e (put_behind before j) → MatchFails e (and_then (λ first. and_then (λ others. gives (first ++ others)) (gives [])) j)
+pub only_fails : {B : Type 0} (before : List B) (j : Judgement (List B)) (e : ExprError) → MatchFails e (put_after before j) → MatchFails e (and_then (λ first. and_then (λ others. gives (first ++ others)) (gives [])) j)
 only_fails before j e h = search rules
 
 -- a refusal of the right side is one of all
@@ -38,24 +38,24 @@ module _ (doc : ℕ) (room : Room) (root : Node) (left : List Stage) (op : Opera
 -- ---- documents
 
 -- the changes of one document before those of others
-put_one : {B : Type 0} (before : List B) (j : Judgement B) (k : Judgement (List B)) → put_behind before (and_then (λ first. and_then (λ others. gives (first ∷ others)) k) j) ≡ and_then (λ first. put_behind (before ++ first ∷ []) k) j
+put_one : {B : Type 0} (before : List B) (j : Judgement B) (k : Judgement (List B)) → put_after before (and_then (λ first. and_then (λ others. gives (first ∷ others)) k) j) ≡ and_then (λ first. put_after (before ++ first ∷ []) k) j
 put_one before j k = search (rules, append_assoc)
 
 module _ (u : Update) (rooms : ℕ → Room) where
   -- those from one document on, that one being known
-  behind_document : (docs : List Document) (i : ℕ) (d : Document) (before : List (List Changed)) → drop i docs ≡ d ∷ drop (suc i) docs →
-      put_behind before (changes_from u rooms i (roots_of (drop i docs))) ≡ and_then (λ first. put_behind (before ++ first ∷ []) (changes_from u rooms (i + 1) (roots_of (drop (i + 1) docs)))) (changes_in u i (rooms i) d.root)
-  behind_document docs i d before at =
-      ap (λ (ds : List Document). put_behind before (changes_from u rooms i (roots_of ds))) at
+  after_document : (docs : List Document) (i : ℕ) (d : Document) (before : List (List Changed)) → drop i docs ≡ d ∷ drop (suc i) docs →
+      put_after before (changes_from u rooms i (roots_of (drop i docs))) ≡ and_then (λ first. put_after (before ++ first ∷ []) (changes_from u rooms (i + 1) (roots_of (drop (i + 1) docs)))) (changes_in u i (rooms i) d.root)
+  after_document docs i d before at =
+      ap (λ (ds : List Document). put_after before (changes_from u rooms i (roots_of ds))) at
       ∙ (put_one before (changes_in u i (rooms i) d.root) (changes_from u rooms (suc i) (roots_of (drop (suc i) docs)))
-      ∙ ap (λ (n : ℕ). and_then (λ first. put_behind (before ++ first ∷ []) (changes_from u rooms n (roots_of (drop n docs)))) (changes_in u i (rooms i) d.root)) (sym (add-one i)))
+      ∙ ap (λ (n : ℕ). and_then (λ first. put_after (before ++ first ∷ []) (changes_from u rooms n (roots_of (drop n docs)))) (changes_in u i (rooms i) d.root)) (sym (add-one i)))
 
   -- one document more
   pub document_more : (docs : List Document) (i : ℕ) (d : Document) (before after : List (List Changed)) (cs : List Changed) (all : Judgement (List (List Changed))) → drop i docs ≡ d ∷ drop (suc i) docs → after ≡ before ++ cs ∷ [] →
-      changes_in u i (rooms i) d.root ≡ gives cs → put_behind before (changes_from u rooms i (roots_of (drop i docs))) ≡ all → put_behind after (changes_from u rooms (i + 1) (roots_of (drop (i + 1) docs))) ≡ all
-  document_more docs i d before after cs all at more h so_far = search (rules, behind_document)
+      changes_in u i (rooms i) d.root ≡ gives cs → put_after before (changes_from u rooms i (roots_of (drop i docs))) ≡ all → put_after after (changes_from u rooms (i + 1) (roots_of (drop (i + 1) docs))) ≡ all
+  document_more docs i d before after cs all at more h so_far = search (rules, after_document)
 
   -- a refusal of one document is one of all
   pub document_fails : (docs : List Document) (i : ℕ) (d : Document) (before : List (List Changed)) (all : Judgement (List (List Changed))) (e : ExprError) → drop i docs ≡ d ∷ drop (suc i) docs →
-      MatchFails e (changes_in u i (rooms i) d.root) → put_behind before (changes_from u rooms i (roots_of (drop i docs))) ≡ all → MatchFails e all
+      MatchFails e (changes_in u i (rooms i) d.root) → put_after before (changes_from u rooms i (roots_of (drop i docs))) ≡ all → MatchFails e all
   document_fails docs i d before all e at h so_far = search rules

@@ -4,7 +4,7 @@ use Rattle.yq_core.specs.Shapes.{IsTree}
 use Rattle.yq_documents.{specs.Documents.{Document, document_parts}, specs.Located.document_at, specs.Ready.TextIsReady}
 use Rattle.yq_documents.specs.Reading.{cut_of, documents_of}
 use Rattle.yq_nodes.specs.Nodes.{node_of}
-use Rattle.yq_semantics.{specs.Judgement.gives, specs.Pipes.places, specs.Program.Stage, proofs.updates.PipePlaces.places_stand}
+use Rattle.yq_semantics.{specs.Judgement.gives, specs.Pipes.places, specs.Program.Stage, proofs.updates.PipePlaces.places_are_there}
 use Rattle.yq_eval.{specs.FoundView.found_places, specs.TreeScalars.HasScalars, proofs.MatchLaws.{document_there, places_have}}
 use Rattle.yq_eval.proofs.TreeScalarLaws.{documents_have}
 use Rattle.yq_expr.{specs.DocumentPlaces.{AreInDocument, IsDocumentRoot}, specs.declared.document.DocumentPlaces.DocumentPlaces}
@@ -26,5 +26,5 @@ pub found_in : (ps : DocumentPlaces) (pipe : List Stage) → IsDocumentRoot ps.d
 found_in ps pipe h found = record {
   root = h.scalars;
   scalars = places_have ps.document.doc pipe (node_of ps.document.root) (found_places ps.places) h.scalars found;
-  within = (places_stand ps.document.doc pipe (node_of ps.document.root) (found_places ps.places) h.tree found).1;
+  within = (places_are_there ps.document.doc pipe (node_of ps.document.root) (found_places ps.places) h.tree found).1;
 }

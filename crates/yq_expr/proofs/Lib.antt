@@ -7,7 +7,7 @@ pub mod TermLaws
 pub mod PartLaws
 mod StepLists
 pub mod ManyKeysLaws
-pub mod StandInLaws
+pub mod SubstituteLaws
 pub mod VerdictLaws
 pub mod FixedLaws
 pub mod OversizedLaws

@@ -3,11 +3,11 @@ use Rattle.std.proofs.Common.{◌≡◌, ℕ, ◌<◌, arith, false, List, [], �
 use Rattle.std.proofs.lemmas.Str.{IsUtf8-string_bytes}
 use Rattle.yq_core.{specs.Paths.append_children, specs.Tree.{Node, alias, scalar, list, Children, none, child}}
 use Rattle.yq_flow_edits.specs.Valued.{IsValueTree, AreValueTrees}
-use Rattle.yq_planner.{specs.ListSizes.HasSize, specs.declared.updating.list_size.ListSize.ListSize, specs.StandIns.IsStandIn}
+use Rattle.yq_planner.{specs.ListSizes.HasSize, specs.declared.updating.list_size.ListSize.ListSize, specs.Substitutes.IsSubstitute}
 use Rattle.yq_semantics.{specs.Judgement.{Judgement, and_then, gives}, specs.Places.FoundPlace}
 use Rattle.yq_semantics.{specs.Program.{Term, PathStep, key, index, each}, specs.RightValues.{is_null, as_items, sum, sum_from, term_value}}
 use Rattle.yq_semantics.specs.View.{program_step}
-use Rattle.yq_expr.specs.Oversized.{items_limit, AddsItems, AreItemsOf, GivesList, StandsForOversized, HaveUtf8Keys}
+use Rattle.yq_expr.specs.Oversized.{items_limit, AddsItems, AreItemsOf, GivesList, ReplacesOversized, HaveUtf8Keys}
 use Rattle.yq_eval.{specs.PlaceView.{missing_link, missing_of}, specs.declared.matching.place.Missing.Missing}
 use Rattle.yq_eval.specs.declared.matching.place.Missing.TheFolds.{fold-roll-Missing, ind-Missing, map-Missing}
 use Rattle.yq_eval.specs.declared.matching.place.Missing.TheOpen.{Missing-F}
@@ -42,7 +42,7 @@ one_more doc p ds t ts total size with_it h k both =
     )
 
 -- the list of known size that a judgement gives is too large for a text, and a small one stands for it
-pub too_large : (j : Judgement Node) (size : ListSize) (w : Node) → GivesList j size → items_limit < size.items → ((v : Node) → HasSize v size → IsStandIn v w) → StandsForOversized j w
+pub too_large : (j : Judgement Node) (size : ListSize) (w : Node) → GivesList j size → items_limit < size.items → ((v : Node) → HasSize v size → IsSubstitute v w) → ReplacesOversized j w
 too_large j size w h more small = (
   list None h.0,
   h.1,

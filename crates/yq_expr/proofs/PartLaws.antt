@@ -8,7 +8,7 @@ use Rattle.yq_semantics.specs.Changes.{Room, Changed, all_allowed, changes_at, c
 use Rattle.yq_semantics.{specs.Judgement.{Judgement, MatchFails, and_then, gives, refuses, ExprError}, specs.Meaning.roots_of}
 use Rattle.yq_semantics.{specs.Operations.Operation, specs.Pipes.places, specs.Places.{FoundPlace, for_each}}
 use Rattle.yq_semantics.{specs.Plans.{all_ops, change_ops, ops_of, plan}, specs.PlacesApart.AreIn, specs.Program.Update}
-use Rattle.yq_eval.{specs.PlaceView.{places_of, put_behind}, specs.TreeScalars.HaveScalars, proofs.EachLaws.{fails_then, put_both}}
+use Rattle.yq_eval.{specs.PlaceView.{places_of, put_after}, specs.TreeScalars.HaveScalars, proofs.EachLaws.{fails_then, put_both}}
 use Rattle.yq_expr.specs.Parts.{IsInOrder, IsPlanPart, document_ops, ops_from, rest_ops}
 use Rattle.yq_eval.specs.declared.matching.place.FoundPlace as declared
 
@@ -94,24 +94,24 @@ module _ (u : Update) (doc : ℕ) (room : Room) (root : Node) (ps : List FoundPl
   none_left place past = search (rules, ops_there, drop_all)
 
   pub none_part : (before after : List Operation) (place : ℕ) → length ps ≤ place → after ≡ before → IsPlanPart (document_ops u doc room root) place before after None
-  none_part before after place past same = ap (put_behind before) (none_left place past) ∙ ap gives (append-nil before ∙ sym same)
+  none_part before after place past same = ap (put_after before) (none_left place past) ∙ ap gives (append-nil before ∙ sym same)
 
   -- the operations at some places, and those of the others
   module _ (before after : List Operation) (place to : ℕ) (cs : List Changed) (order : place ≤ to) (changed : changes_at doc room root u (take (to - place) (drop place ps)) ≡ gives cs) (is : after ≡ before ++ ops_of doc cs) where
-    goes_on : put_behind before (document_ops u doc room root place) ≡ put_behind after (document_ops u doc room root to)
+    goes_on : put_after before (document_ops u doc room root place) ≡ put_after after (document_ops u doc room root to)
     goes_on =
-        ap (put_behind before) (ops_there place)
-        ∙ (ap (λ (qs : List FoundPlace). put_behind before (and_then (λ xs. gives (ops_of doc xs)) (changes_at doc room root u qs))) (split_places place to ps order)
-        ∙ (ap (λ j. put_behind before (and_then (λ xs. gives (ops_of doc xs)) j)) (changes_both doc room root u (take (to - place) (drop place ps)) (drop to ps))
-        ∙ (ap (λ j. put_behind before (and_then (λ xs. gives (ops_of doc xs)) (both j (changes_at doc room root u (drop to ps))))) changed
+        ap (put_after before) (ops_there place)
+        ∙ (ap (λ (qs : List FoundPlace). put_after before (and_then (λ xs. gives (ops_of doc xs)) (changes_at doc room root u qs))) (split_places place to ps order)
+        ∙ (ap (λ j. put_after before (and_then (λ xs. gives (ops_of doc xs)) j)) (changes_both doc room root u (take (to - place) (drop place ps)) (drop to ps))
+        ∙ (ap (λ j. put_after before (and_then (λ xs. gives (ops_of doc xs)) (both j (changes_at doc room root u (drop to ps))))) changed
         ∙ ((search (rules, ops_join, append_assoc))
-        ∙ (λ i. put_behind (sym is i) (sym (ops_there to) i))))))
+        ∙ (λ i. put_after (sym is i) (sym (ops_there to) i))))))
 
     pub more_part : IsPlanPart (document_ops u doc room root) place before after (Some to)
     more_part = goes_on
 
     pub last_part : length ps ≤ to → IsPlanPart (document_ops u doc room root) place before after None
-    last_part past = goes_on ∙ (ap (put_behind after) (none_left to past) ∙ ap gives (append-nil after))
+    last_part past = goes_on ∙ (ap (put_after after) (none_left to past) ∙ ap gives (append-nil after))
 
   -- a refusal at some places is one of all
   pub part_fails : (place to : ℕ) (e : ExprError) → place ≤ to → MatchFails e (changes_at doc room root u (take (to - place) (drop place ps))) → MatchFails e (document_ops u doc room root place)
@@ -134,15 +134,15 @@ module _ (u : Update) (rooms : ℕ → Room) (docs : List Document) (doc : ℕ) 
   rest_there place = ap (λ (ds : List Document). ops_from u rooms doc place (roots_of ds)) at
 
   -- after a document the next one comes
-  pub next_document : (place : ℕ) (before after : List Operation) → IsPlanPart here place before after None → put_behind before (rest_ops u rooms docs doc place) ≡ put_behind after (rest_ops u rooms docs (doc + 1) 0)
+  pub next_document : (place : ℕ) (before after : List Operation) → IsPlanPart here place before after None → put_after before (rest_ops u rooms docs doc place) ≡ put_after after (rest_ops u rooms docs (doc + 1) 0)
   next_document place before after h = search (rules, rest_there, put_both, add-one)
 
   -- in a document there is more
-  pub same_document : (place next : ℕ) (before after : List Operation) → IsPlanPart here place before after (Some next) → put_behind before (rest_ops u rooms docs doc place) ≡ put_behind after (rest_ops u rooms docs doc next)
+  pub same_document : (place next : ℕ) (before after : List Operation) → IsPlanPart here place before after (Some next) → put_after before (rest_ops u rooms docs doc place) ≡ put_after after (rest_ops u rooms docs doc next)
   same_document place next before after h = search (rules, rest_there, put_both)
 
   -- a refusal in a document is one of all
-  pub document_fails : (place : ℕ) (before : List Operation) (all : Judgement (List Operation)) (e : ExprError) → MatchFails e (here place) → put_behind before (rest_ops u rooms docs doc place) ≡ all → MatchFails e all
+  pub document_fails : (place : ℕ) (before : List Operation) (all : Judgement (List Operation)) (e : ExprError) → MatchFails e (here place) → put_after before (rest_ops u rooms docs doc place) ≡ all → MatchFails e all
   document_fails place before all e h so_far = search rules
 
 -- ---- the whole plan

@@ -4,15 +4,15 @@ use Rattle.std.{proofs.Common.{length, drop, if◌then◌else◌, refl, sym, ap,
 use Rattle.std.proofs.lemmas.Bool.{false≢true}
 use Rattle.yq_core.{specs.Anchors.names_of, specs.Tree.Node}
 use Rattle.yq_documents.specs.Documents.{Document}
-use Rattle.yq_eval.{specs.PlaceView.put_behind, proofs.EachLaws.fails_then}
-use Rattle.yq_planner.specs.StandIns.{HaveNoAlias, IsStandIn, verdict}
+use Rattle.yq_eval.{specs.PlaceView.put_after, proofs.EachLaws.fails_then}
+use Rattle.yq_planner.specs.Substitutes.{HaveNoAlias, IsSubstitute, verdict}
 use Rattle.yq_semantics.specs.Changes.{Room, add_at, all_allowed, at_each, changes_at, changes_from, changes_in, put_with_path}
 use Rattle.yq_semantics.specs.Changes.{update_changes, with_value}
 use Rattle.yq_semantics.{specs.Judgement.{Judgement, MatchFails, and_then, gives, refuses, ExprError}, specs.Meaning.roots_of}
 use Rattle.yq_semantics.{specs.Places.{FoundPlace, for_each, root_place}, specs.Plans.plan, specs.RightValues.right_value}
 use Rattle.yq_semantics.{specs.Program.{Stage, Term, Update, assign}, specs.declared.program.Operator.Operator}
-use Rattle.yq_expr.{specs.EffectView.{is_mapping, value_at}, proofs.AllChanges.value_there, proofs.StandInLaws.{add_alike, put_alike}}
-use Rattle.yq_expr.specs.Oversized.{StandsForOversized}
+use Rattle.yq_expr.{specs.EffectView.{is_mapping, value_at}, proofs.AllChanges.value_there, proofs.SubstituteLaws.{add_alike, put_alike}}
+use Rattle.yq_expr.specs.Oversized.{ReplacesOversized}
 use Rattle.yq_semantics.specs.declared.program.Operator.TheVariants as operator
 
 -- ---- an answer
@@ -30,12 +30,12 @@ pub given : {A : Type 0} (j : Judgement A) → verdict j ≡ gives tt → (x : A
 given j h = search rules
 
 -- something comes, after what is there
-pub behind_given : {B : Type 0} (before : List B) (j : Judgement (List B)) → verdict j ≡ gives tt → (after : List B) × (put_behind before j ≡ gives after)
-behind_given before j h = let x = given j h in (before ++ x.0, ap (put_behind before) x.1)
+pub after_given : {B : Type 0} (before : List B) (j : Judgement (List B)) → verdict j ≡ gives tt → (after : List B) × (put_after before j ≡ gives after)
+after_given before j h = let x = given j h in (before ++ x.0, ap (put_after before) x.1)
 
 -- an error is also one after what is there
-pub behind_fails : {B : Type 0} (before : List B) (j : Judgement (List B)) (e : ExprError) → MatchFails e (verdict j) → MatchFails e (put_behind before j)
-behind_fails before j e h = fails_then (λ xs. gives (before ++ xs)) j e (fails_back e j h)
+pub after_fails : {B : Type 0} (before : List B) (j : Judgement (List B)) (e : ExprError) → MatchFails e (verdict j) → MatchFails e (put_after before j)
+after_fails before j e h = fails_then (λ xs. gives (before ++ xs)) j e (fails_back e j h)
 
 -- ---- places
 
@@ -51,7 +51,7 @@ each_alike f h same [] = refl
 each_alike f h same (x ∷ xs) = search (rules, verdict_both, each_alike f h same xs)
 
 -- a value that is added, or put, at each of places is refused where its stand-in is
-pub places_alike : (root v w : Node) (adds : Bool) (ps : List FoundPlace) → (adds ≡ true → is_mapping v ≡ true → HaveNoAlias (names_of root)) → IsStandIn v w →
+pub places_alike : (root v w : Node) (adds : Bool) (ps : List FoundPlace) → (adds ≡ true → is_mapping v ≡ true → HaveNoAlias (names_of root)) → IsSubstitute v w →
     verdict (at_each root (value_at adds v) ps) ≡ verdict (at_each root (value_at adds w) ps)
 places_alike root v w true ps free h = each_alike (λ p. and_then (all_allowed root) (add_at p v)) (λ p. and_then (all_allowed root) (add_at p w)) (λ p. add_alike root p v w (free refl) h) ps
 places_alike root v w false ps free h = each_alike (λ p. and_then (all_allowed root) (put_with_path p v)) (λ p. and_then (all_allowed root) (put_with_path p w)) (λ p. put_alike root p v w h) ps
@@ -63,13 +63,13 @@ value_judged root right true ps v some is = value_there root right add_at ps v s
 value_judged root right false ps v some is = value_there root right put_with_path ps v some is
 
 -- a value that no text can hold is refused where its stand-in is: one value for all places, and one that is put at a place
-pub oversized_judged : (root : Node) (right : Judgement Node) (adds : Bool) (ps : List FoundPlace) (w : Node) → 0 < length ps → StandsForOversized right w →
+pub oversized_judged : (root : Node) (right : Judgement Node) (adds : Bool) (ps : List FoundPlace) (w : Node) → 0 < length ps → ReplacesOversized right w →
     verdict (with_value root right (if adds then add_at else put_with_path) ps) ≡ verdict (at_each root (value_at adds w) ps)
 oversized_judged root right adds ps w some h =
     ap verdict (value_judged root right adds ps h.0 some h.1)
     ∙ places_alike root h.0 w adds ps (λ _ mapping. absurd (false≢true (sym (ap is_mapping h.2.is) ∙ mapping))) h.3
 
-pub oversized_put : (root : Node) (p : FoundPlace) (right : Judgement Node) (w : Node) → StandsForOversized right w →
+pub oversized_put : (root : Node) (p : FoundPlace) (right : Judgement Node) (w : Node) → ReplacesOversized right w →
     verdict (and_then (all_allowed root) (and_then (put_with_path p) right)) ≡ verdict (and_then (all_allowed root) (put_with_path p w))
 oversized_put root p right w h = ap (λ j. verdict (and_then (all_allowed root) (and_then (put_with_path p) j))) h.1 ∙ put_alike root p h.0 w h.3
 

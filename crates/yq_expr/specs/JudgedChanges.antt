@@ -3,10 +3,10 @@ use Rattle.std.{specs.Prelude.{◌≡◌, ℕ, Bool, true, List, Option, IfSome,
 use Rattle.std.specs.BTreeMap.{BTreeMap}
 use Rattle.yq_core.{specs.Anchors.{Name, names_of}, specs.Tree.Node}
 use Rattle.yq_documents.{specs.Located.steps_of, specs.Reading.documents_of}
-use Rattle.yq_eval.{specs.FoundView.found_places, specs.PlaceView.{place_of, put_behind}}
+use Rattle.yq_eval.{specs.FoundView.found_places, specs.PlaceView.{place_of, put_after}}
 use Rattle.yq_nodes.specs.Nodes.{node_of}
 use Rattle.yq_planner.{specs.ChangeView.{changed_of, changes_below, changes_under, placed}, specs.Indexes.HasAliases}
-use Rattle.yq_planner.{specs.StandIns.{HaveNoAlias, verdict}, specs.declared.updating.change.Change.Change}
+use Rattle.yq_planner.{specs.Substitutes.{HaveNoAlias, verdict}, specs.declared.updating.change.Change.Change}
 use Rattle.yq_planner.{specs.declared.updating.change.PlacedChange.PlacedChange, specs.declared.updating.change.ChangesUnder.ChangesUnder}
 use Rattle.yq_semantics.specs.Changes.{Changed, add_at, all_allowed, at_each, changes_at, changes_in, put_with_path, update_changes}
 use Rattle.yq_semantics.{specs.Changes.with_value, specs.Meaning.roots_of}
@@ -46,7 +46,7 @@ JudgesEach aliases ps f result = InTreesOf aliases ps (λ root. JudgesChanges re
 -- The changes after a call are those before it, and then those of a judgement, if they are allowed; or its refusal is the one that comes (own).
 abbrev pub PutsAllowed : {Y : Type 0} → Node → Judgement (List Changed) → (before after : List PlacedChange) → Result Y ExprError → Type 0
 PutsAllowed root j before after result =
-    Judges (λ _. map changed_of after) result (put_behind (map changed_of before) (and_then (all_allowed root) j))
+    Judges (λ _. map changed_of after) result (put_after (map changed_of before) (and_then (all_allowed root) j))
 
 -- the same as judged in every tree that has a place and whose anchors' names have these aliases (own)
 abbrev pub JudgesAllowed : {X Y : Type 0} → AliasMap X → FoundPlace → Judgement (List Changed) → (before after : List PlacedChange) →
@@ -120,7 +120,7 @@ abbrev pub JudgesBelow : {Y : Type 0} → DocumentEffect → place.FoundPlace �
 JudgesBelow e p before after result =
     InTreesAt e.aliases.now (place_of p)
     (λ root. Judges (λ _. changes_below (steps_of before.node) after.changes.items) result
-    (put_behind (changes_below (steps_of before.node) before.changes.items) (and_then (all_allowed root) (effect_of e before.cut (place_of p)))))
+    (put_after (changes_below (steps_of before.node) before.changes.items) (and_then (all_allowed root) (effect_of e before.cut (place_of p)))))
 
 -- nothing but the changes is another one there (own)
 abbrev pub StaysAtNode : (before after : ChildChanges) → Type 0
@@ -147,5 +147,5 @@ abbrev pub HasNone : {X : Type 0} → AliasMap X → Type 0
 HasNone aliases = (names : List Name) → HasAliases names aliases → HaveNoAlias names
 
 -- a small value may be judged in the place of one that is added: that is no mapping, or no alias is in the document (own)
-abbrev pub MayStandIn : {X : Type 0} → Node → AliasMap X → Type 0
-MayStandIn v aliases = is_mapping v ≡ true → HasNone aliases
+abbrev pub MaySubstitute : {X : Type 0} → Node → AliasMap X → Type 0
+MaySubstitute v aliases = is_mapping v ≡ true → HasNone aliases

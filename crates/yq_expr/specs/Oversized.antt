@@ -3,7 +3,7 @@ use Rattle.std.specs.Prelude.{◌≡◌, ◌<◌, ℕ, false, List, [], ◌∷�
 use Rattle.std.{specs.Str.IsUtf8, specs.declared.alloc.AllocError.AllocError}
 use Rattle.yq_core.{specs.Tree.{Node, list, Children, none}, specs.Paths.Step, specs.Values.value_node, specs.declared.value.Value.Value}
 use Rattle.yq_flow_edits.specs.Valued.{IsValueTree, AreValueTrees}
-use Rattle.yq_planner.{specs.ListSizes.HasSize, specs.StandIns.IsStandIn, specs.declared.updating.list_size.ListSize.ListSize}
+use Rattle.yq_planner.{specs.ListSizes.HasSize, specs.Substitutes.IsSubstitute, specs.declared.updating.list_size.ListSize.ListSize}
 use Rattle.yq_semantics.specs.Judgement.{Judgement, gives, ExprError}
 use Rattle.yq_semantics.{specs.RightValues.{is_null, as_items, right_value, sum_from, term_value}, specs.Sizes.{items_in, items_among}}
 use Rattle.yq_semantics.{specs.Changes.additions, specs.Operations.{Operation, replace, append}, specs.Plans.add_op}
@@ -48,8 +48,8 @@ abbrev pub GivesOversized : Judgement Node → Type 0
 GivesOversized j = (v : Node) × (j ≡ gives v) × IsOversized v
 
 -- a judgement gives such a list, and a small one is refused where that is (own)
-abbrev pub StandsForOversized : Judgement Node → Node → Type 0
-StandsForOversized j w = (v : Node) × (j ≡ gives v) × IsOversized v × IsStandIn v w
+abbrev pub ReplacesOversized : Judgement Node → Node → Type 0
+ReplacesOversized j w = (v : Node) × (j ≡ gives v) × IsOversized v × IsSubstitute v w
 
 -- what a term gives, from a place (own)
 abbrev pub found_term : ℕ → place.FoundPlace → term.Term → Judgement Node
@@ -138,5 +138,5 @@ abbrev pub EndsPart : DocumentRoot → declared.Update → ℕ → OpenPart → 
 EndsPart document update place before after result = IfOk result (λ o. IfSome o (EndsPartAt document update place before after))
 
 -- a small value is refused where the sum of terms is, which no text can hold (own)
-abbrev pub StandsForSum : ℕ → place.FoundPlace → List term.Term → Value → Type 0
-StandsForSum doc p ts w = StandsForOversized (found_sum doc p ts) (value_node w)
+abbrev pub ReplacesSum : ℕ → place.FoundPlace → List term.Term → Value → Type 0
+ReplacesSum doc p ts w = ReplacesOversized (found_sum doc p ts) (value_node w)

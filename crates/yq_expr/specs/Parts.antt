@@ -5,7 +5,7 @@ use Rattle.yq_documents.specs.Documents.{Document}
 use Rattle.yq_semantics.{specs.Changes.{Room, changes_at, has_comment, left_pipe}, specs.Judgement.{Judgement, and_then, gives}}
 use Rattle.yq_semantics.{specs.Meaning.roots_of, specs.Operations.Operation, specs.Pipes.places, specs.Plans.{is_removal, ops_of}}
 use Rattle.yq_semantics.specs.Program.{Update}
-use Rattle.yq_eval.specs.PlaceView.{put_behind}
+use Rattle.yq_eval.specs.PlaceView.{put_after}
 
 -- how many bytes the values of a part may take, more or less (own)
 abbrev pub values_limit : ℕ
@@ -28,12 +28,12 @@ rest_ops u rooms docs doc place = ops_from u rooms doc place (roots_of (drop doc
 
 -- operations after others are what is left from a place on: all of it, or, where there is a next place, all but what is left from there on (own)
 abbrev pub IsPlanPart : (ℕ → Judgement (List Operation)) → ℕ → List Operation → List Operation → Option ℕ → Type 0
-IsPlanPart rest place before after None = put_behind before (rest place) ≡ gives after
-IsPlanPart rest place before after (Some next) = put_behind before (rest place) ≡ put_behind after (rest next)
+IsPlanPart rest place before after None = put_after before (rest place) ≡ gives after
+IsPlanPart rest place before after (Some next) = put_after before (rest place) ≡ put_after after (rest next)
 
 -- operations are what is left of a plan from a place on, but for what is left from another one on (own)
 abbrev pub LeavesOps : Update → (ℕ → Room) → List Document → ℕ → ℕ → List Operation → ℕ → ℕ → Type 0
-LeavesOps u rooms docs doc place ops doc_after place_after = rest_ops u rooms docs doc place ≡ put_behind ops (rest_ops u rooms docs doc_after place_after)
+LeavesOps u rooms docs doc place ops doc_after place_after = rest_ops u rooms docs doc place ≡ put_after ops (rest_ops u rooms docs doc_after place_after)
 
 -- a place of a document comes later than another one: of a later document, or of the same (own)
 abbrev pub IsLater : ℕ → ℕ → ℕ → ℕ → Type 0

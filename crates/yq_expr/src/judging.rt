@@ -2,10 +2,10 @@
 ghost use Rattle.std.specs.Prelude.{◌≡◌, ◌<◌, IfOk, IfSome, List, length, true, if◌then◌else◌};
 ghost use Rattle.yq_core.{specs.Anchors.names_of, specs.Values.value_node};
 ghost use Rattle.yq_nodes.specs.Nodes.{node_of};
-ghost use Rattle.yq_planner.{specs.Indexes.HasAliases, specs.StandIns.IsStandIn};
+ghost use Rattle.yq_planner.{specs.Indexes.HasAliases, specs.Substitutes.IsSubstitute};
 ghost use Rattle.yq_semantics.{specs.Program.update_count, specs.View.{program_of, update_of}};
 ghost use Rattle.yq_expr.{specs.EffectView.{is_mapping, value_at}, specs.PlannedUpdates.{IsUpdateAt, plan_in}};
-ghost use Rattle.yq_expr.specs.JudgedChanges.{HasNone, JudgesEachVerdict, JudgesThere, JudgesVerdict, MayStandIn, changes_inside};
+ghost use Rattle.yq_expr.specs.JudgedChanges.{HasNone, JudgesEachVerdict, JudgesThere, JudgesVerdict, MaySubstitute, changes_inside};
 ghost use Rattle.yq_expr.{specs.JudgedChanges.{changes_of_all, with_right}, specs.DocumentPlaces.{AreInDocument, IsDocumentRoot}};
 ghost use Rattle.yq_eval.{specs.FoundView.found_places, specs.TreeScalars.HaveScalars};
 ghost use Rattle.yq_semantics.specs.Program as programs;
@@ -22,7 +22,7 @@ use yq_core::Value;
 use yq_documents::Documents;
 use yq_eval::{FoundPlace, find_places};
 use yq_nodes::Node;
-use yq_planner::{Aliases, aliases_of, has_comment, stand_in};
+use yq_planner::{Aliases, aliases_of, has_comment, substitute};
 use yq_semantics::{Assignment, ExprError, Operator, Program, Refusal, Syntax, Term, Update};
 
 /// Whether a value is a mapping.
@@ -41,12 +41,12 @@ fn small_entries(
     aliases: &Aliases<'_>,
     value: &Value,
 ) -> Result<Option<Value>, AllocError>
-    ensures small { IfOk result (λ o. IfSome o (λ w. IsStandIn (value_node value.now)
+    ensures small { IfOk result (λ o. IfSome o (λ w. IsSubstitute (value_node value.now)
         (value_node w))) }
     ensures free { IfOk result (λ o. IfSome o (λ _. HasNone aliases.now)) }
 {
     if aliases.is_empty() {
-        return stand_in(alloc, value);
+        return substitute(alloc, value);
     }
     Ok(None)
 }
@@ -58,15 +58,15 @@ fn small_added(
     aliases: &Aliases<'_>,
     value: &Value,
 ) -> Result<Option<Value>, AllocError>
-    ensures small { IfOk result (λ o. IfSome o (λ w. IsStandIn (value_node value.now)
+    ensures small { IfOk result (λ o. IfSome o (λ w. IsSubstitute (value_node value.now)
         (value_node w))) }
     ensures free { IfOk result (λ o. IfSome o (λ _.
-        MayStandIn (value_node value.now) aliases.now)) }
+        MaySubstitute (value_node value.now) aliases.now)) }
 {
     if is_mapping(value) {
         return small_entries(alloc, aliases, value);
     }
-    stand_in(alloc, value)
+    substitute(alloc, value)
 }
 
 /// A small value that is refused where a value is added, or put.
@@ -76,15 +76,15 @@ fn small_value(
     adds: bool,
     value: &Value,
 ) -> Result<Option<Value>, AllocError>
-    ensures small { IfOk result (λ o. IfSome o (λ w. IsStandIn (value_node value.now)
+    ensures small { IfOk result (λ o. IfSome o (λ w. IsSubstitute (value_node value.now)
         (value_node w))) }
     ensures free { IfOk result (λ o. IfSome o (λ _. adds ≡ true →
-        MayStandIn (value_node value.now) aliases.now)) }
+        MaySubstitute (value_node value.now) aliases.now)) }
 {
     if adds {
         return small_added(alloc, aliases, value);
     }
-    stand_in(alloc, value)
+    substitute(alloc, value)
 }
 
 /// Judges one value that is added, or put, at each of places of a document, which has those aliases.

@@ -119,7 +119,7 @@ pub(crate) fn oversized<'a, 't>(
     length: usize,
 ) -> Result<Option<Value>, AllocError>
     requires { HasScalars (place_of place.now).node }
-    ensures { IfAny result (spec.StandsForSum doc place.now terms.now) }
+    ensures { IfAny result (spec.ReplacesSum doc place.now terms.now) }
 {
     if terms.len().saturating_mul(length) <= TEXT_LIMIT {
         return Ok(None);

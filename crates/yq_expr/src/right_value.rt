@@ -105,10 +105,10 @@ fn with_terms<'a, 't>(
 {
     let mut total = first;
     let mut rest = terms;
-    'terms: while let [term, behind @ ..] = rest {
-        let again = count_same(term, behind);
+    'terms: while let [term, after @ ..] = rest {
+        let again = count_same(term, after);
         total = with_term(alloc, doc, total, (term, again + 1), place)?;
-        rest = &behind[again..];
+        rest = &after[again..];
     }
     Ok(total)
 }

@@ -22,13 +22,13 @@ fn are_same_steps(steps: &[PathStep], others: &[PathStep]) -> bool
 {
     let mut rest = others;
     'steps: for step in steps {
-        let [first, behind @ ..] = rest else {
+        let [first, after @ ..] = rest else {
             return false;
         };
         if !is_same_step(step, first) {
             return false;
         }
-        rest = behind;
+        rest = after;
     }
     rest.is_empty()
 }

@@ -36,10 +36,10 @@ cut_parts : (t run end : List ℕ) → (run, end) ≡ cut (unless is_plain_byte)
 cut_parts t run end e = subst (λ (p : List ℕ × List ℕ). string_content t ≡ p.0 ++ string_content p.1) (sym e) (content_run t)
 
 -- a turn of the loop: a run and an escape
-pub content_next : (text out rest run end c behind : List ℕ) → out ++ string_content rest ≡ string_content text → (run, end) ≡ cut (unless is_plain_byte) rest → escape_front end ≡ Some (c, behind)
-    → ((out ++ run) ++ c) ++ string_content behind ≡ string_content text
-content_next text out rest run end c behind whole parts escaped =
-    simp append_assoc (sym (ap (λ (s : List ℕ). out ++ s) (cut_parts rest run end parts ∙ ap (λ (s : List ℕ). run ++ s) (content_escape end c behind escaped))) ∙ whole)
+pub content_next : (text out rest run end c after : List ℕ) → out ++ string_content rest ≡ string_content text → (run, end) ≡ cut (unless is_plain_byte) rest → escape_front end ≡ Some (c, after)
+    → ((out ++ run) ++ c) ++ string_content after ≡ string_content text
+content_next text out rest run end c after whole parts escaped =
+    simp append_assoc (sym (ap (λ (s : List ℕ). out ++ s) (cut_parts rest run end parts ∙ ap (λ (s : List ℕ). run ++ s) (content_escape end c after escaped))) ∙ whole)
 
 -- the last run
 pub content_done : (text out rest run end : List ℕ) → out ++ string_content rest ≡ string_content text → (run, end) ≡ cut (unless is_plain_byte) rest → escape_front end ≡ None

@@ -1,7 +1,7 @@
 -- Forms one after the other are read again as the grammar says, if each of them is.
 use Rattle.std.{proofs.Common.{◌≡◌, ℕ, true, List, [], ◌∷◌, Option, Some, None, refl, sym, ◌∙◌, subst}, specs.Prelude.codes}
 use Rattle.std.{specs.Str.bytes_eq, proofs.lemmas.Slice.Eq.bytes_eq-Decides}
-use Rattle.yq_semantics.{specs.Tokens.{Token, symbol}, specs.Grammar.{Production, HasSymbol, Are, Behind, AreParted}}
+use Rattle.yq_semantics.{specs.Tokens.{Token, symbol}, specs.Grammar.{Production, HasSymbol, Are, Preceded, AreParted}}
 use Rattle.yq_expr_parser.{specs.Lexing.{after, taken, as_step}, specs.Parse.{Parse, many, after_mark, parted_at}}
 use Rattle.yq_expr_parser.proofs.Readers.{Lessens, many_next}
 
@@ -31,18 +31,18 @@ many_again next Is Follows less again starts (x ∷ xs) ts rest are f none =
     let others = many_again next Is Follows less again starts xs are.0 rest are.2 f none in
     many_next next less ts ∙ rw (here, others) refl
 
-behind_again : {A : Type 0} (s : List ℕ) (at : Parse A) (Is : Production A) (Follows : List Token → Type 0) → Again at Is Follows → AgainMaybe (after_mark s at) (Behind s Is) Follows
-behind_again s at Is Follows again x ts rest h f = rw (after_again s ts h.0 h.1, again x h.0 rest h.2 f) refl
+again_after : {A : Type 0} (s : List ℕ) (at : Parse A) (Is : Production A) (Follows : List Token → Type 0) → Again at Is Follows → AgainMaybe (after_mark s at) (Preceded s Is) Follows
+again_after s at Is Follows again x ts rest h f = rw (after_again s ts h.0 h.1, again x h.0 rest h.2 f) refl
 
 pub parted_again : {A : Type 0} (s : List ℕ) (at : Parse A) (Is : Production A) (Follows : List Token → Type 0) → Lessens (after_mark s at) → Again at Is Follows → ((r : List Token) → Follows (symbol s ∷ r))
     → (xs : List A) (ts rest : List Token) → AreParted s Is xs ts rest → Follows rest → after s rest ≡ None → parted_at s at ts ≡ Some (xs, rest)
 parted_again s at Is Follows less again mark [] ts rest are f none = absurd are
 parted_again {A} s at Is Follows less again mark (x ∷ xs) ts rest are f none =
-    let starts : Starts (Behind s Is) Follows = λ y us r is. subst Follows (sym is.1) (mark is.0) in
-    let first_follows : Follows are.0 = follows_are (Behind s Is) Follows starts xs are.0 rest are.2 f in
+    let starts : Starts (Preceded s Is) Follows = λ y us r is. subst Follows (sym is.1) (mark is.0) in
+    let first_follows : Follows are.0 = follows_are (Preceded s Is) Follows starts xs are.0 rest are.2 f in
     let here : at ts ≡ Some (x, are.0) = again x ts are.0 are.1 first_follows in
     let stops : after_mark s at rest ≡ Some None = rw none refl in
-    let others = many_again (after_mark s at) (Behind s Is) Follows less (behind_again s at Is Follows again) starts xs are.0 rest are.2 f stops in
+    let others = many_again (after_mark s at) (Preceded s Is) Follows less (again_after s at Is Follows again) starts xs are.0 rest are.2 f stops in
     rw (here, others) refl
 
 -- anything may follow

@@ -21,8 +21,8 @@ boundary_blank t n e u = rw e (rw (← upto_unless) (boundary_unless is_token_bl
 abbrev pub EndsAscii : List ℕ → ℕ → Type 0
 EndsAscii t n = (k : ℕ) × (n ≡ suc k) × (k < length t) × (get_or t k 0 < 128)
 
-behind_one : (b : ℕ) (t : List ℕ) (n : ℕ) → EndsAscii t n → EndsAscii (b ∷ t) (1 + n)
-behind_one b t n h = (suc h.0, omega (arith, h.1), omega (arith, h.2), h.3)
+one_row_later : (b : ℕ) (t : List ℕ) (n : ℕ) → EndsAscii t n → EndsAscii (b ∷ t) (1 + n)
+one_row_later b t n h = (suc h.0, omega (arith, h.1), omega (arith, h.2), h.3)
 
 -- the length in an answer
 len_is : {A : Type 0} (x y : A × ℕ) → Some x ≡ Some y → x.1 ≡ y.1
@@ -35,11 +35,11 @@ ends_here : (b : ℕ) (t : List ℕ) (n : ℕ) → b < 128 → 1 ≡ n → EndsA
 ends_here b t n low e = (0, omega arith, omega arith, low)
 
 -- so many bytes further
-ends_behind : (b : ℕ) (t : List ℕ) (m n : ℕ) → EndsAscii t m → 1 + m ≡ n → EndsAscii (b ∷ t) n
-ends_behind b t m n h e = rw (← e) (behind_one b t m h)
+following_ends : (b : ℕ) (t : List ℕ) (m n : ℕ) → EndsAscii t m → 1 + m ≡ n → EndsAscii (b ∷ t) n
+following_ends b t m n h e = rw (← e) (one_row_later b t m h)
 
-ends_behind_two : (c b : ℕ) (t : List ℕ) (m n : ℕ) → EndsAscii t m → 2 + m ≡ n → EndsAscii (c ∷ b ∷ t) n
-ends_behind_two c b t m n h e = ends_behind c (b ∷ t) (1 + m) n (behind_one b t m h) (omega arith)
+following_ends_two : (c b : ℕ) (t : List ℕ) (m n : ℕ) → EndsAscii t m → 2 + m ≡ n → EndsAscii (c ∷ b ∷ t) n
+following_ends_two c b t m n h e = following_ends c (b ∷ t) (1 + m) n (one_row_later b t m h) (omega arith)
 
 mutual
   unfolding closing escaping
@@ -52,7 +52,7 @@ mutual
       | inl back ↦ escaping_ends b bs y back.1
       | inr plain ↦
           let x = beyond_some false 1 (closing bs) y plain.1 in
-          ends_behind b bs x.0.1 y.1 (closing_ends bs x.0 x.1) x.2
+          following_ends b bs x.0.1 y.1 (closing_ends bs x.0 x.1) x.2
     ]
   ]
 
@@ -61,11 +61,11 @@ mutual
   escaping_ends c (b ∷ bs) y h = elim (chosen (b == 40) h) [
     | inl here ↦
         let x = beyond_some true 2 (closing bs) y here.1 in
-        ends_behind_two c b bs x.0.1 y.1 (closing_ends bs x.0 x.1) x.2
+        following_ends_two c b bs x.0.1 y.1 (closing_ends bs x.0 x.1) x.2
     | inr on ↦
         let g = guard_then (is_some (escaped_character b)) on.1 in
         let x = beyond_some false 2 (closing bs) y g.1 in
-        ends_behind_two c b bs x.0.1 y.1 (closing_ends bs x.0 x.1) x.2
+        following_ends_two c b bs x.0.1 y.1 (closing_ends bs x.0 x.1) x.2
   ]
 
 quoted_ends : (f : TokenForm) (m : ℕ) (r : Option (Bool × ℕ)) (y : TokenForm × ℕ) → quoted f m r ≡ Some y → (x : Bool × ℕ) × (r ≡ Some x) × (m + x.1 ≡ y.1)
@@ -91,13 +91,13 @@ begins_is_name b h = grind arith
 dotted_ends : (t : List ℕ) (y : TokenForm × ℕ) → dotted t ≡ Some y → EndsAscii (46 ∷ t) y.1
 dotted_ends [] y h = ends_here 46 [] y.1 (omega arith) (len_is (form.Symbol, 1) y h)
 dotted_ends (b ∷ bs) y h = elim (chosen (b == 46) h) [
-  | inl dot ↦ ends_behind 46 (b ∷ bs) 1 y.1 (ends_here b bs 1 (omega (arith, add-one, eqb-true b 46 dot.0)) refl) (len_is (form.Foreign, 2) y dot.1)
+  | inl dot ↦ following_ends 46 (b ∷ bs) 1 y.1 (ends_here b bs 1 (omega (arith, add-one, eqb-true b 46 dot.0)) refl) (len_is (form.Foreign, 2) y dot.1)
   | inr on ↦ elim (chosen (b == 34) on.1) [
     | inl quote ↦
         let x = quoted_ends form.Quoted 2 (closing bs) y quote.1 in
-        ends_behind_two 46 b bs x.0.1 y.1 (closing_ends bs x.0 x.1) x.2
+        following_ends_two 46 b bs x.0.1 y.1 (closing_ends bs x.0 x.1) x.2
     | inr off ↦ elim (chosen (begins_name b) off.1) [
-      | inl name ↦ ends_behind 46 (b ∷ bs) (prefix_len is_name_byte (b ∷ bs)) y.1 (run_ends is_name_byte b bs name_ascii (begins_is_name b name.0)) (len_is (form.Name, 1 + prefix_len is_name_byte (b ∷ bs)) y name.1)
+      | inl name ↦ following_ends 46 (b ∷ bs) (prefix_len is_name_byte (b ∷ bs)) y.1 (run_ends is_name_byte b bs name_ascii (begins_is_name b name.0)) (len_is (form.Name, 1 + prefix_len is_name_byte (b ∷ bs)) y name.1)
       | inr alone ↦ ends_here 46 (b ∷ bs) y.1 (omega arith) (len_is (form.Symbol, 1) y alone.1)
     ]
   ]
@@ -113,7 +113,7 @@ fraction_ends (b ∷ (d ∷ ds)) = elim (cases_Bool (b == 46 && is_ascii_digit d
   | inl point ↦
       let b_is : b ≡ 46 = eqb-true b 46 (and_parts (b == 46) _ point).0 in
       let low : b < 128 = omega arith in
-      inr (rw point (ends_behind b (d ∷ ds) (prefix_len is_ascii_digit (d ∷ ds)) _ (run_ends is_ascii_digit d ds digit_ascii (and_parts (b == 46) _ point).1) refl))
+      inr (rw point (following_ends b (d ∷ ds) (prefix_len is_ascii_digit (d ∷ ds)) _ (run_ends is_ascii_digit d ds digit_ascii (and_parts (b == 46) _ point).1) refl))
   | inr none ↦ inl (rw none refl)
 ]
 
@@ -147,11 +147,11 @@ measure_ends [] y h = cc
 measure_ends (b ∷ bs) y h = elim (chosen (b == 34) h) [
   | inl quote ↦
       let x = quoted_ends form.Text 1 (closing bs) y quote.1 in
-      ends_behind b bs x.0.1 y.1 (closing_ends bs x.0 x.1) x.2
+      following_ends b bs x.0.1 y.1 (closing_ends bs x.0 x.1) x.2
   | inr h1 ↦ elim (chosen (b == 46) h1.1) [
     | inl dot ↦ let e : b ≡ 46 = eqb-true b 46 dot.0 in rw e (dotted_ends bs y dot.1)
     | inr h2 ↦ elim (chosen (b == 45 && front is_ascii_digit bs) h2.1) [
-      | inl minus ↦ ends_behind b bs (number_len bs) y.1 (number_ends bs (and_parts (b == 45) _ minus.0).1) (len_is (form.Number, 1 + number_len bs) y minus.1)
+      | inl minus ↦ following_ends b bs (number_len bs) y.1 (number_ends bs (and_parts (b == 45) _ minus.0).1) (len_is (form.Number, 1 + number_len bs) y minus.1)
       | inr h3 ↦ elim (chosen (is_ascii_digit b) h3.1) [
         | inl digit ↦ let e : number_len (b ∷ bs) ≡ y.1 = len_is (form.Number, number_len (b ∷ bs)) y digit.1 in subst (EndsAscii (b ∷ bs)) e (number_ends (b ∷ bs) digit.0)
         | inr h4 ↦ worded_ends b bs y h4.1

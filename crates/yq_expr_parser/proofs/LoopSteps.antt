@@ -6,7 +6,7 @@ use Rattle.yq_core.specs.Answers.{◌>>=◌}
 use Rattle.yq_expr_parser.{specs.ReadAnswers.{ParseFails, GivesForm, with_tokens, IsShorter}, specs.Lexing.{tokens, after}}
 use Rattle.yq_expr_parser.specs.Parse.{Parse, either, with_front, many, step_at, after_mark, parted_at, literal_at, field_at, stage_at}
 use Rattle.yq_expr_parser.specs.Parse.{term_at, parse_update}
-use Rattle.yq_expr_parser.proofs.Readers.{Lessens, many_next, Takes, Shortens, behind_takes, behind_shortens}
+use Rattle.yq_expr_parser.proofs.Readers.{Lessens, many_next, Takes, Shortens, preceded_takes, preceded_shortens}
 use Rattle.yq_expr_parser.proofs.PathTakes.{step_takes, next_shortens}
 use Rattle.yq_expr_parser.proofs.LiteralTakes.{literal_takes, literal_shortens, field_takes, field_shortens}
 use Rattle.yq_expr_parser.proofs.PipeTakes.{stage_takes, stage_shortens}
@@ -69,9 +69,9 @@ before_some {X} text o x b h is = let at : IsShorter text (Some (x, b)) = subst 
 pub onto_new : {X Y : Type 0} (v : X → Y) (xs : List X) (o : Option (List Y × List Token)) → xs ≡ [] → onto (map v xs) o ≡ o
 onto_new v xs o is = search rules
 
-behind_many : {A : Type 0} (s : List ℕ) (form : Parse A) → Lessens (after_mark s form) → (a : A) (ts : List Token)
+after_many : {A : Type 0} (s : List ℕ) (form : Parse A) → Lessens (after_mark s form) → (a : A) (ts : List Token)
     → with_front a (many (after_mark s form) ts) ≡ either (after s ts) (λ r. with_front a (parted_at s form r)) (Some (a ∷ [], ts))
-behind_many {A} s form less a ts = ap (with_front a) (many_next (after_mark s form) less ts) ∙ go (after s ts)
+after_many {A} s form less a ts = ap (with_front a) (many_next (after_mark s form) less ts) ∙ go (after s ts)
   where
     others : Option (Option (A × List Token)) → Option (List A × List Token)
     others o = o >>= λ o. either o (λ x. with_front x.0 (many (after_mark s form) x.1)) (Some ([], ts))
@@ -90,7 +90,7 @@ turn : {A : Type 0} (s : List ℕ) (form : Parse A) → Lessens (after_mark s fo
     → onto xs (either o (λ r. with_front x (parted_at s form r)) (Some (x ∷ [], r))) ≡ w
 turn s form less xs ts w h x r e o a =
     ap (λ o. onto xs (either o (λ r. with_front x (parted_at s form r)) (Some (x ∷ [], r)))) (sym a)
-    ∙ (ap (onto xs) (sym (behind_many s form less x r) ∙ sym (ap (λ o. o >>= λ y. with_front y.0 (many (after_mark s form) y.1)) e)) ∙ h)
+    ∙ (ap (onto xs) (sym (after_many s form less x r) ∙ sym (ap (λ o. o >>= λ y. with_front y.0 (many (after_mark s form) y.1)) e)) ∙ h)
 
 -- a form is read, and the mark is after it
 pub parted_more : {X Y : Type 0} (v : X → Y) (s : List ℕ) (form : Parse Y) → Lessens (after_mark s form) → (xs : List X) (ts : List Token) (w : Option (List Y × List Token))
@@ -117,20 +117,20 @@ parted_fails s form xs ts w h e f = search rules
 pub step_lessens : Lessens step_at
 step_lessens ts x h = next_shortens x.0 ts x.1 (step_takes ts x h)
 
-behind_lessens : {A : Type 0} (s : List ℕ) (at : Parse A) (Is : Production A) → Takes at Is → Shortens Is → Lessens (after_mark s at)
-behind_lessens s at Is takes less ts x h = behind_shortens s Is less x.0 ts x.1 (behind_takes s at Is takes ts x h)
+after_lessens : {A : Type 0} (s : List ℕ) (at : Parse A) (Is : Production A) → Takes at Is → Shortens Is → Lessens (after_mark s at)
+after_lessens s at Is takes less ts x h = preceded_shortens s Is less x.0 ts x.1 (preceded_takes s at Is takes ts x h)
 
 pub item_lessens : (depth : ℕ) → Lessens (after_mark (codes ",") (literal_at depth))
-item_lessens depth = behind_lessens (codes ",") (literal_at depth) (IsLiteral depth) (literal_takes depth) (literal_shortens depth)
+item_lessens depth = after_lessens (codes ",") (literal_at depth) (IsLiteral depth) (literal_takes depth) (literal_shortens depth)
 
 pub field_lessens : (depth : ℕ) → Lessens (after_mark (codes ",") (field_at (literal_at depth)))
-field_lessens depth = behind_lessens (codes ",") (field_at (literal_at depth)) (IsField (IsLiteral depth)) (field_takes (literal_at depth) (IsLiteral depth) (literal_takes depth)) (field_shortens (IsLiteral depth) (literal_shortens depth))
+field_lessens depth = after_lessens (codes ",") (field_at (literal_at depth)) (IsField (IsLiteral depth)) (field_takes (literal_at depth) (IsLiteral depth) (literal_takes depth)) (field_shortens (IsLiteral depth) (literal_shortens depth))
 
 pub stage_lessens : Lessens (after_mark (codes "|") stage_at)
-stage_lessens = behind_lessens (codes "|") stage_at IsStage stage_takes stage_shortens
+stage_lessens = after_lessens (codes "|") stage_at IsStage stage_takes stage_shortens
 
 pub term_lessens : Lessens (after_mark (codes "+") (term_at literal_depth))
-term_lessens = behind_lessens (codes "+") (term_at literal_depth) IsTerm term_takes term_shortens
+term_lessens = after_lessens (codes "+") (term_at literal_depth) IsTerm term_takes term_shortens
 
 pub update_lessens : Lessens (after_mark (codes "|") (parse_update literal_depth))
-update_lessens = behind_lessens (codes "|") (parse_update literal_depth) IsUpdate update_takes update_shortens
+update_lessens = after_lessens (codes "|") (parse_update literal_depth) IsUpdate update_takes update_shortens

@@ -9,7 +9,7 @@ use Rattle.yq_expr_parser.specs.Lexing.{after, taken, as_string}
 use Rattle.yq_expr_parser.specs.Parse.{Parse, parenthesized_at, path_at, parse_scalar, operand_at, comparison_at, condition_at, stage_at}
 use Rattle.yq_expr_parser.specs.Parse.{pipe_at, left_at}
 use Rattle.yq_expr_parser.proofs.Readers.{either_cases, after_takes, string_takes, Takes, Shortens, same_form, parted_takes, closed_takes}
-use Rattle.yq_expr_parser.proofs.Readers.{behind_shortens, parted_shortens, between_shortens}
+use Rattle.yq_expr_parser.proofs.Readers.{preceded_shortens, parted_shortens, between_shortens}
 use Rattle.yq_expr_parser.{proofs.PathTakes.{path_takes, path_shortens}, proofs.LiteralTakes.{scalar_takes, scalar_shortens}}
 
 simple_is : (steps : List PathStep) → is_simple steps ≡ true → IsSimple steps
@@ -55,7 +55,7 @@ condition_shortens : Shortens IsCondition
 condition_shortens t ts rest h = search (rules, scalar_shortens, operand_shortens)
 
 pub stage_shortens : Shortens IsStage
-stage_shortens steps ts rest h = search (rules, path_shortens, behind_shortens, between_shortens, condition_shortens)
+stage_shortens steps ts rest h = search (rules, path_shortens, preceded_shortens, between_shortens, condition_shortens)
 
 pub pipe_takes : Takes pipe_at IsPipe
 unfolding pipe_at

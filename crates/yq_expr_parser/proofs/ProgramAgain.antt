@@ -4,14 +4,14 @@ use Rattle.std.{specs.Str.bytes_eq, proofs.lemmas.Bool.false≢true, proofs.lemm
 use Rattle.yq_semantics.{specs.declared.program.Operator.Operator, specs.declared.program.CommentPlace.CommentPlace}
 use Rattle.yq_semantics.specs.Program.{Stage, Update, assign, delete, comment, Program, read, updates}
 use Rattle.yq_semantics.specs.Tokens.{Token, string, symbol}
-use Rattle.yq_semantics.specs.Grammar.{HasSymbol, Are, Behind, AreParted, IsStage, IsPipe, IsLeft, literal_depth, operator_mark, place_word}
-use Rattle.yq_semantics.specs.Grammar.{IsUpdate, IsProgram}
+use Rattle.yq_semantics.specs.Grammar.{HasSymbol, Are, Preceded, AreParted, IsStage, IsPipe, IsLeft, literal_depth, operator_mark}
+use Rattle.yq_semantics.specs.Grammar.{place_word, IsUpdate, IsProgram}
 use Rattle.yq_expr_parser.{specs.Parse.{pipe_at, whole_form, updates_at, program_at}, proofs.Readers.second, proofs.UpdateTakes.whole_takes}
 use Rattle.yq_expr_parser.{proofs.PipeTakes.pipe_takes, proofs.FormsAgain.Ends, proofs.PathAgain.{BeginsPath, path_begins, path_again}}
 use Rattle.yq_expr_parser.{proofs.PipeAgain.pipe_again, proofs.UpdateAgain.updates_again}
 
 -- what follows the first stage of a pipe that is all
-pipe_goes_on : (stages : List Stage) (ts : List Token) → Are (Behind (codes "|") IsStage) stages ts [] → (ts ≡ []) ⊎ ((r : List Token) × HasSymbol (codes "|") ts r)
+pipe_goes_on : (stages : List Stage) (ts : List Token) → Are (Preceded (codes "|") IsStage) stages ts [] → (ts ≡ []) ⊎ ((r : List Token) × HasSymbol (codes "|") ts r)
 pipe_goes_on [] ts h = inl h
 pipe_goes_on (s ∷ stages) ts h = inr (h.1.0, h.1.1)
 

@@ -3,7 +3,7 @@ use Rattle.std.proofs.Common.{◌≡◌, ◌⊎◌, ℕ, zero, suc, ◌+◌, ◌
 use Rattle.std.{proofs.Common.{inl, inr, arith, rules}, proofs.lemmas.Option.{cond_some, same_Some}, specs.Prelude.option_map}
 use Rattle.yq_core.{specs.Answers.◌>>=◌, proofs.Bools.bind_some}
 use Rattle.yq_semantics.specs.Tokens.{Token, is_symbol, string, number, step, symbol}
-use Rattle.yq_semantics.specs.Grammar.{Production, HasSymbol, Are, Behind, AreParted, Between}
+use Rattle.yq_semantics.specs.Grammar.{Production, HasSymbol, Are, Preceded, AreParted, Between}
 use Rattle.yq_expr_parser.specs.Lexing.{after, taken, as_number, as_string, as_step}
 use Rattle.yq_expr_parser.specs.Parse.{Parse, either, with_front, many_in, many, after_mark, parted_at, closed_at}
 
@@ -91,14 +91,14 @@ pub many_takes : {A : Type 0} (next : List Token → Option (Option (A × List T
 unfolding many
 many_takes next Is takes ts = many_in_takes next Is takes (1 + length ts) ts
 
-pub behind_takes : {A : Type 0} (s : List ℕ) (at : Parse A) (Is : Production A) → Takes at Is → TakesMaybe (after_mark s at) (Behind s Is)
-behind_takes s at Is takes ts x h = search (rules, either_cases, bind_some, after_takes, same_form, same_Some)
+pub preceded_takes : {A : Type 0} (s : List ℕ) (at : Parse A) (Is : Production A) → Takes at Is → TakesMaybe (after_mark s at) (Preceded s Is)
+preceded_takes s at Is takes ts x h = search (rules, either_cases, bind_some, after_takes, same_form, same_Some)
 
 pub parted_takes : {A : Type 0} (s : List ℕ) (at : Parse A) (Is : Production A) → Takes at Is → Takes (parted_at s at) (AreParted s Is)
 parted_takes s at Is takes ts x h =
     let y = bind_some (at ts) h in
     let w = with_front_some y.0.0 (many (after_mark s at) y.0.1) x y.2 in
-    let others = many_takes (after_mark s at) (Behind s Is) (behind_takes s at Is takes) y.0.1 w.0 w.1 in
+    let others = many_takes (after_mark s at) (Preceded s Is) (preceded_takes s at Is takes) y.0.1 w.0 w.1 in
     same_form (AreParted s Is) ts w.2 (y.0.1, takes ts y.0 y.1, others)
 
 -- a form and then the mark
@@ -116,11 +116,11 @@ many_shortens Is less (x ∷ xs) ts rest h =
     let others = many_shortens Is less xs h.0 rest h.2 in
     omega arith
 
-pub behind_shortens : {A : Type 0} (s : List ℕ) (Is : Production A) → Shortens Is → Shortens (Behind s Is)
-behind_shortens s Is less x ts rest h = search rules
+pub preceded_shortens : {A : Type 0} (s : List ℕ) (Is : Production A) → Shortens Is → Shortens (Preceded s Is)
+preceded_shortens s Is less x ts rest h = search rules
 
 pub parted_shortens : {A : Type 0} (s : List ℕ) (Is : Production A) → Shortens Is → Shortens (AreParted s Is)
-parted_shortens s Is h1 = search (rules, many_shortens, behind_shortens)
+parted_shortens s Is h1 = search (rules, many_shortens, preceded_shortens)
 
 pub between_shortens : {A : Type 0} (opening closing : List ℕ) (Is : Production A) → Shortens Is → Shortens (Between opening closing Is)
 between_shortens opening closing Is less x ts rest h = search rules

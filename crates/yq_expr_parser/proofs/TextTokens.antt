@@ -27,10 +27,10 @@ token_next t white piece rest blank is =
     let m = measure_again t piece rest is in
     let front_is = token_front u (m.0, length piece) m.1 in
     let len = run_len is_token_blank white u blank front_is.0 in
-    let behind : drop (length white) (white ++ u) ≡ u = drop-append_seam white u in
+    let after : drop (length white) (white ++ u) ≡ u = drop-append_seam white u in
     let taken : take (length piece) (piece ++ rest) ≡ piece = take-append_seam piece rest in
     let left : drop (length piece) (piece ++ rest) ≡ rest = drop-append_seam piece rest in
-    ap (λ (n : ℕ). front_token (drop n (white ++ u))) len ∙ (ap front_token behind ∙ (front_is.1 ∙ rw (taken, left, m.2) refl))
+    ap (λ (n : ℕ). front_token (drop n (white ++ u))) len ∙ (ap front_token after ∙ (front_is.1 ∙ rw (taken, left, m.2) refl))
 
 pub of_string : (make : List ℕ → Token) → ((c : List ℕ) → make c ≡ unread → ⊥) → (t : Token) (b : Bool) (c : List ℕ) → t ≡ cond b foreign (make c) → t ≡ unread → ⊥
 of_string make never t b c h e = search rules

@@ -11,7 +11,7 @@ use Rattle.yq_expr_parser.specs.Lexing.{after, taken, as_string}
 use Rattle.yq_expr_parser.specs.Parse.{Parse, term_at, right_at, operator_at, place_at, action_at, parse_update, all_read, updates_at}
 use Rattle.yq_expr_parser.specs.Parse.{program_at}
 use Rattle.yq_expr_parser.proofs.Readers.{either_cases, after_takes, string_takes, Takes, Shortens, same_form, parted_takes}
-use Rattle.yq_expr_parser.proofs.Readers.{behind_shortens, parted_shortens, between_shortens}
+use Rattle.yq_expr_parser.proofs.Readers.{preceded_shortens, parted_shortens, between_shortens}
 use Rattle.yq_expr_parser.proofs.LiteralTakes.{literal_takes, literal_shortens}
 use Rattle.yq_expr_parser.proofs.PipeTakes.{parenthesized_takes, pipe_takes, pipe_shortens, left_takes, left_shortens}
 
@@ -62,7 +62,7 @@ update_shortens (assign left op right) ts rest h =
     let mid = ap length h.3 in
     let last = right_shortens right h.1 rest h.4 in
     omega arith
-update_shortens (delete stages) ts rest h = behind_shortens (codes "del") (InParentheses IsPipe) (between_shortens (codes "(") (codes ")") IsPipe pipe_shortens) stages ts rest h
+update_shortens (delete stages) ts rest h = preceded_shortens (codes "del") (InParentheses IsPipe) (between_shortens (codes "(") (codes ")") IsPipe pipe_shortens) stages ts rest h
 update_shortens (comment left p text) ts rest h =
     let front = left_shortens left ts h.0 h.1 in
     omega (arith, ap length h.2)

@@ -136,13 +136,13 @@ pub(crate) fn pattern_left(text: &str) -> usize {
     let mut is_key = false;
     let mut opens_list = false;
     let mut rest = text;
-    'tokens: while let Some((token, behind)) = split_token(rest) {
+    'tokens: while let Some((token, after)) = split_token(rest) {
         if is_pattern(token.piece()) && (is_key || token.is_step()) {
             return left_of(rest);
         }
         is_key = precedes_key(token, opens_list);
         opens_list = precedes_list(token);
-        rest = behind;
+        rest = after;
     }
     0
 }

@@ -47,7 +47,7 @@ pub(crate) fn survey(text: &str) -> Result<(bool, usize), ParseError>
     let mut closed = 0;
     let mut rest = text;
     'tokens: loop {
-        let Some((token, behind)) = split_token(rest) else {
+        let Some((token, after)) = split_token(rest) else {
             return Ok((other, left));
         };
         if token.is_unread() {
@@ -57,6 +57,6 @@ pub(crate) fn survey(text: &str) -> Result<(bool, usize), ParseError>
         closed = counted(is_closing(token), closed);
         left = first_left(other, left, rest);
         other = other || token.is_foreign() || closed + MAX_OPEN < opened;
-        rest = behind;
+        rest = after;
     }
 }

@@ -16,7 +16,8 @@ open_begins : (flow : Bool) (k : ℕ) (t : List ℕ) → begins_content flow (op
 open_begins flow k t = cond_both (eqb k 125) 123 91 (λ (b : ℕ). begins_content flow (b ∷ t) ≡ true) (λ _. refl) (λ _. refl)
 
 -- What is known of a collection in a node, and of the node with another one in its place.
-pub record Stands (flow : Bool) (spaces : Option ℕ) (d : ℕ) (node : FlowNode) (rest : List ℕ) (c : CollPieces) (deep : ℕ) (put : List ℕ → Items → FlowNode) (changed : (tree.Children → tree.Children) → tree.Node → tree.Node) : Type 0 where
+pub record IsLocatedAt (flow : Bool) (spaces : Option ℕ) (d : ℕ) (node : FlowNode) (rest : List ℕ) (c : CollPieces) (deep : ℕ)
+    (put : List ℕ → Items → FlowNode) (changed : (tree.Children → tree.Children) → tree.Node → tree.Node) : Type 0 where
   pub inner_depth : ℕ
   pub depths : d ≡ suc (deep + inner_depth)
   pub closes : is_close c.close ≡ true
@@ -52,14 +53,14 @@ lead_open : (flow : Bool) (g : List ℕ) (k : ℕ) (t u : List ℕ) → not (is_
 lead_open flow g k t u some h = search (rules, apart_open, open_begins, false≢true)
 
 -- the collection of a node
-pub coll_stands : (flow : Bool) (spaces : Option ℕ) (d : ℕ) (node : FlowNode) (rest : List ℕ) (c : CollPieces) → IsFlowNode flow spaces d node rest →
-    coll_in node rest ≡ Some c → Stands flow spaces d node rest c 0 (λ g is. put_coll g is node) within
+pub coll_is_there : (flow : Bool) (spaces : Option ℕ) (d : ℕ) (node : FlowNode) (rest : List ℕ) (c : CollPieces) → IsFlowNode flow spaces d node rest →
+    coll_in node rest ≡ Some c → IsLocatedAt flow spaces d node rest c 0 (λ g is. put_coll g is node) within
 unfolding node_text IsFlowNode tree_of
-coll_stands flow spaces d empty rest c x h = cc
-coll_stands flow spaces d (alias n) rest c x h = cc
-coll_stands flow spaces d (scalar p) rest c x h = cc
-coll_stands flow spaces zero (coll k g is) rest c x h = absurd x.2
-coll_stands flow spaces (suc d) (coll k g is) rest c x h = subst (λ (c : CollPieces). Stands flow spaces (suc d) (coll k g is) rest c 0 (λ g2 is2. coll k g2 is2) within) (same_Some _ _ h) (record {
+coll_is_there flow spaces d empty rest c x h = cc
+coll_is_there flow spaces d (alias n) rest c x h = cc
+coll_is_there flow spaces d (scalar p) rest c x h = cc
+coll_is_there flow spaces zero (coll k g is) rest c x h = absurd x.2
+coll_is_there flow spaces (suc d) (coll k g is) rest c x h = subst (λ (c : CollPieces). IsLocatedAt flow spaces (suc d) (coll k g is) rest c 0 (λ g2 is2. coll k g2 is2) within) (same_Some _ _ h) (record {
   inner_depth = d;
   depths = omega arith;
   closes = x.0;
@@ -75,13 +76,13 @@ coll_stands flow spaces (suc d) (coll k g is) rest c x h = subst (λ (c : CollPi
   like = λ g2 is2. stop (open_stop k);
   new_tree = λ g2 is2 f e. collection_within k f (items_tree is) (items_tree is2) e;
 })
-coll_stands flow spaces d (anchored n g empty) rest c x h = cc
-coll_stands flow spaces d (anchored n g (alias m)) rest c x h = cc
-coll_stands flow spaces d (anchored n g (scalar p)) rest c x h = cc
-coll_stands flow spaces d (anchored n g (anchored m q node)) rest c x h = absurd (false≢true x.3)
-coll_stands flow spaces zero (anchored n g (coll k q is)) rest c x h = absurd x.4.2
-coll_stands flow spaces (suc d) (anchored n g (coll k q is)) rest c x h =
-    subst (λ (c : CollPieces). Stands flow spaces (suc d) (anchored n g (coll k q is)) rest c 0 (λ g2 is2. anchored n g (coll k g2 is2)) within)
+coll_is_there flow spaces d (anchored n g empty) rest c x h = cc
+coll_is_there flow spaces d (anchored n g (alias m)) rest c x h = cc
+coll_is_there flow spaces d (anchored n g (scalar p)) rest c x h = cc
+coll_is_there flow spaces d (anchored n g (anchored m q node)) rest c x h = absurd (false≢true x.3)
+coll_is_there flow spaces zero (anchored n g (coll k q is)) rest c x h = absurd x.4.2
+coll_is_there flow spaces (suc d) (anchored n g (coll k q is)) rest c x h =
+    subst (λ (c : CollPieces). IsLocatedAt flow spaces (suc d) (anchored n g (coll k q is)) rest c 0 (λ g2 is2. anchored n g (coll k g2 is2)) within)
     (same_Some _ _ h) (record {
       inner_depth = d;
       depths = omega arith;

@@ -7,7 +7,7 @@ use Rattle.yq_core.{specs.Nodes.AreFlowItems, specs.Entries.{EntryPieces, item_a
 use Rattle.yq_core.specs.Collections.{CollPieces, coll_text, coll_in, coll_along, put_coll, within_items, change_item, collection_put}
 use Rattle.yq_core.{specs.Trees.tree_of, proofs.AlikePieces.gap_alike, proofs.PathLaws.{then_some, items_hold}}
 use Rattle.yq_flow_edits.{proofs.ItemPlaces.item_rest, proofs.ItemSwaps.{items_change, in_items, Swapped, InItems, items_swap}}
-use Rattle.yq_flow_edits.proofs.CollLaws.{coll_stands, Stands}
+use Rattle.yq_flow_edits.proofs.CollLaws.{coll_is_there, IsLocatedAt}
 
 -- the collection in which a step finds its item
 pub inside_coll : (s : Step) (node : FlowNode) (rest : List ℕ) (y : EntryPieces) → path_inside s node rest ≡ Some y → (c : CollPieces) × (coll_in node rest ≡ Some c) × (item_at c.close s c.items c.rest ≡ Some y)
@@ -26,9 +26,9 @@ regroup a b c d x = ap (λ l. a ++ (b ++ l)) (sym (append_assoc c d x)) ∙ (sym
 -- one step up
 step_up : (flow : Bool) (spaces : Option ℕ) (d : ℕ) (node : FlowNode) (rest : List ℕ) (s : Step) (ss : List Step) (y : EntryPieces) (c : CollPieces)
     (outer : CollPieces) → (item_at outer.close s outer.items outer.rest ≡ Some y) → coll_in node rest ≡ Some outer →
-    (o : Stands flow spaces d node rest outer 0 (λ g is. put_coll g is node) within) →
-    Stands true (Some 0) o.inner_depth y.node y.rest c (length ss) (λ g is. collection_put ss g is y.node) (λ h. changed_at ss (within h)) →
-    Stands flow spaces d node rest c (length (s ∷ ss)) (λ g is. collection_put (s ∷ ss) g is node) (λ h. changed_at (s ∷ ss) (within h))
+    (o : IsLocatedAt flow spaces d node rest outer 0 (λ g is. put_coll g is node) within) →
+    IsLocatedAt true (Some 0) o.inner_depth y.node y.rest c (length ss) (λ g is. collection_put ss g is y.node) (λ h. changed_at ss (within h)) →
+    IsLocatedAt flow spaces d node rest c (length (s ∷ ss)) (λ g is. collection_put (s ∷ ss) g is node) (λ h. changed_at (s ∷ ss) (within h))
 step_up flow spaces d node rest s ss y c outer at in_ o i = record {
   inner_depth = i.inner_depth;
   depths = omega (arith, o.depths, i.depths);
@@ -65,13 +65,13 @@ step_up flow spaces d node rest s ss y c outer at in_ o i = record {
   wrap t x e = ap (λ l. o.before ++ (opening_bracket outer.close ∷ (outer.gap ++ l))) e ∙ regroup o.before (opening_bracket outer.close ∷ outer.gap) found.before i.before x
 
 -- the collection to which steps lead, exchanged for another one
-pub path_stands : (flow : Bool) (spaces : Option ℕ) (ss : List Step) (d : ℕ) (node : FlowNode) (rest : List ℕ) (c : CollPieces) →
+pub path_is_there : (flow : Bool) (spaces : Option ℕ) (ss : List Step) (d : ℕ) (node : FlowNode) (rest : List ℕ) (c : CollPieces) →
     IsFlowNode flow spaces d node rest → coll_along ss node rest ≡ Some c →
-    Stands flow spaces d node rest c (length ss) (λ g is. collection_put ss g is node) (λ h. changed_at ss (within h))
-path_stands flow spaces [] d node rest c x h = coll_stands flow spaces d node rest c x h
-path_stands flow spaces (s ∷ ss) d node rest c x h =
+    IsLocatedAt flow spaces d node rest c (length ss) (λ g is. collection_put ss g is node) (λ h. changed_at ss (within h))
+path_is_there flow spaces [] d node rest c x h = coll_is_there flow spaces d node rest c x h
+path_is_there flow spaces (s ∷ ss) d node rest c x h =
     let y = then_some (path_inside s node rest) h in
     let outer = inside_coll s node rest y.0 y.1 in
-    let o = coll_stands flow spaces d node rest outer.0 x outer.1 in
+    let o = coll_is_there flow spaces d node rest outer.0 x outer.1 in
     let there = items_hold o.inner_depth outer.0.close s outer.0.items outer.0.rest y.0 o.items outer.2 in
-    step_up flow spaces d node rest s ss y.0 c outer.0 outer.2 outer.1 o (path_stands true (Some 0) ss o.inner_depth y.0.node y.0.rest c there y.2)
+    step_up flow spaces d node rest s ss y.0 c outer.0 outer.2 outer.1 o (path_is_there true (Some 0) ss o.inner_depth y.0.node y.0.rest c there y.2)

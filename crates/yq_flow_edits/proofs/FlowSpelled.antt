@@ -14,7 +14,7 @@ entry_spells k v utf8 is = record {
   key = flow_key (Some k);
   node = flow_of v;
   written = λ rest. ap (λ l. front ++ (58 ∷ (32 ∷ l))) (node_then (flow_of v) rest) ∙ (sym (append_assoc front (58 ∷ (32 ∷ [])) (flow_text v ++ rest)) ∙ sym (append_assoc (front ++ (58 ∷ (32 ∷ []))) (flow_text v) rest));
-  stands = λ d rest deep ends. item_fits 125 d (key_label (Some k)) v rest refl ends (k, refl, utf8) is deep;
+  is_located = λ d rest deep ends. item_fits 125 d (key_label (Some k)) v rest refl ends (k, refl, utf8) is deep;
   same_key = ap (λ (l : tree.Label). l.key) (entries_fit.same (key_label (Some k)) (k, refl, utf8));
   same = written_tree v is;
 } where

@@ -14,21 +14,21 @@ use Rattle.yq_core.{proofs.KeepLaws.{NotEmpty, some_text, gap_some, keeps_append
 use Rattle.yq_core.{proofs.NodeKeeps.{node_keeps, sep_ends, key_text_alike, node_text_alike}, proofs.NodeAgain.item_front}
 use Rattle.yq_core.{proofs.NodesPieceLaws.{scalar_begins, scalar_some}, proofs.NodesWrittenLaws.{node_then, key_append}}
 use Rattle.yq_core.specs.Tree.{key_label}
-use Rattle.yq_flow_edits.specs.FlowEdits.{Becomes, space_for, put_content, put_item, put_value, FitsNode, add_item, is_none, behind_last}
+use Rattle.yq_flow_edits.specs.FlowEdits.{Becomes, space_for, put_content, put_item, put_value, FitsNode, add_item, is_none, after_last}
 use Rattle.yq_flow_edits.{specs.FlowEdits.FitsItem, specs.Removals.{is_marks, ends_marked, ends_return, IsApartFrom}}
 use Rattle.yq_flow_edits.{proofs.ItemSwaps.item_cut, proofs.LocalLaws.{Front, filled, space_before}}
 use Rattle.yq_core.specs.Tree as tree
 
 -- Items of a collection are replaced by others, with this tree: these come before the same rest, a gap before the ones may come before the others, and
 -- bytes of their text are replaced by others.
-pub record Local (d k : ℕ) (is new : Items) (cs : tree.Children) (rest old fresh_ behind : List ℕ) : Type 0 where
+pub record Local (d k : ℕ) (is new : Items) (cs : tree.Children) (rest old fresh_ after : List ℕ) : Type 0 where
   pub tree : items_tree new ≡ cs
   pub are : AreFlowItems d k new rest
   pub front : Front (flow_items_text k is rest) (flow_items_text k new rest)
-  pub text : Becomes (flow_items_text k is rest) (flow_items_text k new rest) old fresh_ behind
+  pub text : Becomes (flow_items_text k is rest) (flow_items_text k new rest) old fresh_ after
 
 -- an item before another text after its node
-pub record ItemStands (d k : ℕ) (key : Key) (n : FlowNode) (u : List ℕ) : Type 0 where
+pub record ItemIsThere (d k : ℕ) (key : Key) (n : FlowNode) (u : List ℕ) : Type 0 where
   pub key_is : IsInlineKey k key (node_text n u)
   pub node_is : IsFlowNode true (Some 0) d n u
 
@@ -40,7 +40,7 @@ keeps_node f (keyed p b g) n t u h =
     (fresh false g, keeps_append g false (node_text n []) t u q.2)
 
 pub item_keeps : (d k : ℕ) (f : Bool) (key : Key) (n : FlowNode) (t u : List ℕ) → is_close k ≡ true → EndsItem k t → EndsItem k u →
-    KeepsApart f (key_text key (node_text n [])) t u → IsInlineKey k key (node_text n t) → IsFlowNode true (Some 0) d n t → ItemStands d k key n u
+    KeepsApart f (key_text key (node_text n [])) t u → IsInlineKey k key (node_text n t) → IsFlowNode true (Some 0) d n t → ItemIsThere d k key n u
 item_keeps d k f key n t u c e h keeps x y =
     let inner_ = keeps_node f key n t u keeps in
     search (rules, node_keeps, key_keeps)
@@ -51,38 +51,38 @@ pub item_begins : (d k : ℕ) (key : Key) (n : FlowNode) (r : List ℕ) → IsIn
 item_begins d k key n r h1 h2 h3 = search (rules, some_begins, not-true, or_right, scalar_begins)
 
 -- bytes before an item's text
-pub put_before : (p t u old new behind : List ℕ) → Becomes t u old new behind → Becomes (p ++ t) (p ++ u) old new behind
-put_before p t u old new behind h = record {
+pub put_before : (p t u old new after : List ℕ) → Becomes t u old new after → Becomes (p ++ t) (p ++ u) old new after
+put_before p t u old new after h = record {
   before = p ++ h.before;
-  was = ap (λ l. p ++ l) h.was ∙ sym (append_assoc p h.before (old ++ behind));
-  is = ap (λ l. p ++ l) h.is ∙ sym (append_assoc p h.before (new ++ behind));
+  was = ap (λ l. p ++ l) h.was ∙ sym (append_assoc p h.before (old ++ after));
+  is = ap (λ l. p ++ l) h.is ∙ sym (append_assoc p h.before (new ++ after));
 }
 
-pub becomes_same : (t u x y old new behind : List ℕ) → t ≡ x → u ≡ y → Becomes x y old new behind → Becomes t u old new behind
-becomes_same t u x y old new behind a b h = record { before = h.before; was = a ∙ h.was; is = b ∙ h.is }
+pub becomes_same : (t u x y old new after : List ℕ) → t ≡ x → u ≡ y → Becomes x y old new after → Becomes t u old new after
+becomes_same t u x y old new after a b h = record { before = h.before; was = a ∙ h.was; is = b ∙ h.is }
 
 -- after an item that others follow is a comma
 pub comma_like : (b g h t u : List ℕ) → Alike (Some true) (b ++ (44 ∷ (g ++ t))) (b ++ (44 ∷ (h ++ u)))
 comma_like b g h t u = alike_append (Some true) b (44 ∷ (g ++ t)) (44 ∷ (h ++ u)) (stop refl)
 
-pub cons_local : (d k : ℕ) (key : Key) (n : FlowNode) (sep : Sep) (is new : Items) (cs : tree.Children) (rest old fresh_ behind : List ℕ) → is_close k ≡ true → is_none is ≡ false → AreFlowItems d k (item key n sep is) rest →
-    Local d k is new cs rest old fresh_ behind → Local d k (item key n sep is) (item key n sep new) (tree.child (key_label (key_content key)) (tree_of n) cs) rest old fresh_ behind
+pub cons_local : (d k : ℕ) (key : Key) (n : FlowNode) (sep : Sep) (is new : Items) (cs : tree.Children) (rest old fresh_ after : List ℕ) → is_close k ≡ true → is_none is ≡ false → AreFlowItems d k (item key n sep is) rest →
+    Local d k is new cs rest old fresh_ after → Local d k (item key n sep is) (item key n sep new) (tree.child (key_label (key_content key)) (tree_of n) cs) rest old fresh_ after
 unfolding flow_items_text AreFlowItems items_tree
-cons_local d k key n sep none new cs rest old fresh_ behind c some a l = absurd (false≢true (sym some))
-cons_local d k key n (last b) (item key2 n2 sep2 is) new cs rest old fresh_ behind c some a l = search (rules, false≢true, item_front)
-cons_local d k key n (comma b g) (item key2 n2 sep2 is) new cs rest old fresh_ behind c some a l =
+cons_local d k key n sep none new cs rest old fresh_ after c some a l = absurd (false≢true (sym some))
+cons_local d k key n (last b) (item key2 n2 sep2 is) new cs rest old fresh_ after c some a l = search (rules, false≢true, item_front)
+cons_local d k key n (comma b g) (item key2 n2 sep2 is) new cs rest old fresh_ after c some a l =
     let t : List ℕ = flow_items_text k (item key2 n2 sep2 is) rest in
     let u : List ℕ = flow_items_text k new rest in
     let like = comma_like b g g t u in
     let sep_is : IsSep k (comma b g) u = (gap_alike (Some true) b (44 ∷ (g ++ t)) (44 ∷ (g ++ u)) (stop refl) a.3.0, l.front g a.3.1) in
     let e = sep_ends k (comma b g) t a.3 in
     let h = sep_ends k (comma b g) u sep_is in
-    let stands = item_keeps d k false key n (b ++ (44 ∷ (g ++ t))) (b ++ (44 ∷ (g ++ u))) c e h (keeps_alike (Some true) false (key_text key (node_text n [])) _ _ like) a.0 a.2 in
+    let is_located = item_keeps d k false key n (b ++ (44 ∷ (g ++ t))) (b ++ (44 ∷ (g ++ u))) c e h (keeps_alike (Some true) false (key_text key (node_text n [])) _ _ like) a.0 a.2 in
     record {
       tree = ap (tree.child (key_label (key_content key)) (tree_of n)) l.tree;
-      are = (stands.key_is, a.1, stands.node_is, sep_is, l.are);
+      are = (is_located.key_is, a.1, is_located.node_is, sep_is, l.are);
       front = λ q x. gap_alike (Some true) q _ _ (key_text_alike key _ _ (node_text_alike (Some true) n (b ++ (44 ∷ (g ++ t))) (b ++ (44 ∷ (g ++ u))) like)) x;
-      text = becomes_same _ _ _ _ old fresh_ behind (item_cut key n (comma b g) t) (item_cut key n (comma b g) u) (put_before (key_text key (node_text n (sep_text (comma b g) []))) t u old fresh_ behind l.text);
+      text = becomes_same _ _ _ _ old fresh_ after (item_cut key n (comma b g) t) (item_cut key n (comma b g) u) (put_before (key_text key (node_text n (sep_text (comma b g) []))) t u old fresh_ after l.text);
     }
 
 pub some_items : (k : ℕ) (s : Step) (is : Items) (rest : List ℕ) (y : EntryPieces) → item_at k s is rest ≡ Some y → is_none is ≡ false
@@ -184,8 +184,8 @@ pub gap_before : (d k : ℕ) (key : Key) (n : FlowNode) (t u q : List ℕ) → I
 gap_before d k key n t u q h s x keeps gap = search (rules, node_then, key_append, gap_some, item_some)
 
 -- one more after the last
-pub add_local : (d k : ℕ) (key : Key) (m : FlowNode) (gap : List ℕ) (is : Items) (rest : List ℕ) → is_close k ≡ true → is_none is ≡ false → AreFlowItems d k is rest → FitsItem d k key m (behind_last k gap is rest) →
-    Local d k is (add_item key m gap is) (append_child (key_label (key_content key)) (tree_of m) (items_tree is)) rest [] (44 ∷ (32 ∷ key_text key (node_text m []))) (behind_last k gap is rest)
+pub add_local : (d k : ℕ) (key : Key) (m : FlowNode) (gap : List ℕ) (is : Items) (rest : List ℕ) → is_close k ≡ true → is_none is ≡ false → AreFlowItems d k is rest → FitsItem d k key m (after_last k gap is rest) →
+    Local d k is (add_item key m gap is) (append_child (key_label (key_content key)) (tree_of m) (items_tree is)) rest [] (44 ∷ (32 ∷ key_text key (node_text m []))) (after_last k gap is rest)
 unfolding flow_items_text AreFlowItems items_tree
 add_local d k key m gap none rest c some a f = absurd (false≢true (sym some))
 add_local d k key m gap (item j n sep none) rest c some a f =
@@ -197,7 +197,7 @@ add_local d k key m gap (item j n sep none) rest c some a f =
     let e = sep_ends k sep (k ∷ rest) a.3 in
     let h = sep_ends k (comma [] (32 ∷ [])) x sep_is in
     let keeps : (f : Bool) → KeepsApart f (key_text j (node_text n [])) t u = λ f. keeps_from f (key_text j (node_text n [])) t u (record { dash = refl; dot = refl }) (comma_apart f (key_text j (node_text n [])) (32 ∷ x)) in
-    let stands = item_keeps d k false j n t u c e h (keeps false) a.0 a.2 in
+    let is_located = item_keeps d k false j n t u c e h (keeps false) a.0 a.2 in
     search (rules, gap_before, node_then, key_append)
 add_local d k key m gap (item j n sep (item j2 n2 sep2 is)) rest c some a f =
     cons_local d k j n sep (item j2 n2 sep2 is) (add_item key m gap (item j2 n2 sep2 is)) _ rest [] _ _ c refl a (add_local d k key m gap (item j2 n2 sep2 is) rest c refl a.4 f)

@@ -6,7 +6,7 @@ use Rattle.yq_core.specs.Nodes.{Key, FlowNode, empty, alias, scalar, coll, ancho
 use Rattle.yq_core.specs.Nodes.{flow_items_text, IsFlowNode, without_anchor}
 use Rattle.yq_core.specs.Places.{Placed, placed, sequence, mapping, Parts, holder, anchored_node, locate, locate_items}
 use Rattle.yq_core.{proofs.EditPlaces.end_placed, proofs.NodesWrittenLaws.node_then}
-use Rattle.yq_flow_edits.specs.FlowEdits.{space_for, replacing, is_none, appending, behind_last}
+use Rattle.yq_flow_edits.specs.FlowEdits.{space_for, replacing, is_none, appending, after_last}
 use Rattle.yq_flow_edits.specs.FlowPlaces.{PlacedEdit, place_edit, replace_at, replace_place, last_end, append_at, append_in, append_place}
 
 -- another content
@@ -38,7 +38,7 @@ unfolding content_edit
 replace_placed flow spaces d total s y m c h = content_edited flow spaces d total y.node y.rest h
 
 -- one more item or entry
-last_placed : (total k : ℕ) (gap : List ℕ) (is : Items) (rest : List ℕ) → is_none is ≡ false → last_end (locate_items total k is rest) ≡ Some (total - length (behind_last k gap is rest))
+last_placed : (total k : ℕ) (gap : List ℕ) (is : Items) (rest : List ℕ) → is_none is ≡ false → last_end (locate_items total k is rest) ≡ Some (total - length (after_last k gap is rest))
 unfolding locate_items flow_items_text
 last_placed total k gap none rest some = absurd (false≢true (sym some))
 last_placed total k gap (item key n sep none) rest some = ap Some (end_placed total n (sep_text sep (k ∷ rest)))
@@ -47,8 +47,8 @@ last_placed total k gap (item key n sep (item key2 n2 sep2 is)) rest some = last
 holder_append : (k c e : ℕ) (parts : Parts) → append_in c e (holder k parts) ≡ Some (append_at (min (c + 1) e) (last_end parts))
 holder_append k c e parts = elim (eqb k 125) as (λ b. append_in c e (cond b (mapping parts) (sequence parts)) ≡ Some (append_at (min (c + 1) e) (last_end parts))) [ true ↦ refl | false ↦ refl ]
 
-behind_open : (total a b : ℕ) → suc a ≤ total → b ≤ a → min ((total - suc a) + 1) (total - b) ≡ total - a
-behind_open total a b h l = omega arith
+after_open : (total a b : ℕ) → suc a ≤ total → b ≤ a → min ((total - suc a) + 1) (total - b) ≡ total - a
+after_open total a b h l = omega arith
 
 close_in : (k : ℕ) (g rest : List ℕ) → length rest ≤ length (g ++ (k ∷ rest))
 close_in k [] rest = omega arith
@@ -72,5 +72,5 @@ append_placed total (scalar p) rest c key m h at = cc
 append_placed total (anchored n g node) rest c key m h at =
     let shorter = anchor_length n g (node_text node rest) in
     append_anchor n _ (locate total node rest) ∙ append_placed total node rest c key m (omega arith) at
-append_placed total (coll k g none) rest c key m h at = search (rules, behind_open, close_in, same_Some, holder_append)
+append_placed total (coll k g none) rest c key m h at = search (rules, after_open, close_in, same_Some, holder_append)
 append_placed total (coll k g (item key2 n2 sep2 is)) rest c key m h at = search (rules, same_Some, holder_append, last_placed)

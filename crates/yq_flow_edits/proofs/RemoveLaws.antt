@@ -10,7 +10,7 @@ use Rattle.yq_core.specs.Gaps.{goes, next_gap_place, gap_place_after, at_line_st
 use Rattle.yq_core.specs.Nodes.{Key, Sep, last, comma, FlowNode, Items, none, item, key_text, sep_text, node_text, flow_items_text}
 use Rattle.yq_core.specs.Nodes.{opening_bracket, begins_node, is_close, IsSep, AreFlowItems}
 use Rattle.yq_core.{specs.Trees.{key_content, tree_of, items_tree}, proofs.AlikePieces.gap_alike, proofs.GapLaws.none_gap}
-use Rattle.yq_core.{proofs.KeepLaws.{behind_fresh, keeps_alike, go_front}, proofs.NodeAgain.item_front}
+use Rattle.yq_core.{proofs.KeepLaws.{after_fresh, keeps_alike, go_front}, proofs.NodeAgain.item_front}
 use Rattle.yq_core.{proofs.NodeKeeps.{sep_ends, key_text_alike, node_text_alike}, specs.Tree.key_label}
 use Rattle.yq_flow_edits.specs.FlowEdits.{FlowEdit, IsFlowEdited}
 use Rattle.yq_flow_edits.specs.Removals.{IsApartFrom, before_next, edit_from_item, comma_left, ends_marked, ends_return, gap_of, gap_to}
@@ -19,9 +19,9 @@ use Rattle.yq_flow_edits.proofs.EditLaws.{edited, around_is, opened}
 use Rattle.yq_flow_edits.proofs.ItemLaws.{item_begins, item_keeps, item_some, comma_apart, comma_like, ends_mark, gap_before, keeps_from}
 use Rattle.yq_flow_edits.{proofs.ItemLaws.{marker_append, Unmarked}, proofs.ItemSwaps.{item_cut, text_cut}}
 use Rattle.yq_flow_edits.proofs.LocalLaws.{gap_new, node_no_feed, node_stops}
-use Rattle.yq_flow_edits.proofs.RemoveTexts.{LastBytes, behind_cut, comma_new_bytes, comma_old_bytes, either, gone_bytes, option_some}
+use Rattle.yq_flow_edits.proofs.RemoveTexts.{LastBytes, after_cut, comma_new_bytes, comma_old_bytes, either, gone_bytes, option_some}
 use Rattle.yq_flow_edits.proofs.RemoveTexts.{removed_text, sep_front}
-use Rattle.yq_flow_edits.proofs.ReturnLaws.{Whole, item_return, pairs_behind, pairs_end, return_some, whole_by, whole_front}
+use Rattle.yq_flow_edits.proofs.ReturnLaws.{Whole, item_return, pairs_after, pairs_end, return_some, whole_by, whole_front}
 use Rattle.yq_core.specs.Tree as tree
 
 -- ---- a space after a gap that ends a line
@@ -30,9 +30,9 @@ go_append : (s : GapPlace) (g : List ℕ) (b : ℕ) (x : List ℕ) → AllGo s g
 go_append s [] b x a h = (h, tt)
 go_append s (c ∷ g) b x a h = (subst (λ (l : List ℕ). goes s c l ≡ true) (sym (append_assoc g (b ∷ []) x)) a.0, go_append (next_gap_place s c) g b x a.1 h)
 
-behind_append : (s : GapPlace) (g : List ℕ) (b : ℕ) → gap_place_after s (g ++ (b ∷ [])) ≡ next_gap_place (gap_place_after s g) b
-behind_append s [] b = refl
-behind_append s (c ∷ g) b = behind_append (next_gap_place s c) g b
+after_append : (s : GapPlace) (g : List ℕ) (b : ℕ) → gap_place_after s (g ++ (b ∷ [])) ≡ next_gap_place (gap_place_after s g) b
+after_append s [] b = refl
+after_append s (c ∷ g) b = after_append (next_gap_place s c) g b
 
 break_is : (s : GapPlace) → at_break s ≡ true → s ≡ Break
 break_is s h1 = search (rules, false≢true)
@@ -43,7 +43,7 @@ gap_moves g x own u bx by m h = go (fresh false g && begins_marker own) refl whe
   y = own ++ u
 
   at : at_break (gap_place_after Token g) ≡ fresh false g
-  at = behind_fresh Token g
+  at = after_fresh Token g
 
   go : (c : Bool) → (fresh false g && begins_marker own) ≡ c → IsInlineGap (g ++ cond c (32 ∷ []) []) y
   go false e = subst (λ (l : List ℕ). IsInlineGap l y) (sym (append-nil g)) (gap_new g x y bx by (rw at (unmarked (fresh false g) e)) h) where
@@ -51,7 +51,7 @@ gap_moves g x own u bx by m h = go (fresh false g && begins_marker own) refl whe
     unmarked f q = search (rules, marker_append)
   go true e =
       let line : gap_place_after Token g ≡ Break = break_is (gap_place_after Token g) (at ∙ (and_parts (fresh false g) (begins_marker own) e).0) in
-      let last_ : gap_place_after Token (g ++ (32 ∷ [])) ≡ White = behind_append Token g 32 ∙ ap (λ s. next_gap_place s 32) line in
+      let last_ : gap_place_after Token (g ++ (32 ∷ [])) ≡ White = after_append Token g 32 ∙ ap (λ s. next_gap_place s 32) line in
       record {
         inside = go_append Token g 32 y (go_front Token g x (32 ∷ y) (node_no_feed x bx) h.inside) (rw line refl);
         ends = rw last_ (node_stops White (91 ∷ []) y refl by refl);
@@ -65,7 +65,7 @@ record Left (d k : ℕ) (s : Step) (g : List ℕ) (is : Items) (rest : List ℕ)
   are : AreFlowItems d k e.items rest
   gap : IsInlineGap e.gap (flow_items_text k e.items rest)
   tree : items_tree e.items ≡ remove_child s (items_tree is)
-  whole : (x b : List ℕ) → x ++ (g ++ flow_items_text k is rest) ≡ b ++ (e.old ++ e.behind) → Whole b (e.old ++ e.behind)
+  whole : (x b : List ℕ) → x ++ (g ++ flow_items_text k is rest) ≡ b ++ (e.old ++ e.after) → Whole b (e.old ++ e.after)
 
 -- up to the next one
 before_left : (d k : ℕ) (s : Step) (g : List ℕ) (key : Key) (n : FlowNode) (sep : Sep) (is : Items) (rest : List ℕ) (e : FlowEdit) →
@@ -84,29 +84,29 @@ before_left d k s g key n sep (item key2 n2 sep2 is) rest e c here gap a at =
     search (rules, same_Some, whole_front, item_cut, node_no_feed)
 
 -- the item after another one, where that has another separator
-last_left : (d k : ℕ) (s : Step) (g : List ℕ) (key : Key) (n : FlowNode) (sep : Sep) (key2 : Key) (n2 : FlowNode) (sep2 left : Sep) (rest old lead behind_ : List ℕ) → is_close k ≡ true →
+last_left : (d k : ℕ) (s : Step) (g : List ℕ) (key : Key) (n : FlowNode) (sep : Sep) (key2 : Key) (n2 : FlowNode) (sep2 left : Sep) (rest old lead after_ : List ℕ) → is_close k ≡ true →
     is_here s (key_label (key_content key)) ≡ false → is_here (further s) (key_label (key_content key2)) ≡ true →
     IsInlineGap g (flow_items_text k (item key n sep (item key2 n2 sep2 none)) rest) →
     AreFlowItems d k (item key n sep (item key2 n2 sep2 none)) rest →
-    ends_return (key_text key (node_text n [])) ≡ false → IsSep k left (k ∷ rest) → IsApartFrom (fresh false g) (key_text key (node_text n [])) (sep_text left (k ∷ rest)) → LastBytes k rest sep key2 n2 sep2 left old lead behind_ →
-    Left d k s g (item key n sep (item key2 n2 sep2 none)) rest (record { gap = g; items = item key n left none; old = old; lead = lead; written = []; behind = behind_ })
+    ends_return (key_text key (node_text n [])) ≡ false → IsSep k left (k ∷ rest) → IsApartFrom (fresh false g) (key_text key (node_text n [])) (sep_text left (k ∷ rest)) → LastBytes k rest sep key2 n2 sep2 left old lead after_ →
+    Left d k s g (item key n sep (item key2 n2 sep2 none)) rest (record { gap = g; items = item key n left none; old = old; lead = lead; written = []; after = after_ })
 unfolding flow_items_text AreFlowItems items_tree
-last_left d k s g key n sep key2 n2 sep2 left rest old lead behind_ c here there gap a ends sep_is apart bytes =
+last_left d k s g key n sep key2 n2 sep2 left rest old lead after_ c here there gap a ends sep_is apart bytes =
     let own : List ℕ = key_text key (node_text n []) in
     let x : List ℕ = key_text key2 (node_text n2 (sep_text sep2 (k ∷ rest))) in
     let t : List ℕ = sep_text sep x in
     let u : List ℕ = sep_text left (k ∷ rest) in
     let h = sep_ends k left (k ∷ rest) sep_is in
     let keeps = keeps_from (fresh false g) own t u (ends_mark k u c h) apart in
-    let stands = item_keeps d k (fresh false g) key n t u c (sep_ends k sep x a.3) h keeps a.0 a.2 in
+    let is_located = item_keeps d k (fresh false g) key n t u c (sep_ends k sep x a.3) h keeps a.0 a.2 in
     let some = item_some d k key n t a.0 a.1 a.2 in
     record {
-      are = (stands.key_is, a.1, stands.node_is, sep_is, tt);
+      are = (is_located.key_is, a.1, is_located.node_is, sep_is, tt);
       gap = gap_before d k key n t u g a.0 a.1 a.2 keeps gap;
       tree = rw (here, there) refl;
       whole = λ z b same.
-          let cut : z ++ (g ++ key_text key (node_text n t)) ≡ ((z ++ g) ++ own) ++ (old ++ behind_) = search (rules, text_cut, append_assoc, own, t) in
-          whole_by b (old ++ behind_) (ap ends_return (append_cancel_right b ((z ++ g) ++ own) (old ++ behind_) (sym same ∙ cut)) ∙ (return_some (z ++ g) own some ∙ ends));
+          let cut : z ++ (g ++ key_text key (node_text n t)) ≡ ((z ++ g) ++ own) ++ (old ++ after_) = search (rules, text_cut, append_assoc, own, t) in
+          whole_by b (old ++ after_) (ap ends_return (append_cancel_right b ((z ++ g) ++ own) (old ++ after_) (sym same ∙ cut)) ∙ (return_some (z ++ g) own some ∙ ends));
     }
 
 last_of : (d k : ℕ) (s : Step) (g : List ℕ) (key : Key) (n : FlowNode) (sep : Sep) (is : Items) (rest : List ℕ) (e : FlowEdit) → is_close k ≡ true →
@@ -139,28 +139,29 @@ last_of d k s g key n sep (item key2 n2 sep2 none) rest e c here ends gap a at =
   go b there at = search (rules, same_Some, one, own, none-some)
 
 -- one of the items after another one
-behind_left : (d k : ℕ) (s : Step) (g : List ℕ) (key : Key) (n : FlowNode) (sep : Sep) (is : Items) (rest : List ℕ) (e : FlowEdit) → is_close k ≡ true → is_here s (key_label (key_content key)) ≡ false →
+after_left : (d k : ℕ) (s : Step) (g : List ℕ) (key : Key) (n : FlowNode) (sep : Sep) (is : Items) (rest : List ℕ) (e : FlowEdit) → is_close k ≡ true → is_here s (key_label (key_content key)) ≡ false →
     IsInlineGap g (flow_items_text k (item key n sep is) rest) → AreFlowItems d k (item key n sep is) rest →
     removing_from k rest (further s) (gap_of sep) is ≡ Some e →
     (IsInlineGap (gap_of sep) (flow_items_text k is rest) → Left d k (further s) (gap_of sep) is rest e) →
     Left d k s g (item key n sep is) rest (edit_from_item g key n sep e)
 unfolding flow_items_text AreFlowItems items_tree
-behind_left d k s g key n sep none rest e c here gap a at l = absurd (none-some _ at)
-behind_left d k s g key n (last b) (item key2 n2 sep2 is) rest e c here gap a at l = search (rules, false≢true, item_front)
-behind_left d k s g key n (comma b q) (item key2 n2 sep2 is) rest e c here gap a at l =
+after_left d k s g key n sep none rest e c here gap a at l = absurd (none-some _ at)
+after_left d k s g key n (last b) (item key2 n2 sep2 is) rest e c here gap a at l = search (rules, false≢true, item_front)
+after_left d k s g key n (comma b q) (item key2 n2 sep2 is) rest e c here gap a at l =
     let x = l a.3.1 in
     let h : List ℕ = e.gap in
     let t : List ℕ = flow_items_text k (item key2 n2 sep2 is) rest in
     let u : List ℕ = flow_items_text k e.items rest in
     let like = comma_like b q h t u in
     let sep_is : IsSep k (comma b h) u = (gap_alike (Some true) b (44 ∷ (q ++ t)) (44 ∷ (h ++ u)) (stop refl) a.3.0, x.gap) in
-    let stands = item_keeps d k false key n (b ++ (44 ∷ (q ++ t))) (b ++ (44 ∷ (h ++ u))) c (sep_ends k (comma b q) t a.3) (sep_ends k (comma b h) u sep_is) (keeps_alike (Some true) false (key_text key (node_text n [])) _ _ like) a.0 a.2 in
+    let is_located = item_keeps d k false key n (b ++ (44 ∷ (q ++ t))) (b ++ (44 ∷ (h ++ u))) c (sep_ends k (comma b q) t a.3)
+    (sep_ends k (comma b h) u sep_is) (keeps_alike (Some true) false (key_text key (node_text n [])) _ _ like) a.0 a.2 in
     let f : List ℕ = g ++ (key_text key (node_text n []) ++ sep_front (comma b q)) in
     record {
-      are = (stands.key_is, a.1, stands.node_is, sep_is, x.are);
+      are = (is_located.key_is, a.1, is_located.node_is, sep_is, x.are);
       gap = gap_alike (Some true) g _ _ (key_text_alike key _ _ (node_text_alike (Some true) n (b ++ (44 ∷ (q ++ t))) (b ++ (44 ∷ (h ++ u))) like)) gap;
       tree = ap (tree.child (key_label (key_content key)) (tree_of n)) x.tree ∙ rw here refl;
-      whole = λ z w same. x.whole (z ++ f) w (append_assoc z f (q ++ t) ∙ (ap (λ l. z ++ l) (sym (behind_cut g key n (comma b q) t)) ∙ same));
+      whole = λ z w same. x.whole (z ++ f) w (append_assoc z f (q ++ t) ∙ (ap (λ l. z ++ l) (sym (after_cut g key n (comma b q) t)) ∙ same));
     }
 
 left : (d k : ℕ) (s : Step) (g : List ℕ) (is : Items) (rest : List ℕ) (e : FlowEdit) → is_close k ≡ true →
@@ -177,7 +178,7 @@ left d k s g (item key n sep is) rest e c pairs gap a at = go (is_here s (key_la
   ends = pairs_end (key_text key (node_text n [])) (sep_text sep t) (subst (λ (l : List ℕ). pairs_returns l ≡ true) (text_cut key n (sep_text sep t)) pairs) (item_return k d key n (sep_text sep t) c (sep_ends k sep t a.3) a.0 a.2)
 
   further_pairs : pairs_returns t ≡ true
-  further_pairs = pairs_behind (key_text key (node_text n (sep_text sep []))) t (subst (λ (l : List ℕ). pairs_returns l ≡ true) (item_cut key n sep t) pairs)
+  further_pairs = pairs_after (key_text key (node_text n (sep_text sep []))) t (subst (λ (l : List ℕ). pairs_returns l ≡ true) (item_cut key n sep t) pairs)
 
   other : is_here s (key_label (key_content key)) ≡ false →
       ((x : FlowEdit) → pairs_returns (flow_items_text k is rest) ≡ true → IsInlineGap (gap_of sep) (flow_items_text k is rest) →
@@ -186,7 +187,7 @@ left d k s g (item key n sep is) rest e c pairs gap a at = go (is_here s (key_la
   other here again (inl at) = last_of d k s g key n sep is rest e c here ends gap a at
   other here again (inr at) =
       let x = option_some (edit_from_item g key n sep) (removing_from k rest (further s) (gap_of sep) is) e at in
-      subst (Left d k s g (item key n sep is) rest) x.2 (behind_left d k s g key n sep is rest x.0 c here gap a x.1 (λ q. again x.0 further_pairs q x.1))
+      subst (Left d k s g (item key n sep is) rest) x.2 (after_left d k s g key n sep is rest x.0 c here gap a x.1 (λ q. again x.0 further_pairs q x.1))
 
   go : (b : Bool) → is_here s (key_label (key_content key)) ≡ b →
       ((x : FlowEdit) → pairs_returns (flow_items_text k is rest) ≡ true → IsInlineGap (gap_of sep) (flow_items_text k is rest) →
@@ -201,15 +202,15 @@ left d k s g (item key n sep is) rest e c pairs gap a at = go (is_here s (key_la
 -- ---- in a node
 
 module _ (x : CollAt) (s : Step) (e : FlowEdit) (h : IsCollAt x) (at : removing s x.coll ≡ Some e) where
-  behind_open : (text : List ℕ) → text ++ node_text x.node x.rest ≡ (text ++ ((around_is x h).before ++ (opening_bracket x.coll.close ∷ []))) ++ (x.coll.gap ++ flow_items_text x.coll.close x.coll.items x.coll.rest)
-  behind_open text = search (rules, around_is, append_assoc)
+  after_open : (text : List ℕ) → text ++ node_text x.node x.rest ≡ (text ++ ((around_is x h).before ++ (opening_bracket x.coll.close ∷ []))) ++ (x.coll.gap ++ flow_items_text x.coll.close x.coll.items x.coll.rest)
+  after_open text = search (rules, around_is, append_assoc)
 
   left_in : (text : List ℕ) → pairs_returns (text ++ node_text x.node x.rest) ≡ true → Left (around_is x h).inner_depth x.coll.close s x.coll.gap x.coll.items x.coll.rest e
   left_in text pairs =
       let c = x.coll in
       let i = around_is x h in
       let f : List ℕ = text ++ (i.before ++ (opening_bracket c.close ∷ [])) in
-      let inside = pairs_behind c.gap (flow_items_text c.close c.items c.rest) (pairs_behind f (c.gap ++ flow_items_text c.close c.items c.rest) (subst (λ (l : List ℕ). pairs_returns l ≡ true) (behind_open text) pairs)) in
+      let inside = pairs_after c.gap (flow_items_text c.close c.items c.rest) (pairs_after f (c.gap ++ flow_items_text c.close c.items c.rest) (subst (λ (l : List ℕ). pairs_returns l ≡ true) (after_open text) pairs)) in
       left i.inner_depth c.close s c.gap c.items c.rest e i.closes inside i.gap i.items at
 
   -- an item or entry taken out
@@ -217,8 +218,8 @@ module _ (x : CollAt) (s : Step) (e : FlowEdit) (h : IsCollAt x) (at : removing 
   removed pairs =
       let c = x.coll in
       let l = left_in [] pairs in
-      edited x e (remove_child s) (around_is x h) l.gap l.are l.tree (opened c.close c.gap e.gap c.items e.items c.rest e.old (e.lead ++ e.written) e.behind (removed_text c.close c.rest s c.gap c.items e at).text)
+      edited x e (remove_child s) (around_is x h) l.gap l.are l.tree (opened c.close c.gap e.gap c.items e.items c.rest e.old (e.lead ++ e.written) e.after (removed_text c.close c.rest s c.gap c.items e at).text)
 
   -- in a longer text no CR comes before an LF
-  pub removed_whole : (text before : List ℕ) → pairs_returns (text ++ node_text x.node x.rest) ≡ true → text ++ node_text x.node x.rest ≡ before ++ (e.old ++ e.behind) → Whole before (e.old ++ e.behind)
-  removed_whole text before pairs same = (left_in text pairs).whole (text ++ ((around_is x h).before ++ (opening_bracket x.coll.close ∷ []))) before (sym (behind_open text) ∙ same)
+  pub removed_whole : (text before : List ℕ) → pairs_returns (text ++ node_text x.node x.rest) ≡ true → text ++ node_text x.node x.rest ≡ before ++ (e.old ++ e.after) → Whole before (e.old ++ e.after)
+  removed_whole text before pairs same = (left_in text pairs).whole (text ++ ((around_is x h).before ++ (opening_bracket x.coll.close ∷ []))) before (sym (after_open text) ∙ same)

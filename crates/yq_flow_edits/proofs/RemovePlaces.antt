@@ -11,12 +11,12 @@ use Rattle.yq_core.specs.Places.{Parts, Placed, placed, key_placed, holder, loca
 use Rattle.yq_core.{specs.Reading.flow_gap_len, specs.Trees.key_content, specs.Tree.key_label, proofs.EditPlaces.{end_placed, entry_placed}}
 use Rattle.yq_core.{proofs.GapLaws.gap_append, proofs.NodeAgain.item_front, proofs.NodeKeeps.sep_ends, proofs.TreeLaws.key_tree}
 use Rattle.yq_flow_edits.specs.FlowEdits.{FlowEdit}
-use Rattle.yq_flow_edits.specs.FlowPlaces.{PlacedEdit, behind_feed, first_start, marks_before, only_end, past_gap, place_edit}
-use Rattle.yq_flow_edits.specs.FlowPlaces.{remove_before, remove_end, remove_part, remove_place, space_at}
+use Rattle.yq_flow_edits.specs.FlowPlaces.{PlacedEdit, past_feed, first_start, marks_before, only_end, past_gap, place_edit, remove_before}
+use Rattle.yq_flow_edits.specs.FlowPlaces.{remove_end, remove_part, remove_place, space_at}
 use Rattle.yq_flow_edits.specs.Removals.{before_next, edit_from_item, comma_left, ends_marked, gap_of, last_gone, last_out, last_removed}
-use Rattle.yq_flow_edits.{specs.Removals.{removing, removing_from, space_to}, proofs.CollLaws.coll_stands}
+use Rattle.yq_flow_edits.{specs.Removals.{removing, removing_from, space_to}, proofs.CollLaws.coll_is_there}
 use Rattle.yq_flow_edits.{proofs.ItemLaws.{Unmarked, ends_mark, marks_own}, proofs.ItemSwaps.{item_cut, text_cut}}
-use Rattle.yq_flow_edits.{proofs.Marks.{line_behind, marks_are}, proofs.RemoveTexts.{comma_new_bytes, comma_old_bytes, gone_bytes}}
+use Rattle.yq_flow_edits.{proofs.Marks.{line_after, marks_are}, proofs.RemoveTexts.{comma_new_bytes, comma_old_bytes, gone_bytes}}
 
 -- ---- up to the next one
 
@@ -33,7 +33,7 @@ spaced_here t w b g front own u feed m is =
     let tail : List ℕ = own ++ u in
     let x : List ℕ = front ++ tail in
     let at : length t - length x ≡ suc (length w + length g) = omega (arith, ap length is, length-append w (b ∷ (g ++ x)), length-append g x) in
-    let line : behind_feed t (length t - length x) ≡ fresh false g = ap (λ l. behind_feed l (length t - length x)) is ∙ (line_behind g w b x (length t - length x) at ∙ ap (λ f. fresh f g) feed) in
+    let line : past_feed t (length t - length x) ≡ fresh false g = ap (λ l. past_feed l (length t - length x)) is ∙ (line_after g w b x (length t - length x) at ∙ ap (λ f. fresh f g) feed) in
     let whole : t ≡ (w ++ (b ∷ (g ++ front))) ++ tail = is ∙ (ap (λ l. w ++ (b ∷ l)) (sym (append_assoc g front tail)) ∙ sym (append_assoc w (b ∷ (g ++ front)) tail)) in
     search (rules, drop_end, marks_own)
 
@@ -82,11 +82,11 @@ unfolding comma_part
 end_placed_at k g key n sep key2 n2 sep2 rest t w b c sep_is feed text =
     let from : ℕ = length t - length y in
     let first : from ≡ suc (length w + length g) = omega (arith, ap length text, length-append w (b ∷ (g ++ y)), length-append g y) in
-    let behind_front : from ≡ length front = first ∙ omega (arith, length-append w (b ∷ g)) in
-    let second : at ≡ from + length own = omega (arith, behind_front, ap length whole, length-append front (own ++ u), length-append own u) in
-    let line : behind_feed t from ≡ fresh false g = ap (λ l. behind_feed l from) text ∙ (line_behind g w b y from first ∙ ap (λ f. fresh f g) feed) in
+    let past_front : from ≡ length front = first ∙ omega (arith, length-append w (b ∷ g)) in
+    let second : at ≡ from + length own = omega (arith, past_front, ap length whole, length-append front (own ++ u), length-append own u) in
+    let line : past_feed t from ≡ fresh false g = ap (λ l. past_feed l from) text ∙ (line_after g w b y from first ∙ ap (λ f. fresh f g) feed) in
     let marks : marks_before t from at ≡ ends_marked (fresh false g) own =
-    marks_are own front u t from at whole behind_front second ∙ ap (λ f. ends_marked f own) line in
+    marks_are own front u t from at whole past_front second ∙ ap (λ f. ends_marked f own) line in
     ap (λ v. cond v (comma_part t at end_) (record { start = at; end = end_; lead = [] })) marks ∙ go (ends_marked (fresh false g) own) where
       own : List ℕ
       own = key_text key (node_text n [])
@@ -166,20 +166,20 @@ unfolding flow_items_text locate_items AreFlowItems
 part_removed d k s g none rest t w b c a feed text = refl
 part_removed d k s g (item key n sep is) rest t w b c a feed text =
     let total : ℕ = length t in
-    let behind : List ℕ = sep_text sep (flow_items_text k is rest) in
-    let own : List ℕ = key_text key (node_text n behind) in
+    let after : List ℕ = sep_text sep (flow_items_text k is rest) in
+    let own : List ℕ = key_text key (node_text n after) in
     let parts : Parts = locate_items total k is rest in
-    let start : entry_start (key_placed total own key, locate total n behind) ≡ total - length own = entry_placed total (record { key = key; node = n; rest = behind }) in
+    let start : entry_start (key_placed total own key, locate total n after) ≡ total - length own = entry_placed total (record { key = key; node = n; rest = after }) in
     let again = further_placed d k (further s) g key n sep is rest t w b c a text (λ p v e f x. part_removed d k (further s) p is rest t v e c a.4 f x) in
-    let others : option_or (option_map (remove_end t (total - length own) (total - length behind)) (only_end (further s) parts)) (remove_part t (further s) parts)
+    let others : option_or (option_map (remove_end t (total - length own) (total - length after)) (only_end (further s) parts)) (remove_part t (further s) parts)
     ≡ option_map (place_edit total) (option_or (last_out k rest (further s) g key n sep is) (option_map (edit_from_item g key n sep) (removing_from k rest (further s) (gap_of sep) is))) =
     (λ i. option_or (last_placed d k (further s) g key n sep is rest t w b c a.4 feed text i) ((again ∙ same_place total g key n sep (removing_from k rest (further s) (gap_of sep) is)) i))
     ∙ or_mapped (place_edit total) (last_out k rest (further s) g key n sep is) (option_map (edit_from_item g key n sep) (removing_from k rest (further s) (gap_of sep) is)) in
     (λ i. cond (is_here s (key_label (key_tree total own key i))) (option_map (remove_before t (start i)) (first_start parts))
-    (option_or (option_map (remove_end t (start i) (end_placed total n behind i)) (only_end (further s) parts))
+    (option_or (option_map (remove_end t (start i) (end_placed total n after i)) (only_end (further s) parts))
     (remove_part t (further s) parts)))
     ∙ elim (is_here s (key_label (key_content key)))
-    as (λ v. cond v (option_map (remove_before t (total - length own)) (first_start parts)) (option_or (option_map (remove_end t (total - length own) (total - length behind)) (only_end (further s) parts)) (remove_part t (further s) parts))
+    as (λ v. cond v (option_map (remove_before t (total - length own)) (first_start parts)) (option_or (option_map (remove_end t (total - length own) (total - length after)) (only_end (further s) parts)) (remove_part t (further s) parts))
     ≡ option_map (place_edit total) (cond v (before_next k rest g key n sep is) (option_or (last_out k rest (further s) g key n sep is) (option_map (edit_from_item g key n sep) (removing_from k rest (further s) (gap_of sep) is)))))
     [ true ↦ next_placed d k g key n sep is rest t w b c a.4 feed text | false ↦ others ]
 
@@ -203,6 +203,6 @@ open_feed k = elim (eqb k 125) as (λ c. is_feed (cond c 123 91) ≡ false) [ tr
 pub remove_placed : (flow : Bool) (spaces : Option ℕ) (d : ℕ) (t w : List ℕ) (node : FlowNode) (rest : List ℕ) (c : CollPieces) (s : Step) → IsFlowNode flow spaces d node rest → coll_in node rest ≡ Some c → t ≡ w ++ node_text node rest →
     remove_place t s (locate (length t) node rest) ≡ option_map (place_edit (length t)) (removing s c)
 remove_placed flow spaces d t w node rest c s is at text =
-    let i = coll_stands flow spaces d node rest c is at in
+    let i = coll_is_there flow spaces d node rest c is at in
     let t_is : t ≡ (w ++ i.before) ++ (opening_bracket c.close ∷ (c.gap ++ flow_items_text c.close c.items c.rest)) = search (rules, append_assoc) in
     ap (remove_part t s) (coll_parts (length t) node rest c at) ∙ part_removed i.inner_depth c.close s c.gap c.items c.rest t (w ++ i.before) (opening_bracket c.close) i.closes i.items (open_feed c.close) t_is

@@ -37,16 +37,16 @@ sep_own sep x = search (rules, append_assoc)
 front_cut : (g : List ℕ) (key : Key) (n : FlowNode) (f z : List ℕ) → g ++ key_text key (node_text n (f ++ z)) ≡ (g ++ (key_text key (node_text n []) ++ f)) ++ z
 front_cut g key n f z = search (rules, text_cut, append_assoc)
 
-pub behind_cut : (g : List ℕ) (key : Key) (n : FlowNode) (sep : Sep) (x : List ℕ) → g ++ key_text key (node_text n (sep_text sep x)) ≡ (g ++ (key_text key (node_text n []) ++ sep_front sep)) ++ (gap_of sep ++ x)
-behind_cut g key n sep x = ap (λ l. g ++ key_text key (node_text n l)) (sep_own sep x) ∙ front_cut g key n (sep_front sep) (gap_of sep ++ x)
+pub after_cut : (g : List ℕ) (key : Key) (n : FlowNode) (sep : Sep) (x : List ℕ) → g ++ key_text key (node_text n (sep_text sep x)) ≡ (g ++ (key_text key (node_text n []) ++ sep_front sep)) ++ (gap_of sep ++ x)
+after_cut g key n sep x = ap (λ l. g ++ key_text key (node_text n l)) (sep_own sep x) ∙ front_cut g key n (sep_front sep) (gap_of sep ++ x)
 
 -- ---- the bytes
 
 -- What is known of the bytes of an item that is taken out of items after a gap.
 pub record RemovedText (k : ℕ) (rest g : List ℕ) (is : Items) (e : FlowEdit) : Type 0 where
-  pub text : Becomes (g ++ flow_items_text k is rest) (e.gap ++ flow_items_text k e.items rest) e.old (e.lead ++ e.written) e.behind
+  pub text : Becomes (g ++ flow_items_text k is rest) (e.gap ++ flow_items_text k e.items rest) e.old (e.lead ++ e.written) e.after
   pub none_written : e.written ≡ []
-  pub longer : length rest ≤ length e.behind
+  pub longer : length rest ≤ length e.after
   pub lead : (e.lead ≡ []) ⊎ ((e.lead ≡ 32 ∷ []) ⊎ (e.lead ≡ 44 ∷ []))
 
 -- up to the next one
@@ -68,10 +68,10 @@ pub next_is : (sep : Sep) (key : Key) (n : FlowNode) (u : List ℕ) → next_tex
 next_is sep key n u = sym (ap (sep_text sep) (text_cut key n u) ∙ sep_append sep (key_text key (node_text n [])) u)
 
 -- An item before the last one has another separator when that is taken out, and these bytes are replaced.
-pub record LastBytes (k : ℕ) (rest : List ℕ) (sep : Sep) (key : Key) (n : FlowNode) (sep2 left : Sep) (old lead behind : List ℕ) : Type 0 where
-  pub was : old ++ behind ≡ sep_text sep (key_text key (node_text n (sep_text sep2 (k ∷ rest))))
-  pub is : lead ++ behind ≡ sep_text left (k ∷ rest)
-  pub longer : length rest ≤ length behind
+pub record LastBytes (k : ℕ) (rest : List ℕ) (sep : Sep) (key : Key) (n : FlowNode) (sep2 left : Sep) (old lead after : List ℕ) : Type 0 where
+  pub was : old ++ after ≡ sep_text sep (key_text key (node_text n (sep_text sep2 (k ∷ rest))))
+  pub is : lead ++ after ≡ sep_text left (k ∷ rest)
+  pub longer : length rest ≤ length after
   pub lead_is : (lead ≡ []) ⊎ ((lead ≡ 32 ∷ []) ⊎ (lead ≡ 44 ∷ []))
 
 pub gone_bytes : (k : ℕ) (rest : List ℕ) (sep : Sep) (key : Key) (n : FlowNode) (sep2 : Sep) → LastBytes k rest sep key n sep2 sep2 (next_text sep key n) [] (sep_text sep2 (k ∷ rest))
@@ -83,10 +83,10 @@ comma_new_bytes k rest sep key n b = record { was = next_is sep key n (b ++ (k �
 pub comma_old_bytes : (k : ℕ) (rest : List ℕ) (sep : Sep) (key : Key) (n : FlowNode) (b h : List ℕ) → LastBytes k rest sep key n (comma b h) (comma [] h) (next_text sep key n ++ b) [] (44 ∷ (h ++ (k ∷ rest)))
 comma_old_bytes k rest sep key n b h = search (rules, append_assoc, next_is, length-append)
 
-last_bytes : (k : ℕ) (rest g : List ℕ) (key : Key) (n : FlowNode) (sep : Sep) (key2 : Key) (n2 : FlowNode) (sep2 left : Sep) (old lead behind : List ℕ) → LastBytes k rest sep key2 n2 sep2 left old lead behind →
-    RemovedText k rest g (item key n sep (item key2 n2 sep2 none)) (record { gap = g; items = item key n left none; old = old; lead = lead; written = []; behind = behind })
+last_bytes : (k : ℕ) (rest g : List ℕ) (key : Key) (n : FlowNode) (sep : Sep) (key2 : Key) (n2 : FlowNode) (sep2 left : Sep) (old lead after : List ℕ) → LastBytes k rest sep key2 n2 sep2 left old lead after →
+    RemovedText k rest g (item key n sep (item key2 n2 sep2 none)) (record { gap = g; items = item key n left none; old = old; lead = lead; written = []; after = after })
 unfolding flow_items_text
-last_bytes k rest g key n sep key2 n2 sep2 left old lead behind h =
+last_bytes k rest g key n sep key2 n2 sep2 left old lead after h =
     let own : List ℕ = key_text key (node_text n []) in
     let cut : (t : List ℕ) → g ++ key_text key (node_text n t) ≡ (g ++ own) ++ t = λ t. ap (λ l. g ++ l) (text_cut key n t) ∙ sym (append_assoc g own t) in
     search (rules, append-nil)
@@ -109,22 +109,22 @@ last_text k rest s g key n sep (item key2 n2 sep2 none) e at = go (is_here s (ke
     go b at = search (rules, same_Some, known, none-some)
 
 -- of the items from another one on
-behind_text : (k : ℕ) (rest g : List ℕ) (key : Key) (n : FlowNode) (sep : Sep) (is : Items) (e : FlowEdit) → RemovedText k rest (gap_of sep) is e → RemovedText k rest g (item key n sep is) (edit_from_item g key n sep e)
+after_text : (k : ℕ) (rest g : List ℕ) (key : Key) (n : FlowNode) (sep : Sep) (is : Items) (e : FlowEdit) → RemovedText k rest (gap_of sep) is e → RemovedText k rest g (item key n sep is) (edit_from_item g key n sep e)
 unfolding flow_items_text
-behind_text k rest g key n sep is e h = search (rules, sep_front, sep_with, front_cut, becomes_same, behind_cut, put_before)
+after_text k rest g key n sep is e h = search (rules, sep_front, sep_with, front_cut, becomes_same, after_cut, put_before)
 
 pub removed_text : (k : ℕ) (rest : List ℕ) (s : Step) (g : List ℕ) (is : Items) (e : FlowEdit) → removing_from k rest s g is ≡ Some e → RemovedText k rest g is e
 removed_text k rest s g none e at = absurd (none-some _ at)
 removed_text k rest s g (item key n sep is) e at = go (is_here s (key_label (key_content key))) (λ x. removed_text k rest (further s) (gap_of sep) is x) at
   where
-    behind : ((x : FlowEdit) → removing_from k rest (further s) (gap_of sep) is ≡ Some x → RemovedText k rest (gap_of sep) is x) →
+    after : ((x : FlowEdit) → removing_from k rest (further s) (gap_of sep) is ≡ Some x → RemovedText k rest (gap_of sep) is x) →
         (last_out k rest (further s) g key n sep is ≡ Some e) ⊎ (option_map (edit_from_item g key n sep) (removing_from k rest (further s) (gap_of sep) is) ≡ Some e) → RemovedText k rest g (item key n sep is) e
-    behind again (inl at) = last_text k rest (further s) g key n sep is e at
-    behind again (inr at) =
+    after again (inl at) = last_text k rest (further s) g key n sep is e at
+    after again (inr at) =
         let x = option_some (edit_from_item g key n sep) (removing_from k rest (further s) (gap_of sep) is) e at in
-        subst (RemovedText k rest g (item key n sep is)) x.2 (behind_text k rest g key n sep is x.0 (again x.0 x.1))
+        subst (RemovedText k rest g (item key n sep is)) x.2 (after_text k rest g key n sep is x.0 (again x.0 x.1))
 
     go : (b : Bool) → ((x : FlowEdit) → removing_from k rest (further s) (gap_of sep) is ≡ Some x → RemovedText k rest (gap_of sep) is x) →
         cond b (before_next k rest g key n sep is) (option_or (last_out k rest (further s) g key n sep is) (option_map (edit_from_item g key n sep) (removing_from k rest (further s) (gap_of sep) is))) ≡ Some e →
         RemovedText k rest g (item key n sep is) e
-    go b again at = search (rules, before_text, behind, either)
+    go b again at = search (rules, before_text, after, either)

@@ -94,10 +94,10 @@ item_return k d (keyed p b g) n t c e x h = elim (cases_Bool (is_empty_node n)) 
 ]
 
 -- a text in which an LF follows each CR
-pub pairs_behind : (x t : List ℕ) → pairs_returns (x ++ t) ≡ true → pairs_returns t ≡ true
+pub pairs_after : (x t : List ℕ) → pairs_returns (x ++ t) ≡ true → pairs_returns t ≡ true
 unfolding pairs_returns
-pairs_behind [] t h = h
-pairs_behind (b ∷ x) t h = pairs_behind x t (go (is_return b) h) where
+pairs_after [] t h = h
+pairs_after (b ∷ x) t h = pairs_after x t (go (is_return b) h) where
   go : (r : Bool) → cond r (front is_feed (x ++ t) && pairs_returns (x ++ t)) (pairs_returns (x ++ t)) ≡ true → pairs_returns (x ++ t) ≡ true
   go r e = search (rules, and_parts)
 
@@ -107,4 +107,4 @@ pairs_end [] t h w = refl
 pairs_end (b ∷ []) t h w = go (is_return b) h w where
   go : (r : Bool) → cond r (front is_feed t && pairs_returns t) (pairs_returns t) ≡ true → (r && front is_feed t) ≡ false → r ≡ false
   go r e f = search (rules, false≢true, and_parts)
-pairs_end (b ∷ c ∷ x) t h w = pairs_end (c ∷ x) t (pairs_behind (b ∷ []) (c ∷ (x ++ t)) h) w
+pairs_end (b ∷ c ∷ x) t h w = pairs_end (c ∷ x) t (pairs_after (b ∷ []) (c ∷ (x ++ t)) h) w

@@ -126,11 +126,11 @@ mutual
   written_items : (k : ℕ) (keyed : Bool) → Fits k keyed → (cs : tree.Children) (d : ℕ) (rest : List ℕ) → AreValueTrees keyed cs → deepest cs ≤ d → AreFlowItems d k (flow_items cs) rest
   written_items k keyed fits tree.none d rest h deep = tt
   written_items k keyed fits (tree.child label n cs) d rest h deep =
-      let behind : List ℕ = sep_text (flow_sep cs) (flow_items_text k (flow_items cs) rest) in
+      let after : List ℕ = sep_text (flow_sep cs) (flow_items_text k (flow_items cs) rest) in
       let ends = sep_ends k keyed fits cs rest in (
-        (fits.key label h.0 (node_text (flow_of n) behind) (node_begins n behind h.1 ends)).0,
+        (fits.key label h.0 (node_text (flow_of n) after) (node_begins n after h.1 ends)).0,
         or_right (is_keyed (flow_key label.key)) (not (is_empty_node (flow_of n))) (rw (no_bare n h.1) refl),
-        written_node n true (Some 0) d behind h.1 (omega (arith, deep, le-max_left (depth n) (deepest cs))) ends,
+        written_node n true (Some 0) d after h.1 (omega (arith, deep, le-max_left (depth n) (deepest cs))) ends,
         sep_is k keyed fits cs rest h.2,
         written_items k keyed fits cs d rest h.2 (omega (arith, deep, le-max_right (depth n) (deepest cs))),
       )
@@ -153,7 +153,7 @@ pub flow_spells : (v : tree.Node) → IsValueTree v → Spells v (flow_text v)
 flow_spells v h = record {
   node = flow_of v;
   written = λ rest. node_then (flow_of v) rest;
-  stands = λ place n around rest deep ends. record {
+  is_located = λ place n around rest deep ends. record {
     valid = written_node v (in_flow place) (further_spaces place n) (depth_limit - around) rest h (omega (arith, deep)) ends;
     something = rw (no_bare v h) refl;
   };

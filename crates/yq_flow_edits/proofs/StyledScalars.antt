@@ -35,7 +35,7 @@ plain_spelled s v h =
       utf8 = v.utf8;
       text = plain_is_text false s.text v.utf8 text;
       line = line;
-      stands = λ spaces rest ends. inl (writable_piece s false spaces rest v.utf8 v.kind h ends);
+      is_located = λ spaces rest ends. inl (writable_piece s false spaces rest v.utf8 v.kind h ends);
     }
 
 double_spelled : (s : ScalarText) → IsValid s → is_string s.kind ≡ true → SpellsScalar s (double s.text)
@@ -49,7 +49,7 @@ double_spelled s v h =
       utf8 = (line.chars, (line.valid, line.spelled));
       text = line_is_text (double s.text) line;
       line = holds;
-      stands = λ spaces rest ends. let there = double_spells s.text rest v.utf8 in inr ((34, (last there.chars, there.is)), one_line spaces (double s.text) holds);
+      is_located = λ spaces rest ends. let there = double_spells s.text rest v.utf8 in inr ((34, (last there.chars, there.is)), one_line spaces (double s.text) holds);
     }
 
 single_spelled : (s : ScalarText) → IsValid s → is_string s.kind ≡ true → list_all is_single_char (chars s.text) ≡ true → SpellsScalar s (single s.text)
@@ -63,7 +63,7 @@ single_spelled s v h all =
       utf8 = (line.chars, (line.valid, line.spelled));
       text = line_is_text (single s.text) line;
       line = holds;
-      stands = λ spaces rest ends. let there = single_spells s.text rest v.utf8 all (no_quote spaces rest ends) in inr ((39, (last there.chars, there.is)), one_line spaces (single s.text) holds);
+      is_located = λ spaces rest ends. let there = single_spells s.text rest v.utf8 all (no_quote spaces rest ends) in inr ((39, (last there.chars, there.is)), one_line spaces (single s.text) holds);
     }
 
 -- what is written in a style of one line spells its scalar

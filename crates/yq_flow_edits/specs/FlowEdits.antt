@@ -8,10 +8,10 @@ use Rattle.yq_core.specs.Trees.{with_anchor_name, key_content, tree_of}
 use Rattle.yq_core.specs.Tree as tree
 
 -- In a text the bytes `old` are replaced by `new`; after them is `behind` (own).
-pub record Becomes (t u old new behind : List ℕ) : Type 0 where
+pub record Becomes (t u old new after : List ℕ) : Type 0 where
   pub before : List ℕ
-  pub was : t ≡ before ++ (old ++ behind)
-  pub is : u ≡ before ++ (new ++ behind)
+  pub was : t ≡ before ++ (old ++ after)
+  pub is : u ≡ before ++ (new ++ after)
 
 -- An edit of a collection: the gap and the items that then come after its bracket, and the bytes `old` before `behind`, which are replaced by `lead`
 -- and `written` (own).
@@ -21,7 +21,7 @@ pub record FlowEdit : Type 0 where
   pub old : List ℕ
   pub lead : List ℕ
   pub written : List ℕ
-  pub behind : List ℕ
+  pub after : List ℕ
 
 -- the node with the edited collection in it (own)
 abbrev pub edited_node : CollAt → FlowEdit → FlowNode
@@ -31,7 +31,7 @@ edited_node x e = collection_put x.steps e.gap e.items x.node
 -- edit alone, and its tree is the changed one (own).
 pub record IsFlowEdited (x : CollAt) (e : FlowEdit) (changed : tree.Node → tree.Node) : Type 0 where
   pub inline : IsInline x.place x.indent x.around (edited_node x e) x.rest
-  pub text : Becomes (node_text x.node x.rest) (node_text (edited_node x e) x.rest) e.old (e.lead ++ e.written) e.behind
+  pub text : Becomes (node_text x.node x.rest) (node_text (edited_node x e) x.rest) e.old (e.lead ++ e.written) e.after
   pub tree : tree_of (edited_node x e) ≡ changed (tree_of x.node)
 
 -- a space, where nothing is written (own)
@@ -69,7 +69,7 @@ replacing s y m c = record {
   old = node_text (without_anchor y.node) [];
   lead = space_for (without_anchor y.node);
   written = node_text m [];
-  behind = y.rest;
+  after = y.rest;
 }
 
 -- a node in the place of another one, whose anchor stays (own)
@@ -95,10 +95,10 @@ add_item key m gap (item j n sep none) = item j n (comma [] (32 ∷ [])) (item k
 add_item key m gap (item j n sep (item j2 n2 sep2 is)) = item j n sep (add_item key m gap (item j2 n2 sep2 is))
 
 -- what comes after the last item, or after the opening bracket if there is none (own)
-abbrev pub behind_last : ℕ → List ℕ → Items → List ℕ → List ℕ
-behind_last k gap none rest = gap ++ (k ∷ rest)
-behind_last k gap (item j n sep none) rest = sep_text sep (k ∷ rest)
-behind_last k gap (item j n sep (item j2 n2 sep2 is)) rest = behind_last k gap (item j2 n2 sep2 is) rest
+abbrev pub after_last : ℕ → List ℕ → Items → List ℕ → List ℕ
+after_last k gap none rest = gap ++ (k ∷ rest)
+after_last k gap (item j n sep none) rest = sep_text sep (k ∷ rest)
+after_last k gap (item j n sep (item j2 n2 sep2 is)) rest = after_last k gap (item j2 n2 sep2 is) rest
 
 -- an item or entry that may come before a rest (YAML 1.2.2, section 7.4)
 pub record FitsItem (d k : ℕ) (key : Key) (m : FlowNode) (rest : List ℕ) : Type 0 where
@@ -107,8 +107,8 @@ pub record FitsItem (d k : ℕ) (key : Key) (m : FlowNode) (rest : List ℕ) : T
   pub is : IsFlowNode true (Some 0) d m rest
 
 -- what comes after one more item or entry (own)
-abbrev pub behind_appended : CollPieces → List ℕ
-behind_appended c = behind_last c.close c.gap c.items c.rest
+abbrev pub after_appended : CollPieces → List ℕ
+after_appended c = after_last c.close c.gap c.items c.rest
 
 -- one more item or entry, after the last one and a comma, or right after the opening bracket (own)
 abbrev pub appending : Key → FlowNode → CollPieces → FlowEdit
@@ -118,5 +118,5 @@ appending key m c = record {
   old = [];
   lead = if is_none c.items then [] else 44 ∷ (32 ∷ []);
   written = key_text key (node_text m []);
-  behind = behind_appended c;
+  after = after_appended c;
 }

@@ -21,7 +21,7 @@ edit_view p = record { start = p.start; end = p.end; lead = p.lead.now }
 
 -- where an edit changes a text so long (own)
 abbrev pub place_edit : ℕ → FlowEdit → PlacedEdit
-place_edit total e = record { start = total - length (e.old ++ e.behind); end = total - length e.behind; lead = e.lead }
+place_edit total e = record { start = total - length (e.old ++ e.after); end = total - length e.after; lead = e.lead }
 
 -- in the place of a content, or where nothing is written after the node and a space (own)
 abbrev pub replace_at : ℕ → Option (ℕ × ℕ) → PlacedEdit
@@ -61,12 +61,12 @@ first_start end = None
 first_start (part key n parts) = Some (entry_start (key, n))
 
 -- an LF comes before this place (own)
-abbrev pub behind_feed : List ℕ → ℕ → Bool
-behind_feed t at = nat_lt 0 at && front is_feed (drop (at - 1) t)
+abbrev pub past_feed : List ℕ → ℕ → Bool
+past_feed t at = nat_lt 0 at && front is_feed (drop (at - 1) t)
 
 -- `---` or `...` ends at this place, begins in column 0, and not before that place (YAML 1.2.2, sections 9.1.2 and 9.1.3; own)
 abbrev pub marks_before : List ℕ → ℕ → ℕ → Bool
-marks_before t from at = nat_le 3 (at - from) && (behind_feed t (at - 3) && begins_marker (drop (at - 3) t))
+marks_before t from at = nat_le 3 (at - from) && (past_feed t (at - 3) && begins_marker (drop (at - 3) t))
 
 -- where the gap that begins at this place ends (own)
 abbrev pub past_gap : List ℕ → ℕ → ℕ
@@ -84,7 +84,7 @@ remove_end t from before e =
 
 -- a space, where a line begins at the one place and `---` or `...` at the other (own)
 abbrev pub space_at : List ℕ → ℕ → ℕ → List ℕ
-space_at t s n = if behind_feed t s && begins_marker (drop n t) then 32 ∷ [] else []
+space_at t s n = if past_feed t s && begins_marker (drop n t) then 32 ∷ [] else []
 
 -- from one place up to the next item or entry (own)
 abbrev pub remove_before : List ℕ → ℕ → ℕ → PlacedEdit

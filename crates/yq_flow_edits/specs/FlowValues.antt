@@ -12,7 +12,7 @@ pub record SpellsEntry (k : List ℕ) (v : tree.Node) (t : List ℕ) : Type 0 wh
   pub key : Key
   pub node : FlowNode
   pub written : (rest : List ℕ) → key_text key (node_text node rest) ≡ t ++ rest
-  pub stands : (d : ℕ) (rest : List ℕ) → depth v ≤ d → EndsItem 125 rest → FitsItem d 125 key node rest
+  pub is_located : (d : ℕ) (rest : List ℕ) → depth v ≤ d → EndsItem 125 rest → FitsItem d 125 key node rest
   pub same_key : key_content key ≡ Some k
   pub same : tree_of node ≡ v
 

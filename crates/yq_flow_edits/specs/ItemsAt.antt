@@ -4,7 +4,7 @@ use Rattle.yq_core.{specs.Collections.{CollAt, IsCollAt, item_in, room_in}, spec
 use Rattle.yq_core.{specs.Nodes.{FlowNode, Key, scalar}, specs.Paths.{Step, append_child, change_child, changed_at, within}}
 use Rattle.yq_core.{specs.Scalar.ScalarText, specs.Tree.{Label, Node}, specs.Writable.can_write, specs.Written.{IsOneLine, written_scalar}}
 use Rattle.yq_core.{specs.declared.style.Place.Place, specs.declared.style.Style.Style}
-use Rattle.yq_flow_edits.specs.FlowEdits.{FitsItem, FitsNode, IsFlowEdited, appending, behind_appended, replacing}
+use Rattle.yq_flow_edits.specs.FlowEdits.{FitsItem, FitsNode, IsFlowEdited, appending, after_appended, replacing}
 use Rattle.yq_flow_edits.specs.Valued.{IsLabel, IsValid, IsValueTree}
 
 -- an item or entry of a flow collection, and the step that leads to it (own)
@@ -51,7 +51,7 @@ item_changed x f = changed_at (x.coll.steps ++ (x.step ∷ [])) f
 
 -- an item or entry may come after the last one (own)
 abbrev pub FitsAfterLast : Key → FlowNode → CollAt → Type 0
-FitsAfterLast key m x = FitsItem (room_in x) x.coll.close key m (behind_appended x.coll)
+FitsAfterLast key m x = FitsItem (room_in x) x.coll.close key m (after_appended x.coll)
 
 -- a label may be one of the collection's, which are keys or none (own)
 abbrev pub IsLabelIn : CollAt → Label → Type 0

@@ -48,7 +48,7 @@ gap_of (comma b g) = g
 
 -- An edit of what comes after an item is one of the items from that one on (own).
 abbrev pub edit_from_item : List ℕ → Key → FlowNode → Sep → FlowEdit → FlowEdit
-edit_from_item g key n sep e = record { gap = g; items = item key n (with_gap e.gap sep) e.items; old = e.old; lead = e.lead; written = e.written; behind = e.behind }
+edit_from_item g key n sep e = record { gap = g; items = item key n (with_gap e.gap sep) e.items; old = e.old; lead = e.lead; written = e.written; after = e.after }
 
 -- an item after a gap goes up to the next one; nothing, if none follows it (own)
 abbrev pub before_next : ℕ → List ℕ → List ℕ → Key → FlowNode → Sep → Items → Option FlowEdit
@@ -61,7 +61,7 @@ before_next k rest g key n sep (item key2 n2 sep2 is) =
       old = key_text key (node_text n (sep_text sep []));
       lead = space_to g next;
       written = [];
-      behind = flow_items_text k (item key2 n2 sep2 is) rest;
+      after = flow_items_text k (item key2 n2 sep2 is) rest;
     })
 
 -- the text from the end of an item to that of the next one (own)
@@ -71,14 +71,14 @@ next_text sep key n = sep_text sep (key_text key (node_text n []))
 -- the last item goes from the end of the one before to its own (own)
 abbrev pub last_gone : ℕ → List ℕ → List ℕ → Key → FlowNode → Sep → Key → FlowNode → Sep → FlowEdit
 last_gone k rest g key n sep key2 n2 sep2 =
-    record { gap = g; items = item key n sep2 none; old = next_text sep key2 n2; lead = []; written = []; behind = sep_text sep2 (k ∷ rest) }
+    record { gap = g; items = item key n sep2 none; old = next_text sep key2 n2; lead = []; written = []; after = sep_text sep2 (k ∷ rest) }
 
 -- the last item goes up to the comma after it, or a comma comes in its place if there is none (own)
 abbrev pub comma_left : ℕ → List ℕ → List ℕ → Key → FlowNode → Sep → Key → FlowNode → Sep → FlowEdit
 comma_left k rest g key n sep key2 n2 (last b) =
-    record { gap = g; items = item key n (comma [] b) none; old = next_text sep key2 n2; lead = 44 ∷ []; written = []; behind = b ++ (k ∷ rest) }
+    record { gap = g; items = item key n (comma [] b) none; old = next_text sep key2 n2; lead = 44 ∷ []; written = []; after = b ++ (k ∷ rest) }
 comma_left k rest g key n sep key2 n2 (comma b h) =
-    record { gap = g; items = item key n (comma [] h) none; old = next_text sep key2 n2 ++ b; lead = []; written = []; behind = 44 ∷ (h ++ (k ∷ rest)) }
+    record { gap = g; items = item key n (comma [] h) none; old = next_text sep key2 n2 ++ b; lead = []; written = []; after = 44 ∷ (h ++ (k ∷ rest)) }
 
 -- The last one: a comma stays after an item that ends in `---` or `...` in column 0, which would else become a document marker (own).
 abbrev pub last_removed : ℕ → List ℕ → List ℕ → Key → FlowNode → Sep → Key → FlowNode → Sep → FlowEdit

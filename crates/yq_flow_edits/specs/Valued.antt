@@ -34,7 +34,7 @@ abbrev mutual
 pub record Spells (v : tree.Node) (t : List ℕ) : Type 0 where
   pub node : FlowNode
   pub written : (rest : List ℕ) → node_text node rest ≡ t ++ rest
-  pub stands : (place : Place) (n : ℤ) (around : ℕ) (rest : List ℕ) → depth v + around ≤ depth_limit →
+  pub is_located : (place : Place) (n : ℤ) (around : ℕ) (rest : List ℕ) → depth v + around ≤ depth_limit →
       ends_plain (in_flow place) (further_spaces place n) rest ≡ true → IsInline place n around node rest
   pub same : tree_of node ≡ v
 
@@ -45,4 +45,4 @@ pub record SpellsScalar (s : ScalarText) (p : List ℕ) : Type 0 where
   pub utf8 : IsUtf8 p
   pub text : is_text p ≡ true
   pub line : holds_break p ≡ false
-  pub stands : (spaces : Option ℕ) (rest : List ℕ) → ends_plain false spaces rest ≡ true → scalars.IsScalarAt false spaces p rest
+  pub is_located : (spaces : Option ℕ) (rest : List ℕ) → ends_plain false spaces rest ≡ true → scalars.IsScalarAt false spaces p rest

@@ -12,6 +12,6 @@ pub use flow_laws::{
     scalar_spells_in_flow,
 };
 pub use flow_place::{EditPlace, append_place, replace_place};
-pub use removal::{behind, remove_between};
+pub use removal::{bytes_after, remove_between};
 pub use valid::value_holds;
 pub use write::{push_scalar, write_entry, write_inline};

@@ -7,7 +7,7 @@ use yq_core::text::begins_marker;
 use yq_core::{first_is, gap_len};
 
 /// What comes after so many bytes.
-pub fn behind(text: &[u8], at: usize) -> &[u8]
+pub fn bytes_after(text: &[u8], at: usize) -> &[u8]
     ensures { result.now ≡ drop at text.now }
 {
     if at <= text.len() {
@@ -18,24 +18,26 @@ pub fn behind(text: &[u8], at: usize) -> &[u8]
 }
 
 /// Whether an LF comes before a place.
-fn behind_feed(text: &[u8], at: usize) -> bool
-    ensures { result ≡ spec.behind_feed text.now at }
+fn past_feed(text: &[u8], at: usize) -> bool
+    ensures { result ≡ spec.past_feed text.now at }
 {
-    at > 0 && first_is(b'\n', behind(text, at - 1))
+    at > 0 && first_is(b'\n', bytes_after(text, at - 1))
 }
 
 /// Whether `---` or `...` in column 0 ends at a place, and doesn't begin before another one.
 fn marks_before(text: &[u8], from: usize, at: usize) -> bool
     ensures { result ≡ spec.marks_before text.now from at }
 {
-    at.saturating_sub(from) >= 3 && behind_feed(text, at - 3) && begins_marker(behind(text, at - 3))
+    at.saturating_sub(from) >= 3
+        && past_feed(text, at - 3)
+        && begins_marker(bytes_after(text, at - 3))
 }
 
 /// Where the gap that begins at a place ends.
 fn past_gap(text: &[u8], at: usize) -> usize
     ensures { result ≡ spec.past_gap text.now at }
 {
-    at + gap_len(behind(text, at)).0
+    at + gap_len(bytes_after(text, at)).0
 }
 
 /// What goes with the last of several.
@@ -51,7 +53,7 @@ fn remove_end(text: &[u8], from: usize, before: usize, end: usize) -> EditPlace
         };
     }
     let comma = past_gap(text, end);
-    if first_is(b',', behind(text, comma)) {
+    if first_is(b',', bytes_after(text, comma)) {
         EditPlace {
             start,
             end: comma,
@@ -72,7 +74,7 @@ fn remove_before(text: &[u8], start: usize, next: Option<usize>) -> Option<EditP
         option_map (spec.remove_before text.now start) next }
 {
     match next {
-        Some(mark) if behind_feed(text, start) && begins_marker(behind(text, mark)) => {
+        Some(mark) if past_feed(text, start) && begins_marker(bytes_after(text, mark)) => {
             Some(EditPlace {
                 start,
                 end: mark,

@@ -18,10 +18,10 @@ ends_some [] = omega arith
 ends_some (x ∷ f) = omega arith
 
 -- a text that ends with LF, before another one
-pub lines_behind : (f b : List ℕ) → text_lines ((f ++ 10 ∷ []) ++ b) ≡ text_lines (f ++ 10 ∷ []) ++ text_lines b
+pub following_lines : (f b : List ℕ) → text_lines ((f ++ 10 ∷ []) ++ b) ≡ text_lines (f ++ 10 ∷ []) ++ text_lines b
 unfolding text_lines
-lines_behind [] b = refl
-lines_behind (x ∷ f) b = search (rules, put_more, lines_some, ends_some, lines_behind f b)
+following_lines [] b = refl
+following_lines (x ∷ f) b = search (rules, put_more, lines_some, ends_some, following_lines f b)
 
 pub lines_of_none : text_lines [] ≡ []
 unfolding text_lines
@@ -59,9 +59,9 @@ pub cut_back : (t a b : List ℕ) (n : ℕ) → a ≡ take n t → b ≡ drop n 
 cut_back t a b n front back none =
     ap text_lines (whole t a b n front back ∙ (ap (λ x. a ++ x) none ∙ append-nil a)) ∙ (sym (append-nil (text_lines a)) ∙ ap (λ x. text_lines a ++ x) (sym (no_lines b none)))
 
-pub cut_behind : (t a b : List ℕ) (n : ℕ) → a ≡ take n t → b ≡ drop n t → EndsInFeed a → text_lines t ≡ text_lines a ++ text_lines b
-cut_behind t a b n front back ends =
-    ap text_lines (whole t a b n front back ∙ ap (λ x. x ++ b) ends.1) ∙ (lines_behind ends.0 b ∙ ap (λ x. text_lines x ++ text_lines b) (sym ends.1))
+pub cut_after : (t a b : List ℕ) (n : ℕ) → a ≡ take n t → b ≡ drop n t → EndsInFeed a → text_lines t ≡ text_lines a ++ text_lines b
+cut_after t a b n front back ends =
+    ap text_lines (whole t a b n front back ∙ ap (λ x. x ++ b) ends.1) ∙ (following_lines ends.0 b ∙ ap (λ x. text_lines x ++ text_lines b) (sym ends.1))
 
 -- the last byte of a text is a line feed
 pub ends_in : (t : List ℕ) → 1 ≤ length t → eqb (get_or t (length t - 1) 0) 10 ≡ true → EndsInFeed t

@@ -9,7 +9,7 @@ use Rattle.yq_journal.specs.State.{State, journal_after, moved_text, with_move, 
 use Rattle.yq_journal.proofs.GoodLaws.{describes, open_before, open_after, settled_rests, undo_fault, redo_fault}
 use Rattle.yq_journal.proofs.HistoryLaws.{move_moves}
 use Rattle.yq_history.{specs.Causes.{Cause, IsFor}, specs.Effects.IsCutShort}
-use Rattle.yq_history.{specs.Pair.{Arrives, GoodIn, IsJournal, PairAtRest, PairStands, Writes}, specs.Steps.{move_cause, move_next}}
+use Rattle.yq_history.{specs.Pair.{Arrives, GoodIn, IsJournal, PairAtRest, PairIsThere, Writes}, specs.Steps.{move_cause, move_next}}
 use Rattle.yq_history.{specs.Directions.walk_move, specs.declared.direction.Direction.Direction}
 use Rattle.yq_fault.{specs.declared.fault.Fault.Fault, specs.Faults.{is_outer_fault, of_journal}}
 use Rattle.yq_store.specs.FileMap.{FileMap, get_written, get_other}
@@ -29,7 +29,7 @@ journal_written c e j s w =
 
 module _ (f j : List ℕ) (apart : f ≢ j) where
   -- a journal written next to a text
-  pub wrote_journal : (c e : FileMap) (t : List ℕ) (s : State) (h : History) → get c f ≡ Some t → Writes c e j s → Describes s t h → PairStands e f j h
+  pub wrote_journal : (c e : FileMap) (t : List ℕ) (s : State) (h : History) → get c f ≡ Some t → Writes c e j s → Describes s t h → PairIsThere e f j h
   wrote_journal c e t s h is w k = record {
     text = t;
     state = s;
@@ -39,7 +39,7 @@ module _ (f j : List ℕ) (apart : f ≢ j) where
   }
 
   -- and then a text next to it
-  wrote_text : (c e g : FileMap) (u : List ℕ) (s : State) (h : History) → Writes c e j s → g ≡ insert e f u → Describes s u h → PairStands g f j h
+  wrote_text : (c e g : FileMap) (u : List ℕ) (s : State) (h : History) → Writes c e j s → g ≡ insert e f u → Describes s u h → PairIsThere g f j h
   wrote_text c e g u s h w is k = record {
     text = u;
     state = s;
@@ -55,20 +55,20 @@ module _ (f j : List ℕ) (apart : f ≢ j) where
 
   module _ (c e : FileMap) (s : State) (t u : List ℕ) (h : History) (step : Move) (k : PairAtRest c f j s t h) (m : moved_text s.records s.at step t ≡ Some u) where
     -- a move that leaves the text equal: the settled journal
-    pub turned : (z : State) → u ≡ t → z ≡ journal_after s step → Writes c e j z → PairStands e f j (after_move h step u)
+    pub turned : (z : State) → u ≡ t → z ≡ journal_after s step → Writes c e j z → PairIsThere e f j (after_move h step u)
     turned z same is w = wrote_journal c e u (journal_after s step) (after_move h step u) (subst (λ x. get c f ≡ Some x) (sym same) k.file_is) (subst (Writes c e j) is w)
         (describes (journal_after s step) u (after_move h step u) (moved_closed s step) (move_moves s h t u step k.at_rest m))
 
     -- the first write: the journal with the move open
-    pub first_write : (z : State) → u ≢ t → z ≡ with_move s step t → Writes c e j z → PairStands e f j h
+    pub first_write : (z : State) → u ≢ t → z ≡ with_move s step t → Writes c e j z → PairIsThere e f j h
     first_write z changes is w = wrote_journal c e t (with_move s step t) h k.file_is (subst (Writes c e j) is w) (open_before s h t u step k.at_rest m changes)
 
     -- the second: the file
-    pub second_write : (z : State) (g : FileMap) → u ≢ t → z ≡ with_move s step t → Writes c e j z → g ≡ insert e f u → PairStands g f j (after_move h step u)
+    pub second_write : (z : State) (g : FileMap) → u ≢ t → z ≡ with_move s step t → Writes c e j z → g ≡ insert e f u → PairIsThere g f j (after_move h step u)
     second_write z g changes is w put = search (rules, wrote_text, open_after)
 
     -- the third: the journal settled
-    pub third_write : (y z : State) (g l : FileMap) → u ≢ t → y ≡ with_move s step t → g ≡ insert e f u → settled_beside y u ≡ Some z → Writes g l j z → PairStands l f j (after_move h step u)
+    pub third_write : (y z : State) (g l : FileMap) → u ≢ t → y ≡ with_move s step t → g ≡ insert e f u → settled_beside y u ≡ Some z → Writes g l j z → PairIsThere l f j (after_move h step u)
     third_write y z g l changes is put settles w =
         let rests = settled_rests (with_move s step t) z u (after_move h step u) (open_after s h t u step k.at_rest m changes) (sym (ap (λ x. settled_beside x u) is) ∙ settles) in
         wrote_journal g l u z (after_move h step u) (ap (λ x. get x f) put ∙ get_written e f u) w (describes z u (after_move h step u) rests.1 rests.0)
@@ -98,8 +98,8 @@ module _ (c : FileMap) (f j : List ℕ) (cause : Option Cause) (h k : Option His
   pub ends : {T : Type 0} (r : Result T Fault) → cause ≡ None → OnOk r (GoodIn c f j k) → OnErr r (GoodIn c f j h ⊎ GoodIn c f j k) → IfErr r (λ e. IsTrue (is_outer_fault e)) → Arrives c f j cause h k r
   ends r h1 ok err out = search rules
 
-pub same_content : (c e : FileMap) (f j : List ℕ) (h : History) → e ≡ c → PairStands c f j h → PairStands e f j h
-same_content c e f j h is k = subst (λ m. PairStands m f j h) (sym is) k
+pub same_content : (c e : FileMap) (f j : List ℕ) (h : History) → e ≡ c → PairIsThere c f j h → PairIsThere e f j h
+same_content c e f j h is k = subst (λ m. PairIsThere m f j h) (sym is) k
 
 -- the journal refuses it where the history does
 pub move_fault_of : (s : State) (t : List ℕ) (h : History) (w : Direction) → AtRest s t h → way_fault s.records s.at (walk_move w) t ≡ step_fault h (walk_move w)
@@ -115,8 +115,8 @@ no_way_free records at step t free = search rules
 -- what is known after a move of a pair from one text to another, by its contract: it was carried out from any history, or cut short; or the journal had no way for it
 pub record IsMove {T : Type 0} (c d : FileMap) (f j : List ℕ) (s : State) (t u : List ℕ) (step : Move) (r : Result T Fault) : Type 0 where
   pub leads : moved_text s.records s.at step t ≡ Some u
-  pub ok : (h : History) → PairAtRest c f j s t h → OnOk r (PairStands d f j (after_move h step u))
-  pub err : (h : History) → PairAtRest c f j s t h → OnErr r (PairStands d f j h ⊎ PairStands d f j (after_move h step u))
+  pub ok : (h : History) → PairAtRest c f j s t h → OnOk r (PairIsThere d f j (after_move h step u))
+  pub err : (h : History) → PairAtRest c f j s t h → OnErr r (PairIsThere d f j h ⊎ PairIsThere d f j (after_move h step u))
   pub text : OnOk r (get d f ≡ Some u)
   pub beside : OnOk r (IsJournal (get d j) (journal_after s step))
   pub cut : OnErr r (IsCutShort u (with_move s step t) (journal_after s step) f j c d)
@@ -132,13 +132,13 @@ module _ (f j : List ℕ) (h : History) (w : Direction) where
 
   -- it was carried out, or cut short
   move_ends : {T : Type 0} (d : FileMap) (r : Result T Fault) (u : List ℕ) → step_fault h (walk_move w) ≡ None →
-      OnOk r (PairStands d f j (after_move h (walk_move w) u)) →
-      OnErr r (PairStands d f j h ⊎ PairStands d f j (after_move h (walk_move w) u)) →
+      OnOk r (PairIsThere d f j (after_move h (walk_move w) u)) →
+      OnErr r (PairIsThere d f j h ⊎ PairIsThere d f j (after_move h (walk_move w) u)) →
       IfErr r (λ e. IsTrue (is_outer_fault e)) → MoveDone d r
   move_ends d r u free ok err out = search rules
 
   -- the journal refused it
-  move_fails : {T : Type 0} (c : FileMap) (r : Result T Fault) (x : JournalError) → r ≡ Err (of_journal x) → ErrorIs x (step_fault h (walk_move w)) → PairStands c f j h → MoveDone c r
+  move_fails : {T : Type 0} (c : FileMap) (r : Result T Fault) (x : JournalError) → r ≡ Err (of_journal x) → ErrorIs x (step_fault h (walk_move w)) → PairIsThere c f j h → MoveDone c r
   move_fails c r x is names good = search rules
 
   -- from a pair at rest, by the journal's answer
@@ -150,8 +150,8 @@ module _ (f j : List ℕ) (h : History) (w : Direction) where
     refused_move r e x err of names = search (rules, move_fails, move_fault_of)
 
     pub equal_move : {T : Type 0} (r : Result T Fault) → way_fault s.records s.at step t ≡ None →
-        OnOk r (PairStands d f j (after_move h (walk_move w) t)) →
-        OnErr r (PairStands d f j h ⊎ PairStands d f j (after_move h (walk_move w) t)) →
+        OnOk r (PairIsThere d f j (after_move h (walk_move w) t)) →
+        OnErr r (PairIsThere d f j h ⊎ PairIsThere d f j (after_move h (walk_move w) t)) →
         IfErr r (λ e. IsTrue (is_outer_fault e)) → MoveDone d r
     equal_move r free ok err out = move_ends d r t (free_move free) ok err out
 

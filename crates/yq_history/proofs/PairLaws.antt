@@ -24,7 +24,7 @@ module _ (c : FileMap) (f j : List ℕ) (t : List ℕ) (s : State) (file_is : ge
   settled_pair r h is good = record {
     file_is = file_is;
     at_rest = (settled_rests s r t h (reads h good) is).0;
-    stands = good;
+    is_located = good;
   }
 
 -- a pair that was read and settled

@@ -4,7 +4,7 @@ use Rattle.std.{proofs.Common.{option_map, sym, ap, ◌∙◌, subst, refl}, spe
 use Rattle.yq_journal.{specs.Refusals.{JournalError, Reports, squash_fault}, specs.Good.squash_refusal}
 use Rattle.yq_journal.{specs.History.{History, after_squash}, specs.State.{State, squashed}, proofs.GoodLaws.describes}
 use Rattle.yq_journal.proofs.SquashLaws.{squash_fault_of, squash_one, squash_rests}
-use Rattle.yq_history.{specs.Causes.named, specs.Pair.{Arrives, Opens, PairAtRest, PairStands, Writes}}
+use Rattle.yq_history.{specs.Causes.named, specs.Pair.{Arrives, Opens, PairAtRest, PairIsThere, Writes}}
 use Rattle.yq_history.specs.Steps.{squash_cause, squash_next, unless_fault}
 use Rattle.yq_history.proofs.MoveLaws.{cut, is_refused, ends, either, on_ok_map, on_err_map, same_content, wrote_journal}
 use Rattle.yq_fault.{specs.declared.fault.Fault.Fault, specs.Faults.{is_outer_fault, of_journal}}
@@ -37,7 +37,7 @@ module _ (c : FileMap) (f j : List ℕ) (h : History) (n : ℕ) (s : State) (t :
   squash_of_one v d one same free = search (rules, within, free_squash, squash_one, no_cause, next_is, same_content)
 
   module _ (apart : f ≢ j) (d : FileMap) (z : State) (is : z ≡ squashed s n) (free : squash_fault s n ≡ None) where
-    wrote : Writes c d j z → PairStands d f j (after_squash h n)
+    wrote : Writes c d j z → PairIsThere d f j (after_squash h n)
     wrote w =
         let fits = within h n (free_squash free) in
         wrote_journal f j apart c d t (squashed s n) (after_squash h n) k.file_is (subst (Writes c d j) is w)

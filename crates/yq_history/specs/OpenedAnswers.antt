@@ -5,7 +5,7 @@ use Rattle.yq_journal.{specs.History.History, specs.Refusals.no_way, specs.State
 use Rattle.yq_store.{specs.Calls.Call, specs.FileMap.FileMap, specs.declared.store.Store.Ghosts}
 use Rattle.yq_history.{specs.declared.opened.OpenPair.OpenPair, specs.declared.opened.Pair.Pair, specs.Actions.Action, specs.Calls.Makes}
 use Rattle.yq_history.{specs.Effects.{Effect, IsMoveCutShort, Works}, specs.Leaves.HoldsBytes}
-use Rattle.yq_history.specs.Pair.{Arrives, NamesDiffer, IsJournal, PairAtRest, PairStands}
+use Rattle.yq_history.specs.Pair.{Arrives, NamesDiffer, IsJournal, PairAtRest, PairIsThere}
 use Rattle.yq_fault.specs.declared.fault.Fault.{Fault}
 
 -- the pair that was opened is what a store's names hold, and good for a history
@@ -52,14 +52,14 @@ module _ {S : Type 0} (d : Ghosts S) (old new : S) (p : OpenPair) where
   abbrev pub GoodAfter : Move → List ℕ → {T : Type 0} → Result T Fault → Type 0
   GoodAfter step u r =
       IsTrue d.keeps → NamesDiffer p.pair → (h : History) → IsHeld (d.content old) p h →
-      OnOk r (PairStands (d.content new) p.pair.file.now p.pair.journal.now (after_move h step u))
+      OnOk r (PairIsThere (d.content new) p.pair.file.now p.pair.journal.now (after_move h step u))
 
   -- an error leaves it good for the history before the move or for that after it
   abbrev pub GoodAround : Move → List ℕ → {T : Type 0} → Result T Fault → Type 0
   GoodAround step u r =
       IsTrue d.keeps → NamesDiffer p.pair → (h : History) → IsHeld (d.content old) p h →
-      OnErr r (PairStands (d.content new) p.pair.file.now p.pair.journal.now h
-      ⊎ PairStands (d.content new) p.pair.file.now p.pair.journal.now (after_move h step u))
+      OnErr r (PairIsThere (d.content new) p.pair.file.now p.pair.journal.now h
+      ⊎ PairIsThere (d.content new) p.pair.file.now p.pair.journal.now (after_move h step u))
 
   -- an error leaves a move to a text cut short
   abbrev pub CutsShort : Move → List ℕ → {T : Type 0} → Result T Fault → Type 0

@@ -16,8 +16,8 @@ abbrev pub GoodIn : FileMap → List ℕ → List ℕ → Option History → Typ
 GoodIn content file journal h = Good (get content file) (get content journal) h
 
 -- and for one that is there
-abbrev pub PairStands : FileMap → List ℕ → List ℕ → History → Type 0
-PairStands content file journal h = PairHolds (get content file) (get content journal) h
+abbrev pub PairIsThere : FileMap → List ℕ → List ℕ → History → Type 0
+PairIsThere content file journal h = PairHolds (get content file) (get content journal) h
 
 -- what a name holds is the journal's text, which reads as that journal
 pub record IsJournal (held : Option (List ℕ)) (s : State) : Type 0 where
@@ -33,7 +33,7 @@ pub record Writes (old new : FileMap) (journal : List ℕ) (s : State) : Type 0 
 pub record PairAtRest (content : FileMap) (file journal : List ℕ) (s : State) (t : List ℕ) (h : History) : Type 0 where
   pub file_is : get content file ≡ Some t
   pub at_rest : AtRest s t h
-  pub stands : PairStands content file journal h
+  pub is_located : PairIsThere content file journal h
 
 -- a text and its journal, read and settled: an error only where there is no file, or from outside
 abbrev pub Opens : FileMap → List ℕ → List ℕ → Option History → Result (Vec ℕ Global × State) Fault → Type 0

@@ -7,11 +7,12 @@ use Rattle.yq_core.specs.Nodes.{FlowNode, Items, anchored, flow_items_text, item
 use Rattle.yq_core.{specs.Paths.{Step, further, is_here}, specs.Places.{Placed, locate}, specs.PlacedReading.placed_node}
 use Rattle.yq_core.{specs.Reading.all_node, specs.Tree.key_label, specs.Trees.key_content, proofs.NodeLaws.all_takes}
 use Rattle.yq_inline.specs.Along.{all_in, as_item, front_read, located_along, located_from, node_and_rest, one_in}
-use Rattle.yq_inline.{specs.Measured.closing_byte, specs.declared.in_front.PartsInFront.PartsInFront}
-use Rattle.yq_inline.specs.Neighbours.{IsCollectionOf, IsFirstInFront, IsStepPart, IsPassed, PartTexts, PartsAround, around_part}
+use Rattle.yq_inline.{specs.Measured.closing_byte, specs.declared.before_offset.LeadingParts.LeadingParts}
+use Rattle.yq_inline.specs.Neighbours.{IsCollectionOf, IsLeadingPart, IsStepPart, IsPassed, PartTexts, PartsAround, around_part}
 use Rattle.yq_inline.specs.Neighbours.{coll_around, coll_end, coll_read, first_ends, first_read, first_text, from_read, last_ends}
 use Rattle.yq_inline.specs.Neighbours.{last_read, rest_from, passed_view, past_last, past_passed}
-use Rattle.yq_inline.{specs.declared.passing.FoundPart.FoundPart, specs.declared.passing.PassedPart.PassedPart, proofs.FirstParts.behind_is}
+use Rattle.yq_inline.{specs.declared.passing.FoundPart.FoundPart, specs.declared.passing.PassedPart.PassedPart}
+use Rattle.yq_inline.proofs.FirstParts.{following_is}
 use denote.Bor.{Bor}
 
 -- ---- steps
@@ -103,7 +104,7 @@ no_coll s None absent = refl
 no_coll s (Some x) absent = ap (option_map node_and_rest) (in_coll s x.0 x.1 ∙ ap (λ (c : Option CollPieces). c >>= λ w. item_at w.close s w.items w.rest) absent)
 
 -- A collection is found in one that was read.
-module _ (s : Step) (w : CollPieces) (x : Bor (List ℕ) × PartsInFront) (h : IsCollectionOf w x) where
+module _ (s : Step) (w : CollPieces) (x : Bor (List ℕ) × LeadingParts) (h : IsCollectionOf w x) where
   abbrev k : ℕ
   k = closing_byte x.1.keyed
 
@@ -127,11 +128,11 @@ module _ (s : Step) (w : CollPieces) (x : Bor (List ℕ) × PartsInFront) (h : I
     pub node_found : (o : Option (FlowNode × List ℕ)) → coll_read [] o ≡ Some w → all_node true (Some 0) y.parts.depth y.node.now ≡ one_in s o
     node_found o there =
         f.first.read
-        ∙ ((λ i. Some (f.first.node, (behind_is y.parts y.node.now f.first ∙ ap (λ (b : Bool). sep_text f.first.sep (flow_items_text (closing_byte b) f.first.items f.first.rest)) f.keyed) i))
+        ∙ ((λ i. Some (f.first.node, (following_is y.parts y.node.now f.first ∙ ap (λ (b : Bool). sep_text f.first.sep (flow_items_text (closing_byte b) f.first.items f.first.rest)) f.keyed) i))
         ∙ sym (node_is o there ∙ ap (λ c. option_map node_and_rest (c >>= first_item k)) f.found))
 
     -- what is next to it
-    pub around_found : (z : PassedPart × PartsInFront) → IsPassed y.parts y.node.now f.first z → (next : Option (List ℕ)) → next ≡ first_read z.1 →
+    pub around_found : (z : PassedPart × LeadingParts) → IsPassed y.parts y.node.now f.first z → (next : Option (List ℕ)) → next ≡ first_read z.1 →
         Some (record { before = option_map passed_view y.before; here = passed_view z.0; next = next }) ≡ coll_around s w
     around_found z p next is =
         let from : from_read s None x.1 ≡ Some (option_map passed_view y.before, item f.first.key f.first.node f.first.sep f.first.items, f.first.rest) = f.found in
@@ -155,7 +156,7 @@ unfolding flow_items_text
 none_last k none rest absent = refl
 none_last k (item key n sep is) rest absent = absurd (some_last k (first_ends k key n sep is rest) is rest absent)
 
-module _ (w : CollPieces) (x : Bor (List ℕ) × PartsInFront) (h : IsCollectionOf w x) where
+module _ (w : CollPieces) (x : Bor (List ℕ) × LeadingParts) (h : IsCollectionOf w x) where
   last_is : (o : Option PassedPart) → option_map passed_view o ≡ last_read None x.1 → last_ends w.close None w.items w.rest ≡ option_map passed_view o
   last_is o is =
       ap (λ (k : ℕ). last_ends k None w.items w.rest) h.close

@@ -6,7 +6,7 @@ use Rattle.yq_core.specs.Nodes.{FlowNode, Items, alias, anchored, begins_content
 use Rattle.yq_core.{specs.Nodes.takes_anchor, proofs.GapLaws.gap_takes, proofs.NodeTakes.items_takes, proofs.NodesPieceLaws.front_not}
 use Rattle.yq_core.specs.Reading.{Kids, all_items, all_node, kids_of, lead_at, name_at, read_collection, read_core, read_gap, read_node}
 use Rattle.yq_inline.{specs.Along.{after_anchor, front_read, past_bracket}, specs.Measured.closing_byte}
-use Rattle.yq_inline.{specs.declared.in_front.NodeInFront.NodeInFront, specs.declared.in_front.PartsInFront.PartsInFront}
+use Rattle.yq_inline.{specs.declared.before_offset.LeadingNode.LeadingNode, specs.declared.before_offset.LeadingParts.LeadingParts}
 use Rattle.yq_inline.{specs.Neighbours.{IsCollectionOf, coll_read}, proofs.FirstParts.some_of}
 use denote.Bor.{Bor}
 
@@ -99,7 +99,7 @@ map_read flow spaces kids u list map = rw (front_not (begins_with 123) 42 (λ bs
 -- a collection is in front, with what follows its bracket
 record Bracket (flow : Bool) (spaces : Option ℕ) (d : ℕ) (u : List ℕ) (curly : Bool) (v : List ℕ) : Type 0 where
   pub read : read_core flow spaces (kids_of d) u ≡ read_collection (kids_of d) (closing_byte curly) (drop 1 u)
-  pub behind : v ≡ drop 1 u
+  pub after : v ≡ drop 1 u
 
 bracket : (flow : Bool) (spaces : Option ℕ) (d : ℕ) (u : List ℕ) (curly : Bool) (v : List ℕ) → past_bracket u ≡ Some (curly, v) → Bracket flow spaces d u curly v
 bracket flow spaces d u curly v past = go (begins_with 91 u) (begins_with 123 u) refl refl past where
@@ -107,8 +107,8 @@ bracket flow spaces d u curly v past = go (begins_with 91 u) (begins_with 123 u)
   by_bits b c = cond b (Some (false, drop 1 u)) (cond c (Some (true, drop 1 u)) None)
 
   go : (b c : Bool) → begins_with 91 u ≡ b → begins_with 123 u ≡ c → by_bits b c ≡ Some (curly, v) → Bracket flow spaces d u curly v
-  go true c list map e = subst (λ (y : Bool × List ℕ). Bracket flow spaces d u y.0 y.1) (same_Some _ _ e) (record { read = list_read flow spaces (kids_of d) u list; behind = refl })
-  go false true list map e = subst (λ (y : Bool × List ℕ). Bracket flow spaces d u y.0 y.1) (same_Some _ _ e) (record { read = map_read flow spaces (kids_of d) u list map; behind = refl })
+  go true c list map e = subst (λ (y : Bool × List ℕ). Bracket flow spaces d u y.0 y.1) (same_Some _ _ e) (record { read = list_read flow spaces (kids_of d) u list; after = refl })
+  go false true list map e = subst (λ (y : Bool × List ℕ). Bracket flow spaces d u y.0 y.1) (same_Some _ _ e) (record { read = map_read flow spaces (kids_of d) u list map; after = refl })
   go false false list map e = cc
 
 -- the items or entries after the bracket and the gap after that
@@ -144,7 +144,7 @@ unopened_by flow spaces d k u is gap = is ∙ rw gap refl
 
 -- ---- what the code finds in front
 
-module _ (n : NodeInFront) where
+module _ (n : LeadingNode) where
   abbrev text : List ℕ
   text = n.text.now
 
@@ -171,11 +171,11 @@ module _ (n : NodeInFront) where
       b = bracket n.flow n.spaces n.depth u curly v opens
 
       pub gap_there : read_gap v ≡ None → ⊥
-      gap_there gap = content.there (unopened_by n.flow n.spaces n.depth (closing_byte curly) u b.read (ap read_gap (sym b.behind) ∙ gap))
+      gap_there gap = content.there (unopened_by n.flow n.spaces n.depth (closing_byte curly) u b.read (ap read_gap (sym b.after) ∙ gap))
 
       module _ (g r : List ℕ) (gap : read_gap v ≡ Some (g, r)) where
         opened : Opened n.flow n.spaces n.depth (closing_byte curly) u g r
-        opened = opened_by n.flow n.spaces n.depth (closing_byte curly) u g r b.read (ap read_gap (sym b.behind) ∙ gap) content.there
+        opened = opened_by n.flow n.spaces n.depth (closing_byte curly) u g r b.read (ap read_gap (sym b.after) ∙ gap) content.there
 
         pub depth_is : n.depth ≡ suc (n.depth - 1)
         depth_is = opened.depth
@@ -183,7 +183,7 @@ module _ (n : NodeInFront) where
         pub parts_there : all_items (n.depth - 1) (closing_byte curly) r ≡ None → ⊥
         parts_there absent = let e = sym opened.read ∙ absent in cc
 
-        pub collection_there : (x : Bor (List ℕ) × PartsInFront) → x.0.now ≡ v → x.1.depth ≡ n.depth - 1 → x.1.keyed ≡ curly → x.1.text.now ≡ r →
+        pub collection_there : (x : Bor (List ℕ) × LeadingParts) → x.0.now ≡ v → x.1.depth ≡ n.depth - 1 → x.1.keyed ≡ curly → x.1.text.now ≡ r →
             (w : CollPieces) × (coll_of (front_read n) ≡ Some w) × IsCollectionOf w x
         collection_there x inside depth keyed at =
             let o = opened in (

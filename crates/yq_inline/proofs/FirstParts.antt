@@ -10,9 +10,9 @@ use Rattle.yq_core.{specs.Trees.key_content, proofs.NodeLaws.{all_takes, items_d
 use Rattle.yq_core.{proofs.NodeAgain.{item_longer, sep_longer}, proofs.NodeTakes.{items_takes, key_in_takes}}
 use Rattle.yq_core.proofs.NodesPieceLaws.{key_takes, sep_takes}
 use Rattle.yq_inline.{specs.Along.parts_read, specs.BorrowedParts.key_before, specs.Measured.{closing_byte, measured}}
-use Rattle.yq_inline.{specs.declared.measuring.MeasuredKind.MeasuredKind, specs.declared.in_front.PartsInFront.PartsInFront}
+use Rattle.yq_inline.{specs.declared.measuring.MeasuredKind.MeasuredKind, specs.declared.before_offset.LeadingParts.LeadingParts}
 use Rattle.yq_inline.specs.declared.passing.PassedPart.{PassedPart}
-use Rattle.yq_inline.specs.Neighbours.{IsFirstInFront, IsKeyInFront, IsPassed, IsWrittenKey, PartTexts, first_ends, first_read, first_text}
+use Rattle.yq_inline.specs.Neighbours.{IsLeadingPart, IsLeadingKey, IsPassed, IsWrittenKey, PartTexts, first_ends, first_read, first_text}
 use Rattle.yq_inline.specs.Neighbours.{from_read, key_means, last_ends, last_read, rest_from, passed_view, with_index}
 use denote.Bor.{Bor}
 
@@ -22,7 +22,7 @@ some_of (Some x) h = (x, refl)
 
 -- ---- the first item or entry
 
-first_by : (p : PartsInFront) (key : Key) (u : List ℕ) → begins_with (closing_byte p.keyed) p.text.now ≡ false → key_before (closing_byte p.keyed) p.text.now ≡ Some (key, u) → (f : IsFirstInFront p u) × (f.key ≡ key)
+first_by : (p : LeadingParts) (key : Key) (u : List ℕ) → begins_with (closing_byte p.keyed) p.text.now ≡ false → key_before (closing_byte p.keyed) p.text.now ≡ Some (key, u) → (f : IsLeadingPart p u) × (f.key ≡ key)
 first_by p key u before read =
     let k = closing_byte p.keyed in
     let t = p.text.now in
@@ -41,7 +41,7 @@ first_by p key u before read =
         sep = sep.0.0;
         items = more.0.0;
         rest = more.0.1;
-        behind = node.0.1;
+        following = node.0.1;
         after = sep.0.1;
         read = node.1;
         sep_read = some.1;
@@ -57,7 +57,7 @@ key_is : (key : Key) (rest : List ℕ) → IsInlineKey 125 key rest → key_cont
 key_is bare rest valid = absurd (false≢true (sym valid))
 key_is (keyed p b g) rest valid = refl
 
-pub key_written : (p : PartsInFront) (x u : Bor (List ℕ)) → p.keyed ≡ true → begins_with (closing_byte p.keyed) p.text.now ≡ false → split_key p.text.now ≡ Some (x.now, u.now) → IsWrittenKey (Some x) → IsKeyInFront p (Some x, u)
+pub key_written : (p : LeadingParts) (x u : Bor (List ℕ)) → p.keyed ≡ true → begins_with (closing_byte p.keyed) p.text.now ≡ false → split_key p.text.now ≡ Some (x.now, u.now) → IsWrittenKey (Some x) → IsLeadingKey p (Some x, u)
 key_written p x u is before split quoted =
     let k = bind_some (read_flow_key p.text.now) split in
     let same = same_Some _ _ k.2 in
@@ -69,12 +69,12 @@ key_written p x u is before split quoted =
       quoted = quoted;
     }
 
-pub no_key : (p : PartsInFront) → p.keyed ≡ false → begins_with (closing_byte p.keyed) p.text.now ≡ false → IsKeyInFront p (None, p.text)
+pub no_key : (p : LeadingParts) → p.keyed ≡ false → begins_with (closing_byte p.keyed) p.text.now ≡ false → IsLeadingKey p (None, p.text)
 no_key p is before =
     let f = first_by p bare p.text.now before (ap (λ (b : Bool). key_before (closing_byte b) p.text.now) is) in
     record { first = f.0; means = ap key_content f.1; quoted = tt }
 
-pub no_entry_key : (p : PartsInFront) → p.keyed ≡ true → begins_with (closing_byte p.keyed) p.text.now ≡ false → split_key p.text.now ≡ None → ⊥
+pub no_entry_key : (p : LeadingParts) → p.keyed ≡ true → begins_with (closing_byte p.keyed) p.text.now ≡ false → split_key p.text.now ≡ None → ⊥
 no_entry_key p is before absent =
     p.parts (items_step p.depth (closing_byte p.keyed) p.text.now before ∙ ap (λ o. o >>= then_node p.depth (closing_byte p.keyed))
     (ap (λ (b : Bool). key_before (closing_byte b) p.text.now) is ∙ unread (read_flow_key p.text.now) absent))
@@ -96,7 +96,7 @@ unfolding flow_items_text
 items_here k t none rest text some = absurd (false≢true (sym some ∙ (ap (begins_with k) text ∙ eq-eqb k k refl)))
 items_here k t (item key n sep is) rest text some = ap Some (sym text)
 
-module _ (p : PartsInFront) (u : List ℕ) (f : IsFirstInFront p u) where
+module _ (p : LeadingParts) (u : List ℕ) (f : IsLeadingPart p u) where
   abbrev k : ℕ
   k = closing_byte p.keyed
 
@@ -109,11 +109,11 @@ module _ (p : PartsInFront) (u : List ℕ) (f : IsFirstInFront p u) where
   unfolding flow_items_text
   text_is = (items_takes (suc (length p.text.now)) p.depth k p.text.now (item f.key f.node f.sep f.items, f.rest) f.all).0
 
-  pub behind_is : f.behind ≡ sep_text f.sep (flow_items_text k f.items f.rest)
-  behind_is = (sep_takes k f.behind (f.sep, f.after) f.sep_read).0 ∙ ap (sep_text f.sep) (items_takes (suc (length f.after)) p.depth k f.after (f.items, f.rest) f.others).0
+  pub following_is : f.following ≡ sep_text f.sep (flow_items_text k f.items f.rest)
+  following_is = (sep_takes k f.following (f.sep, f.after) f.sep_read).0 ∙ ap (sep_text f.sep) (items_takes (suc (length f.after)) p.depth k f.after (f.items, f.rest) f.others).0
 
   module _ (m : Bool × MeasuredKind) (r : List ℕ) (value : measured (placed_node true (Some 0) 0 p.depth u) ≡ Some (m, r)) where
-    rest_is : r ≡ f.behind
+    rest_is : r ≡ f.following
     unfolding as_placed
     rest_is = sym (ap (λ (y : (Bool × MeasuredKind) × List ℕ). y.1) (same_Some _ _ (sym (ap (λ o. measured (o >>= as_placed)) f.read) ∙ value)))
 
@@ -130,18 +130,18 @@ module _ (p : PartsInFront) (u : List ℕ) (f : IsFirstInFront p u) where
       pub others_there : all_items p.depth k a ≡ Some (f.items, f.rest)
       others_there = ap (all_items p.depth k) (sym after_is) ∙ f.others
 
-      pub passed : (x : PassedPart × PartsInFront) → x.0.text.now ≡ p.text.now → x.0.rest.now ≡ r → x.1.depth ≡ p.depth → x.1.keyed ≡ p.keyed → x.1.text.now ≡ a → IsPassed p u f x
+      pub passed : (x : PassedPart × LeadingParts) → x.0.text.now ≡ p.text.now → x.0.rest.now ≡ r → x.1.depth ≡ p.depth → x.1.keyed ≡ p.keyed → x.1.text.now ≡ a → IsPassed p u f x
       passed x text rest depth sort at = record {
         others = (λ i. all_items (depth i) (closing_byte (sort i)) (at i)) ∙ others_there;
         keyed = sort;
         fewer = subst (λ (l : List ℕ). length l < length p.text.now) (after_is ∙ sym at) f.fewer;
-        ends = λ i. ((text ∙ text_is) i, (rest ∙ (rest_is ∙ behind_is)) i);
+        ends = λ i. ((text ∙ text_is) i, (rest ∙ (rest_is ∙ following_is)) i);
       }
 
 -- ---- one after the other
 
 -- no item or entry is in front
-module _ (p : PartsInFront) (ends : begins_with (closing_byte p.keyed) p.text.now ≡ true) where
+module _ (p : LeadingParts) (ends : begins_with (closing_byte p.keyed) p.text.now ≡ true) where
   done : parts_read p ≡ Some (none, drop 1 p.text.now)
   done = items_done p.depth (closing_byte p.keyed) p.text.now ends
 
@@ -155,7 +155,7 @@ module _ (p : PartsInFront) (ends : begins_with (closing_byte p.keyed) p.text.no
   from_done s o = ap (λ (x : Option (Items × List ℕ)). x >>= λ y. rest_from (closing_byte p.keyed) s o y.0 y.1) done
 
 -- one is in front
-pub first_there : (p : PartsInFront) → begins_with (closing_byte p.keyed) p.text.now ≡ false → Some p.text.now ≡ first_read p
+pub first_there : (p : LeadingParts) → begins_with (closing_byte p.keyed) p.text.now ≡ false → Some p.text.now ≡ first_read p
 first_there p some = go (parts_read p) refl
   where
     go : (o : Option (Items × List ℕ)) → parts_read p ≡ o → Some p.text.now ≡ (o >>= λ x. first_text (closing_byte p.keyed) x.0 x.1)
@@ -163,7 +163,7 @@ first_there p some = go (parts_read p) refl
     go (Some x) e = sym (items_here (closing_byte p.keyed) p.text.now x.0 x.1 (items_takes (suc (length p.text.now)) p.depth (closing_byte p.keyed) p.text.now x e).0 some)
 
 -- whether a step leads to it
-module _ (p : PartsInFront) (x : Option (Bor (List ℕ)) × Bor (List ℕ)) (h : IsKeyInFront p x) (s : Step) where
+module _ (p : LeadingParts) (x : Option (Bor (List ℕ)) × Bor (List ℕ)) (h : IsLeadingKey p x) (s : Step) where
   pub by_first : (o : Option PartTexts) (b : Bool) → is_here s (key_label (key_means x.0)) ≡ b →
       from_read s o p ≡ cond b (Some (o, item h.first.key h.first.node h.first.sep h.first.items, h.first.rest))
       (rest_from (closing_byte p.keyed) (further s) (Some (first_ends (closing_byte p.keyed) h.first.key h.first.node h.first.sep h.first.items h.first.rest)) h.first.items h.first.rest)
@@ -174,7 +174,7 @@ module _ (p : PartsInFront) (x : Option (Bor (List ℕ)) × Bor (List ℕ)) (h :
       (ap (λ (l : Option (List ℕ)). is_here s (key_label l)) h.means ∙ is)
 
 -- it is passed
-module _ (p : PartsInFront) (u : List ℕ) (f : IsFirstInFront p u) (x : PassedPart × PartsInFront) (h : IsPassed p u f x) where
+module _ (p : LeadingParts) (u : List ℕ) (f : IsLeadingPart p u) (x : PassedPart × LeadingParts) (h : IsPassed p u f x) where
   among_others : {B : Type 0} (g : ℕ → Option PartTexts → Items × List ℕ → Option B) →
       g (closing_byte p.keyed) (Some (first_ends (closing_byte p.keyed) f.key f.node f.sep f.items f.rest)) (f.items, f.rest) ≡ (parts_read x.1 >>= g (closing_byte x.1.keyed) (Some (passed_view x.0)))
   among_others g = (λ i. g (closing_byte (sym h.keyed i)) (Some (sym h.ends i)) (f.items, f.rest)) ∙ sym (ap (λ o. o >>= g (closing_byte x.1.keyed) (Some (passed_view x.0))) h.others)

@@ -13,10 +13,10 @@ unfolding read_gap flow_gap_len gap_end
 no_gap [] h = refl
 no_gap (b ∷ bs) h = rw h refl
 
-pub behind_space : (r : List ℕ) → is_space r ≡ false → begins_with 35 r ≡ false → read_gap (32 ∷ r) ≡ Some (32 ∷ [], r)
+pub after_a_space : (r : List ℕ) → is_space r ≡ false → begins_with 35 r ≡ false → read_gap (32 ∷ r) ≡ Some (32 ∷ [], r)
 unfolding read_gap flow_gap_len gap_end
-behind_space [] h k = refl
-behind_space (b ∷ bs) h k = rw (h, k) refl
+after_a_space [] h k = refl
+after_a_space (b ∷ bs) h k = rw (h, k) refl
 
 -- white space after a break, up to what is no gap
 abbrev Spaced : GapPlace → List ℕ → Type 0
@@ -108,4 +108,4 @@ token_gap t h = no_gap t (token_apart t h).0
 pub token_after_space : (t r : List ℕ) → begins_with 32 t ≡ true → r ≡ drop 1 t → is_token r ≡ true → read_gap t ≡ Some (32 ∷ [], r)
 token_after_space t r space is h =
     let apart = token_apart r h in
-    ap read_gap (front_is 32 t space ∙ ap (λ (l : List ℕ). 32 ∷ l) (sym is)) ∙ behind_space r apart.0 apart.1
+    ap read_gap (front_is 32 t space ∙ ap (λ (l : List ℕ). 32 ∷ l) (sym is)) ∙ after_a_space r apart.0 apart.1

@@ -6,7 +6,7 @@ use Rattle.yq_core.{specs.declared.style.Style.Style, specs.Nodes.{FlowNode, beg
 use Rattle.yq_core.specs.Places.{Placed, placed, CoreNode, nothing, name, text, sequence, mapping, Parts, part, anchored_node}
 use Rattle.yq_core.specs.Places.{placed_between, bare_placed, holder, key_here, locate_items}
 use Rattle.yq_core.specs.PlacedReading.{core_between, placed_node, placed_items, placed_content, placed_coll, placed_item, placed_entry}
-use Rattle.yq_core.specs.PlacedReading.{split_key, past_sep, stands_behind, then_anchored}
+use Rattle.yq_core.specs.PlacedReading.{split_key, past_sep, may_follow_anchor, then_anchored}
 use Rattle.yq_core.specs.Reading.{read_gap, read_scalar, name_at, lead_at, read_collection, read_core, kids_of, all_items}
 use Rattle.yq_core.{specs.Scalars.{scalar_style, begins_scalar}, proofs.Loops.node_shorter, proofs.NodesPieceLaws.front_is}
 use Rattle.yq_core.proofs.Steps.{items_end, items_more, entries_more, node_plain, node_anchored, node_no_name, node_no_lead}
@@ -61,7 +61,7 @@ style_follow g styles.Double = refl
 style_follow g styles.Literal = refl
 style_follow g styles.Folded = refl
 
-follow_measure : (g : List ℕ) (s : Placed) → stands_behind g s ≡ node_may_follow g (node_measure s)
+follow_measure : (g : List ℕ) (s : Placed) → may_follow_anchor g s ≡ node_may_follow g (node_measure s)
 follow_measure g (placed None s c e nothing) = refl
 follow_measure g (placed None s c e (name n)) = refl
 follow_measure g (placed None s c e (text t p)) = style_follow g p.style
@@ -176,10 +176,10 @@ anchored_is : (flow : Bool) (spaces : Option ℕ) (d : ℕ) (t n r g s u : List 
     measured (placed_node flow spaces 0 d t) ≡ cond (node_may_follow g (a, k)) (Some ((true, k), u)) None
 anchored_is flow spaces d t n r g s u a k amp e f h =
     let y = found (placed_content flow spaces 0 d s) a k u h in
-    let may : stands_behind g y.node ≡ node_may_follow g (a, k) = follow_measure g y.node ∙ ap (node_may_follow g) y.measured_as in
+    let may : may_follow_anchor g y.node ≡ node_may_follow g (a, k) = follow_measure g y.node ∙ ap (node_may_follow g) y.measured_as in
     let is : node_measure (anchored_node n (0 - length t) y.node) ≡ (true, k) = with_measure n (0 - length t) y.node ∙ ap (λ (m : Bool × MeasuredKind). (true, m.1)) y.measured_as in
     ap measured (node_anchored flow spaces 0 d t n r g s amp e f ∙ ap (λ o. o >>= then_anchored 0 t n g) y.read)
-    ∙ (go (stands_behind g y.node) (anchored_node n (0 - length t) y.node) u ∙ ap (λ (m : Bool × MeasuredKind). cond (stands_behind g y.node) (Some (m, u)) None) is ∙ ap (λ c. cond c (Some ((true, k), u)) None) may)
+    ∙ (go (may_follow_anchor g y.node) (anchored_node n (0 - length t) y.node) u ∙ ap (λ (m : Bool × MeasuredKind). cond (may_follow_anchor g y.node) (Some (m, u)) None) is ∙ ap (λ c. cond c (Some ((true, k), u)) None) may)
   where
     go : (c : Bool) (x : Placed) (v : List ℕ) → measured (cond c (Some (x, v)) None) ≡ cond c (Some (node_measure x, v)) None
     go true x v = refl
@@ -246,13 +246,13 @@ items_last d k t h = ap past_node (items_end 0 d k t h)
 
 items_are : (d : ℕ) (t : List ℕ) → begins_with 93 t ≡ false → past_node (placed_items 0 d 93 t) ≡ (past_node (placed_item 0 d t) >>= λ r. past_node (placed_items 0 d 93 r))
 items_are d t h = ap past_node (items_more 0 d t h) ∙ go (placed_item 0 d t) where
-  behind : (x : Placed) (o : Option (Parts × List ℕ)) → past_node (o >>= λ y. Some (part None x y.0, y.1)) ≡ past_node o
-  behind x None = refl
-  behind x (Some y) = refl
+  after : (x : Placed) (o : Option (Parts × List ℕ)) → past_node (o >>= λ y. Some (part None x y.0, y.1)) ≡ past_node o
+  after x None = refl
+  after x (Some y) = refl
 
   go : (o : Option (Placed × List ℕ)) → past_node (o >>= λ x. placed_items 0 d 93 x.1 >>= λ y. Some (part None x.0 y.0, y.1)) ≡ (past_node o >>= λ r. past_node (placed_items 0 d 93 r))
   go None = refl
-  go (Some x) = behind x.0 (placed_items 0 d 93 x.1)
+  go (Some x) = after x.0 (placed_items 0 d 93 x.1)
 
 -- entries
 -- an entry before what follows it, if anything does
@@ -285,13 +285,13 @@ entry_some d t k u r a kind h e = entry_is d t k u h ∙ ap (λ o. o >>= past_se
 
 entries_are : (d : ℕ) (t : List ℕ) → begins_with 125 t ≡ false → past_node (placed_items 0 d 125 t) ≡ (past_node (placed_entry 0 d t) >>= λ r. past_node (placed_items 0 d 125 r))
 entries_are d t h = ap past_node (entries_more 0 d t h) ∙ go (placed_entry 0 d t) where
-  behind : (key : List ℕ × Piece) (x : Placed) (o : Option (Parts × List ℕ)) → past_node (o >>= λ y. Some (part (Some key) x y.0, y.1)) ≡ past_node o
-  behind key x None = refl
-  behind key x (Some y) = refl
+  after : (key : List ℕ × Piece) (x : Placed) (o : Option (Parts × List ℕ)) → past_node (o >>= λ y. Some (part (Some key) x y.0, y.1)) ≡ past_node o
+  after key x None = refl
+  after key x (Some y) = refl
 
   go : (o : Option (((List ℕ × Piece) × Placed) × List ℕ)) → past_node (o >>= λ x. placed_items 0 d 125 x.1 >>= λ y. Some (part (Some x.0.0) x.0.1 y.0, y.1)) ≡ (past_node o >>= λ r. past_node (placed_items 0 d 125 r))
   go None = refl
-  go (Some x) = behind x.0.0 x.0.1 (placed_items 0 d 125 x.1)
+  go (Some x) = after x.0.0 x.0.1 (placed_items 0 d 125 x.1)
 
 parts_are : (keyed : Bool) (d : ℕ) (t : List ℕ) → begins_with (closing_byte keyed) t ≡ false → past_node (placed_items 0 d (closing_byte keyed) t) ≡ (past_part keyed d t >>= λ r. past_node (placed_items 0 d (closing_byte keyed) r))
 parts_are true d t h = entries_are d t h

@@ -2,7 +2,7 @@
 use Rattle.std.proofs.Common.{◌≡◌, ℕ, zero, suc, ◌-◌, ◌<◌, Bool, true, false, cond, ◌||◌, eqb, List, ◌++◌, drop, length, Some, None, refl}
 use Rattle.std.{proofs.Common.{sym, ap, ◌∙◌, subst, arith, eq-eqb, eqb-true, ⊎_elim}, proofs.lemmas.Option.same_Some}
 use Rattle.std.proofs.lemmas.Bool.{false≢true, and_parts, or_cases, or_parts}
-use Rattle.yq_core.specs.Borrowed.{borrows_text, borrows_node, borrows_items, is_borrowed, are_borrowed, node_in_front, items_in_front}
+use Rattle.yq_core.specs.Borrowed.{borrows_text, borrows_node, borrows_items, is_borrowed, are_borrowed, leading_node, leading_items}
 use Rattle.yq_core.{specs.Keys.{are_distinct, keys_of, has_unique_keys, each_has_unique_keys}, specs.Tree.Children}
 use Rattle.yq_core.specs.Trees.{items_tree, placed_tree, parts_tree, scalar_node, tree_collection, tree_of}
 use Rattle.yq_core.specs.Nodes.{FlowNode, empty, alias, scalar, coll, anchored, Items, node_text, flow_items_text, begins_with}
@@ -29,8 +29,8 @@ pub record Inside (total d k : ℕ) (t : List ℕ) : Type 0 where
   pub items : List ℕ
   pub read : read_gap (drop 1 t) ≡ Some (gap, items)
   pub borrowed : are_borrowed (d - 1) k items ≡ true
-  pub tree : placed_tree (node_in_front total d t) ≡ tree_collection k (parts_tree (items_in_front total (d - 1) k items))
-  pub parts : parts_of (node_in_front total d t) ≡ items_in_front total (d - 1) k items
+  pub tree : placed_tree (leading_node total d t) ≡ tree_collection k (parts_tree (leading_items total (d - 1) k items))
+  pub parts : parts_of (leading_node total d t) ≡ leading_items total (d - 1) k items
 
 holder_tree : (k : ℕ) (s c e : ℕ) (parts : Parts) → (placed_tree (placed None s c e (holder k parts)) ≡ tree_collection k (parts_tree parts)) × (parts_of (placed None s c e (holder k parts)) ≡ parts)
 holder_tree k s c e parts = go (eqb k 125) where
@@ -72,20 +72,20 @@ each_unique k cs h = go (eqb k 125) h where
 coll_inside : (total d k : ℕ) (t g : List ℕ) (is : Items) (rest : List ℕ) → is_close k ≡ true → t ≡ node_text (coll k g is) rest →
     IsFlowNode true (Some 0) d (coll k g is) rest → borrows_items is ≡ true → each_has_unique_keys (items_tree is) ≡ true → Inside total d k t
 unfolding node_text IsFlowNode locate
-coll_inside total zero k t g is rest close stands valid borrows unique = absurd valid.2
-coll_inside total (suc e) k t g is rest close stands valid borrows unique =
+coll_inside total zero k t g is rest close is_located valid borrows unique = absurd valid.2
+coll_inside total (suc e) k t g is rest close is_located valid borrows unique =
     let u : List ℕ = flow_items_text k is rest in
     let less : e ≡ suc e - 1 = omega arith in
-    let are = items_borrowed e k u close (record { items = is; rest = rest; stand = refl; valid = valid.2; borrowed = borrows; unique = unique }) in
+    let are = items_borrowed e k u close (record { items = is; rest = rest; are_there = refl; valid = valid.2; borrowed = borrows; unique = unique }) in
     let located = items_located total e k u is rest close refl valid.2 in
-    let shown = front_located total (suc e) t (coll k g is) rest stands valid in
+    let shown = front_located total (suc e) t (coll k g is) rest is_located valid in
     let by = holder_tree k (total - length (node_text (coll k g is) rest)) (total - length (node_text (coll k g is) rest)) (total - length rest) (locate_items total k is rest) in
-    let here : items_in_front total (suc e - 1) k u ≡ locate_items total k is rest = ap (λ n. items_in_front total n k u) (sym less) ∙ located in
+    let here : leading_items total (suc e - 1) k u ≡ locate_items total k is rest = ap (λ n. leading_items total n k u) (sym less) ∙ located in
     record {
       room = omega arith;
       gap = g;
       items = u;
-      read = ap (λ v. read_gap (drop 1 v)) stands ∙ gap_again g u valid.1;
+      read = ap (λ v. read_gap (drop 1 v)) is_located ∙ gap_again g u valid.1;
       borrowed = subst (λ n. are_borrowed n k u ≡ true) less are;
       tree = ap placed_tree shown ∙ (by.0 ∙ ap (λ parts. tree_collection k (parts_tree parts)) (sym here));
       parts = ap parts_of shown ∙ (by.1 ∙ sym here);
@@ -95,27 +95,29 @@ inside_of : (total d k : ℕ) (t : List ℕ) (node : FlowNode) (rest : List ℕ)
     t ≡ node_text node rest → IsFlowNode true (Some 0) d node rest → borrows_node node ≡ true → has_unique_keys (tree_of node) ≡ true →
     Inside total d k t
 unfolding node_text IsFlowNode tree_of
-inside_of total d k t empty rest close opens stands valid borrows unique =
-    absurd (bracket_of k (λ b. begins_with b t ≡ true → ⊥) close (λ e. false≢true (sym (ap (begins_with 91) stands ∙ opens_list rest valid.0) ∙ e)) (λ e. false≢true (sym (ap (begins_with 123) stands ∙ opens_map rest valid.0) ∙ e)) opens)
-inside_of total d k t (alias n) rest close opens stands valid borrows unique = absurd (false≢true borrows)
-inside_of total d k t (scalar p) rest close opens stands valid borrows unique =
+inside_of total d k t empty rest close opens is_located valid borrows unique =
+    absurd (bracket_of k (λ b. begins_with b t ≡ true → ⊥) close
+    (λ e. false≢true (sym (ap (begins_with 91) is_located ∙ opens_list rest valid.0) ∙ e))
+    (λ e. false≢true (sym (ap (begins_with 123) is_located ∙ opens_map rest valid.0) ∙ e)) opens)
+inside_of total d k t (alias n) rest close opens is_located valid borrows unique = absurd (false≢true borrows)
+inside_of total d k t (scalar p) rest close opens is_located valid borrows unique =
     let begins = scalar_begins true (Some 0) p rest valid in
     absurd (bracket_of k (λ b. begins_with b t ≡ true → ⊥) close
-    (λ e. false≢true (sym (ap (begins_with 91) stands ∙ no_list true (p ++ rest) begins) ∙ e))
-    (λ e. false≢true (sym (ap (begins_with 123) stands ∙ no_map true (p ++ rest) begins) ∙ e)) opens)
-inside_of total d k t (coll j g is) rest close opens stands valid borrows unique =
-    let same : j ≡ k = same_bracket j k valid.0 close (sym (ap (begins_with (opening_bracket k)) stands) ∙ opens) in
-    coll_inside total d k t g is rest close (subst (λ m. t ≡ node_text (coll m g is) rest) same stands) (subst (λ m. IsFlowNode true (Some 0) d (coll m g is) rest) same valid) borrows (each_unique j (items_tree is) unique)
-inside_of total d k t (anchored n g node) rest close opens stands valid borrows unique = absurd (false≢true borrows)
+    (λ e. false≢true (sym (ap (begins_with 91) is_located ∙ no_list true (p ++ rest) begins) ∙ e))
+    (λ e. false≢true (sym (ap (begins_with 123) is_located ∙ no_map true (p ++ rest) begins) ∙ e)) opens)
+inside_of total d k t (coll j g is) rest close opens is_located valid borrows unique =
+    let same : j ≡ k = same_bracket j k valid.0 close (sym (ap (begins_with (opening_bracket k)) is_located) ∙ opens) in
+    coll_inside total d k t g is rest close (subst (λ m. t ≡ node_text (coll m g is) rest) same is_located) (subst (λ m. IsFlowNode true (Some 0) d (coll m g is) rest) same valid) borrows (each_unique j (items_tree is) unique)
+inside_of total d k t (anchored n g node) rest close opens is_located valid borrows unique = absurd (false≢true borrows)
 
 pub inside : (total d k : ℕ) (t : List ℕ) → is_close k ≡ true → begins_with (opening_bracket k) t ≡ true → is_borrowed d t ≡ true → Inside total d k t
-inside total d k t close opens borrowed = let x = borrowed_node d t borrowed in inside_of total d k t x.node x.rest close opens x.stands x.valid x.borrowed x.unique
+inside total d k t close opens borrowed = let x = borrowed_node d t borrowed in inside_of total d k t x.node x.rest close opens x.is_located x.valid x.borrowed x.unique
 
 -- the same after the gap that the code has read
 pub record InsideAt (total d k : ℕ) (t r : List ℕ) : Type 0 where
   pub borrowed : are_borrowed (d - 1) k r ≡ true
-  pub tree : placed_tree (node_in_front total d t) ≡ tree_collection k (parts_tree (items_in_front total (d - 1) k r))
-  pub parts : parts_of (node_in_front total d t) ≡ items_in_front total (d - 1) k r
+  pub tree : placed_tree (leading_node total d t) ≡ tree_collection k (parts_tree (leading_items total (d - 1) k r))
+  pub parts : parts_of (leading_node total d t) ≡ leading_items total (d - 1) k r
 
 pub inside_found : (total d k : ℕ) (t u g r : List ℕ) → is_close k ≡ true → begins_with (opening_bracket k) t ≡ true → is_borrowed d t ≡ true → u ≡ drop 1 t → read_gap u ≡ Some (g, r) → InsideAt total d k t r
 inside_found total d k t u g r close opens borrowed is read =
@@ -123,8 +125,8 @@ inside_found total d k t u g r close opens borrowed is read =
     let same : x.items ≡ r = ap (λ (y : List ℕ × List ℕ). y.1) (same_Some _ _ (sym x.read ∙ (ap read_gap (sym is) ∙ read))) in
     record {
       borrowed = subst (λ v. are_borrowed (d - 1) k v ≡ true) same x.borrowed;
-      tree = x.tree ∙ ap (λ v. tree_collection k (parts_tree (items_in_front total (d - 1) k v))) same;
-      parts = x.parts ∙ ap (items_in_front total (d - 1) k) same;
+      tree = x.tree ∙ ap (λ v. tree_collection k (parts_tree (leading_items total (d - 1) k v))) same;
+      parts = x.parts ∙ ap (leading_items total (d - 1) k) same;
     }
 
 pub gap_found : (total d k : ℕ) (t u : List ℕ) → is_close k ≡ true → begins_with (opening_bracket k) t ≡ true → is_borrowed d t ≡ true → u ≡ drop 1 t → read_gap u ≡ None → ⊥
@@ -139,8 +141,8 @@ pub record ScalarFront (total d : ℕ) (t : List ℕ) : Type 0 where
   pub rest : List ℕ
   pub read : read_scalar true (Some 0) t ≡ Some (piece, rest)
   pub borrows : borrows_text piece ≡ true
-  pub tree : placed_tree (node_in_front total d t) ≡ scalar_node (scalar_of piece)
-  pub parts : parts_of (node_in_front total d t) ≡ end
+  pub tree : placed_tree (leading_node total d t) ≡ scalar_node (scalar_of piece)
+  pub parts : parts_of (leading_node total d t) ≡ end
 
 opened : (j : ℕ) (t : List ℕ) → is_close j ≡ true → begins_with (opening_bracket j) t ≡ true → begins_with 91 t ≡ false → begins_with 123 t ≡ false → ⊥
 opened j t close opens a b = bracket_of j (λ m. begins_with m t ≡ true → ⊥) close (λ e. false≢true (sym a ∙ e)) (λ e. false≢true (sym b ∙ e)) opens
@@ -148,46 +150,46 @@ opened j t close opens a b = bracket_of j (λ m. begins_with m t ≡ true → �
 scalar_of_front : (total d : ℕ) (t : List ℕ) (node : FlowNode) (rest : List ℕ) → begins_with 91 t ≡ false → begins_with 123 t ≡ false →
     begins_scalar true t ≡ true → t ≡ node_text node rest → IsFlowNode true (Some 0) d node rest → borrows_node node ≡ true → ScalarFront total d t
 unfolding node_text IsFlowNode locate
-scalar_of_front total d t empty rest a b c stands valid borrows = absurd (false≢true (sym (ap (begins_scalar true) stands ∙ opens_scalar rest valid.0) ∙ c))
-scalar_of_front total d t (alias n) rest a b c stands valid borrows = absurd (false≢true borrows)
-scalar_of_front total d t (scalar p) rest a b c stands valid borrows =
-    let shown = front_located total d t (scalar p) rest stands valid in
+scalar_of_front total d t empty rest a b c is_located valid borrows = absurd (false≢true (sym (ap (begins_scalar true) is_located ∙ opens_scalar rest valid.0) ∙ c))
+scalar_of_front total d t (alias n) rest a b c is_located valid borrows = absurd (false≢true borrows)
+scalar_of_front total d t (scalar p) rest a b c is_located valid borrows =
+    let shown = front_located total d t (scalar p) rest is_located valid in
     record {
       piece = p;
       rest = rest;
-      read = ap (read_scalar true (Some 0)) stands ∙ scalar_again true (Some 0) p rest valid;
+      read = ap (read_scalar true (Some 0)) is_located ∙ scalar_again true (Some 0) p rest valid;
       borrows = borrows;
       tree = ap placed_tree shown;
       parts = ap parts_of shown;
     }
-scalar_of_front total d t (coll j g is) rest a b c stands valid borrows = absurd (opened j t valid.0 (ap (begins_with (opening_bracket j)) stands ∙ eq-eqb (opening_bracket j) (opening_bracket j) refl) a b)
-scalar_of_front total d t (anchored n g node) rest a b c stands valid borrows = absurd (false≢true borrows)
+scalar_of_front total d t (coll j g is) rest a b c is_located valid borrows = absurd (opened j t valid.0 (ap (begins_with (opening_bracket j)) is_located ∙ eq-eqb (opening_bracket j) (opening_bracket j) refl) a b)
+scalar_of_front total d t (anchored n g node) rest a b c is_located valid borrows = absurd (false≢true borrows)
 
 pub scalar_front : (total d : ℕ) (t : List ℕ) → is_borrowed d t ≡ true → begins_with 91 t ≡ false → begins_with 123 t ≡ false → begins_scalar true t ≡ true → ScalarFront total d t
-scalar_front total d t borrowed a b c = let x = borrowed_node d t borrowed in scalar_of_front total d t x.node x.rest a b c x.stands x.valid x.borrowed
+scalar_front total d t borrowed a b c = let x = borrowed_node d t borrowed in scalar_of_front total d t x.node x.rest a b c x.is_located x.valid x.borrowed
 
 -- nothing in front
 nothing_of_front : (total d : ℕ) (t : List ℕ) (node : FlowNode) (rest : List ℕ) → begins_with 91 t ≡ false → begins_with 123 t ≡ false →
     begins_scalar true t ≡ false → t ≡ node_text node rest → IsFlowNode true (Some 0) d node rest → borrows_node node ≡ true →
-    (placed_tree (node_in_front total d t) ≡ scalar_node null) × (parts_of (node_in_front total d t) ≡ end)
+    (placed_tree (leading_node total d t) ≡ scalar_node null) × (parts_of (leading_node total d t) ≡ end)
 unfolding node_text IsFlowNode locate
-nothing_of_front total d t empty rest a b c stands valid borrows = let shown = front_located total d t empty rest stands valid in (ap placed_tree shown, ap parts_of shown)
-nothing_of_front total d t (alias n) rest a b c stands valid borrows = absurd (false≢true borrows)
-nothing_of_front total d t (scalar p) rest a b c stands valid borrows = absurd (false≢true (sym c ∙ (ap (begins_scalar true) stands ∙ scalar_begins true (Some 0) p rest valid)))
-nothing_of_front total d t (coll j g is) rest a b c stands valid borrows = absurd (opened j t valid.0 (ap (begins_with (opening_bracket j)) stands ∙ eq-eqb (opening_bracket j) (opening_bracket j) refl) a b)
-nothing_of_front total d t (anchored n g node) rest a b c stands valid borrows = absurd (false≢true borrows)
+nothing_of_front total d t empty rest a b c is_located valid borrows = let shown = front_located total d t empty rest is_located valid in (ap placed_tree shown, ap parts_of shown)
+nothing_of_front total d t (alias n) rest a b c is_located valid borrows = absurd (false≢true borrows)
+nothing_of_front total d t (scalar p) rest a b c is_located valid borrows = absurd (false≢true (sym c ∙ (ap (begins_scalar true) is_located ∙ scalar_begins true (Some 0) p rest valid)))
+nothing_of_front total d t (coll j g is) rest a b c is_located valid borrows = absurd (opened j t valid.0 (ap (begins_with (opening_bracket j)) is_located ∙ eq-eqb (opening_bracket j) (opening_bracket j) refl) a b)
+nothing_of_front total d t (anchored n g node) rest a b c is_located valid borrows = absurd (false≢true borrows)
 
 pub nothing_front : (total d : ℕ) (t : List ℕ) → is_borrowed d t ≡ true → begins_with 91 t ≡ false → begins_with 123 t ≡ false →
-    begins_scalar true t ≡ false → (placed_tree (node_in_front total d t) ≡ scalar_node null) × (parts_of (node_in_front total d t) ≡ end)
-nothing_front total d t borrowed a b c = let x = borrowed_node d t borrowed in nothing_of_front total d t x.node x.rest a b c x.stands x.valid x.borrowed
+    begins_scalar true t ≡ false → (placed_tree (leading_node total d t) ≡ scalar_node null) × (parts_of (leading_node total d t) ≡ end)
+nothing_front total d t borrowed a b c = let x = borrowed_node d t borrowed in nothing_of_front total d t x.node x.rest a b c x.is_located x.valid x.borrowed
 
 -- where a node begins and ends
 pub record Ends (total d : ℕ) (t : List ℕ) : Type 0 where
   pub rest : List ℕ
   pub passed : past_node (all_node true (Some 0) d t) ≡ Some rest
-  pub start : start_of (node_in_front total d t) ≡ total - length t
-  pub end : end_of (node_in_front total d t) ≡ total - length rest
-  pub content : content_place (node_in_front total d t) ≡ cond (begins_content true t) (Some (total - length t, total - length rest)) None
+  pub start : start_of (leading_node total d t) ≡ total - length t
+  pub end : end_of (leading_node total d t) ≡ total - length rest
+  pub content : content_place (leading_node total d t) ≡ cond (begins_content true t) (Some (total - length t, total - length rest)) None
 
 holder_place : (k : ℕ) (s c e : ℕ) (parts : Parts) → content_place (placed None s c e (holder k parts)) ≡ Some (c, e)
 holder_place k s c e parts = go (eqb k 125) where
@@ -206,38 +208,38 @@ scalar_content t h = go (begins_with 42 t) (begins_with 91 t) (begins_with 123 t
 
 ends_of : (total d : ℕ) (t : List ℕ) (node : FlowNode) (rest : List ℕ) → t ≡ node_text node rest → IsFlowNode true (Some 0) d node rest → borrows_node node ≡ true → Ends total d t
 unfolding node_text IsFlowNode locate
-ends_of total d t empty rest stands valid borrows =
-    let shown = front_located total d t empty rest stands valid in
+ends_of total d t empty rest is_located valid borrows =
+    let shown = front_located total d t empty rest is_located valid in
     record {
       rest = rest;
-      passed = ap (λ v. past_node (all_node true (Some 0) d v)) stands ∙ ap past_node (all_again true (Some 0) d empty rest valid);
-      start = ap start_of shown ∙ ap (λ (v : List ℕ). total - length v) (sym stands);
+      passed = ap (λ v. past_node (all_node true (Some 0) d v)) is_located ∙ ap past_node (all_again true (Some 0) d empty rest valid);
+      start = ap start_of shown ∙ ap (λ (v : List ℕ). total - length v) (sym is_located);
       end = ap end_of shown;
-      content = ap content_place shown ∙ sym (ap (λ b. cond b (Some (total - length t, total - length rest)) None) (ap (begins_content true) stands ∙ valid.0));
+      content = ap content_place shown ∙ sym (ap (λ b. cond b (Some (total - length t, total - length rest)) None) (ap (begins_content true) is_located ∙ valid.0));
     }
-ends_of total d t (alias n) rest stands valid borrows = absurd (false≢true borrows)
-ends_of total d t (scalar p) rest stands valid borrows =
-    let shown = front_located total d t (scalar p) rest stands valid in
-    let some : begins_content true t ≡ true = scalar_content t (ap (begins_scalar true) stands ∙ scalar_begins true (Some 0) p rest valid) in
+ends_of total d t (alias n) rest is_located valid borrows = absurd (false≢true borrows)
+ends_of total d t (scalar p) rest is_located valid borrows =
+    let shown = front_located total d t (scalar p) rest is_located valid in
+    let some : begins_content true t ≡ true = scalar_content t (ap (begins_scalar true) is_located ∙ scalar_begins true (Some 0) p rest valid) in
     record {
       rest = rest;
-      passed = ap (λ v. past_node (all_node true (Some 0) d v)) stands ∙ ap past_node (all_again true (Some 0) d (scalar p) rest valid);
-      start = ap start_of shown ∙ ap (λ (v : List ℕ). total - length v) (sym stands);
+      passed = ap (λ v. past_node (all_node true (Some 0) d v)) is_located ∙ ap past_node (all_again true (Some 0) d (scalar p) rest valid);
+      start = ap start_of shown ∙ ap (λ (v : List ℕ). total - length v) (sym is_located);
       end = ap end_of shown;
-      content = ap content_place shown ∙ (ap (λ (v : List ℕ). Some (total - length v, total - length rest)) (sym stands) ∙ sym (ap (λ b. cond b (Some (total - length t, total - length rest)) None) some));
+      content = ap content_place shown ∙ (ap (λ (v : List ℕ). Some (total - length v, total - length rest)) (sym is_located) ∙ sym (ap (λ b. cond b (Some (total - length t, total - length rest)) None) some));
     }
-ends_of total d t (coll k g is) rest stands valid borrows =
-    let shown = front_located total d t (coll k g is) rest stands valid in
+ends_of total d t (coll k g is) rest is_located valid borrows =
+    let shown = front_located total d t (coll k g is) rest is_located valid in
     let whole : ℕ = total - length (node_text (coll k g is) rest) in
-    let some : begins_content true t ≡ true = bracket_content k t valid.0 (ap (begins_with (opening_bracket k)) stands ∙ eq-eqb (opening_bracket k) (opening_bracket k) refl) in
+    let some : begins_content true t ≡ true = bracket_content k t valid.0 (ap (begins_with (opening_bracket k)) is_located ∙ eq-eqb (opening_bracket k) (opening_bracket k) refl) in
     record {
       rest = rest;
-      passed = ap (λ v. past_node (all_node true (Some 0) d v)) stands ∙ ap past_node (all_again true (Some 0) d (coll k g is) rest valid);
-      start = ap start_of shown ∙ ap (λ (v : List ℕ). total - length v) (sym stands);
+      passed = ap (λ v. past_node (all_node true (Some 0) d v)) is_located ∙ ap past_node (all_again true (Some 0) d (coll k g is) rest valid);
+      start = ap start_of shown ∙ ap (λ (v : List ℕ). total - length v) (sym is_located);
       end = ap end_of shown;
       content = ap content_place shown
           ∙ (holder_place k whole whole (total - length rest) (locate_items total k is rest)
-          ∙ (ap (λ (v : List ℕ). Some (total - length v, total - length rest)) (sym stands)
+          ∙ (ap (λ (v : List ℕ). Some (total - length v, total - length rest)) (sym is_located)
           ∙ sym (ap (λ b. cond b (Some (total - length t, total - length rest)) None) some)));
     }
   where
@@ -254,7 +256,7 @@ ends_of total d t (coll k g is) rest stands valid borrows =
     bracket_content k u close = bracket_of k (λ b. begins_with b u ≡ true → begins_content true u ≡ true) close
         (λ e. rw e (go (begins_with 42 u) true (begins_with 123 u || begins_scalar true u) refl))
         (λ e. rw e (both (begins_with 42 u) (begins_with 91 u)))
-ends_of total d t (anchored n g node) rest stands valid borrows = absurd (false≢true borrows)
+ends_of total d t (anchored n g node) rest is_located valid borrows = absurd (false≢true borrows)
 
 pub ends : (total d : ℕ) (t : List ℕ) → is_borrowed d t ≡ true → Ends total d t
-ends total d t borrowed = let x = borrowed_node d t borrowed in ends_of total d t x.node x.rest x.stands x.valid x.borrowed
+ends total d t borrowed = let x = borrowed_node d t borrowed in ends_of total d t x.node x.rest x.is_located x.valid x.borrowed

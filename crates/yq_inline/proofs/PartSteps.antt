@@ -8,8 +8,8 @@ use Rattle.yq_core.specs.Nodes.{begins_with, IsInlineKey, IsSep, is_keyed, is_em
 use Rattle.yq_core.specs.Places.{Placed, Parts, part, key_placed, key_here, locate, locate_items, end}
 use Rattle.yq_core.{specs.PlacedReading.{key_piece, past_sep, split_key, placed_node}, specs.Reading.{all_node, read_flow_key}}
 use Rattle.yq_core.{specs.Keys.{has_unique_keys, each_has_unique_keys}, specs.Trees.{tree_of, items_tree, unplaced_key}}
-use Rattle.yq_core.specs.Borrowed.{borrows_text, borrows_key, borrows_node, borrows_items, is_borrowed, are_borrowed, node_in_front}
-use Rattle.yq_core.{specs.Borrowed.{items_in_front, located_or_end}, proofs.NodesPieceLaws.sep_again}
+use Rattle.yq_core.specs.Borrowed.{borrows_text, borrows_key, borrows_node, borrows_items, is_borrowed, are_borrowed, leading_node}
+use Rattle.yq_core.{specs.Borrowed.{leading_items, located_or_end}, proofs.NodesPieceLaws.sep_again}
 use Rattle.yq_core.{proofs.NodeLaws.{all_again, items_done}, proofs.NodeTakes.key_in}
 use Rattle.yq_core.proofs.NodeAgain.{key_in_again, item_longer, sep_longer}
 use Rattle.yq_core.proofs.BorrowedLaws.{borrowed_items, items_borrowed, items_located, front_located, node_borrowed}
@@ -24,7 +24,7 @@ pub record First (d k : ℕ) (t : List ℕ) : Type 0 where
   pub sep : Sep
   pub items : Items
   pub rest : List ℕ
-  pub stands : t ≡ key_text key (node_text node (sep_text sep (flow_items_text k items rest)))
+  pub is_located : t ≡ key_text key (node_text node (sep_text sep (flow_items_text k items rest)))
   pub key_valid : IsInlineKey k key (node_text node (sep_text sep (flow_items_text k items rest)))
   pub some : (is_keyed key || not (is_empty_node node)) ≡ true
   pub valid : IsFlowNode true (Some 0) d node (sep_text sep (flow_items_text k items rest))
@@ -39,8 +39,8 @@ pub record First (d k : ℕ) (t : List ℕ) : Type 0 where
 first_of : (d k : ℕ) (t : List ℕ) (items : Items) (rest : List ℕ) → begins_with k t ≡ false → t ≡ flow_items_text k items rest →
     AreFlowItems d k items rest → borrows_items items ≡ true → each_has_unique_keys (items_tree items) ≡ true → First d k t
 unfolding flow_items_text AreFlowItems items_tree
-first_of d k t none rest before stands valid borrows unique = absurd (false≢true (sym before ∙ (ap (begins_with k) stands ∙ eq-eqb k k refl)))
-first_of d k t (item key n s is) rest before stands valid borrows unique =
+first_of d k t none rest before is_located valid borrows unique = absurd (false≢true (sym before ∙ (ap (begins_with k) is_located ∙ eq-eqb k k refl)))
+first_of d k t (item key n s is) rest before is_located valid borrows unique =
     let b = and_parts (borrows_key key) (borrows_node n && borrows_items is) borrows in
     let c = and_parts (borrows_node n) (borrows_items is) b.1 in
     let u = and_parts (has_unique_keys (tree_of n)) (each_has_unique_keys (items_tree is)) unique in
@@ -50,7 +50,7 @@ first_of d k t (item key n s is) rest before stands valid borrows unique =
       sep = s;
       items = is;
       rest = rest;
-      stands = stands;
+      is_located = is_located;
       key_valid = valid.0;
       some = valid.1;
       valid = valid.2;
@@ -64,7 +64,7 @@ first_of d k t (item key n s is) rest before stands valid borrows unique =
     }
 
 pub first : (d k : ℕ) (t : List ℕ) → begins_with k t ≡ false → are_borrowed d k t ≡ true → First d k t
-first d k t before borrowed = let is = borrowed_items d k t borrowed in first_of d k t is.items is.rest before is.stand is.valid is.borrowed is.unique
+first d k t before borrowed = let is = borrowed_items d k t borrowed in first_of d k t is.items is.rest before is.are_there is.valid is.borrowed is.unique
 
 not_none : {A : Type 0} {x : A} → Some x ≡ None → ⊥
 not_none h = cc
@@ -80,35 +80,35 @@ module _ (d k : ℕ) (t : List ℕ) (close : is_close k ≡ true) (x : First d k
   abbrev pub after : List ℕ
   after = flow_items_text k x.items x.rest
 
-  abbrev pub behind : List ℕ
-  behind = sep_text x.sep after
+  abbrev pub following : List ℕ
+  following = sep_text x.sep after
 
   abbrev pub at : List ℕ
-  at = node_text x.node behind
+  at = node_text x.node following
 
   pub key_read : key_in k t ≡ Some (x.key, at)
-  key_read = ap (key_in k) x.stands ∙ key_in_again k x.key at x.key_valid
+  key_read = ap (key_in k) x.is_located ∙ key_in_again k x.key at x.key_valid
 
-  pub node_read : past_node (all_node true (Some 0) d at) ≡ Some behind
-  node_read = ap past_node (all_again true (Some 0) d x.node behind x.valid)
+  pub node_read : past_node (all_node true (Some 0) d at) ≡ Some following
+  node_read = ap past_node (all_again true (Some 0) d x.node following x.valid)
 
-  pub sep_read : past_sep k behind ≡ Some after
+  pub sep_read : past_sep k following ≡ Some after
   sep_read = ap (λ o. o >>= λ y. Some y.1) (sep_again k x.sep after (no_comma k close) x.sep_valid)
 
   pub node_there : is_borrowed d at ≡ true
-  node_there = node_borrowed d at (record { node = x.node; rest = behind; stands = refl; valid = x.valid; borrowed = x.node_borrows; unique = x.node_unique })
+  node_there = node_borrowed d at (record { node = x.node; rest = following; is_located = refl; valid = x.valid; borrowed = x.node_borrows; unique = x.node_unique })
 
   pub items_there : are_borrowed d k after ≡ true
-  items_there = items_borrowed d k after close (record { items = x.items; rest = x.rest; stand = refl; valid = x.others; borrowed = x.items_borrow; unique = x.items_unique })
+  items_there = items_borrowed d k after close (record { items = x.items; rest = x.rest; are_there = refl; valid = x.others; borrowed = x.items_borrow; unique = x.items_unique })
 
   pub shorter : length after < length t
-  shorter = omega (arith, ap length x.stands, sep_longer x.sep after, item_longer true (Some 0) d x.key x.node behind x.some x.valid)
+  shorter = omega (arith, ap length x.is_located, sep_longer x.sep after, item_longer true (Some 0) d x.key x.node following x.some x.valid)
 
-  pub shown : (total : ℕ) → items_in_front total d k t ≡ part (key_placed total t x.key) (node_in_front total d at) (items_in_front total d k after)
+  pub shown : (total : ℕ) → leading_items total d k t ≡ part (key_placed total t x.key) (leading_node total d at) (leading_items total d k after)
   unfolding flow_items_text AreFlowItems locate_items
   shown total =
-      items_located total d k t (item x.key x.node x.sep x.items) x.rest close x.stands (x.key_valid, x.some, x.valid, x.sep_valid, x.others)
-      ∙ (λ i. part (key_placed total (sym x.stands i) x.key) (sym (front_located total d at x.node behind refl x.valid) i) (sym (items_located total d k after x.items x.rest close refl x.others) i))
+      items_located total d k t (item x.key x.node x.sep x.items) x.rest close x.is_located (x.key_valid, x.some, x.valid, x.sep_valid, x.others)
+      ∙ (λ i. part (key_placed total (sym x.is_located i) x.key) (sym (front_located total d at x.node following refl x.valid) i) (sym (items_located total d k after x.items x.rest close refl x.others) i))
 
 -- where the first item or entry was read, its node is one that the text lends
 pub node_found : (d k : ℕ) (t : List ℕ) → is_close k ≡ true → begins_with k t ≡ false → are_borrowed d k t ≡ true → (key : Key) (u : List ℕ) → key_in k t ≡ Some (key, u) → is_borrowed d u ≡ true
@@ -124,13 +124,13 @@ sep_found d k t close before borrowed key u r read passed missing =
     let x = first d k t before borrowed in
     let same = same_Some _ _ (sym (key_read d k t close x) ∙ read) in
     let node = ap (λ (y : Key × List ℕ). past_node (all_node true (Some 0) d y.1)) same in
-    let rest : behind d k t close x ≡ r = same_Some _ _ (sym (node_read d k t close x) ∙ (node ∙ passed)) in
+    let rest : following d k t close x ≡ r = same_Some _ _ (sym (node_read d k t close x) ∙ (node ∙ passed)) in
     let some : Some (after d k t close x) ≡ None = sym (sep_read d k t close x) ∙ (ap (past_sep k) rest ∙ missing) in
     cc
 
 -- the items or entries after it are those that are left
 pub record Left (total d k : ℕ) (t : List ℕ) (key : Key) (u s : List ℕ) : Type 0 where
-  pub shown : items_in_front total d k t ≡ part (key_placed total t key) (node_in_front total d u) (items_in_front total d k s)
+  pub shown : leading_items total d k t ≡ part (key_placed total t key) (leading_node total d u) (leading_items total d k s)
   pub borrowed : are_borrowed d k s ≡ true
   pub shorter : length s < length t
 
@@ -142,10 +142,10 @@ left_after total d k t close before borrowed key u r s read passed sep =
     let same = same_Some _ _ (sym (key_read d k t close x) ∙ read) in
     let key_is : x.key ≡ key = ap (λ (y : Key × List ℕ). y.0) same in
     let at_is : at d k t close x ≡ u = ap (λ (y : Key × List ℕ). y.1) same in
-    let rest : behind d k t close x ≡ r = same_Some _ _ (sym (node_read d k t close x) ∙ (ap (λ v. past_node (all_node true (Some 0) d v)) at_is ∙ passed)) in
+    let rest : following d k t close x ≡ r = same_Some _ _ (sym (node_read d k t close x) ∙ (ap (λ v. past_node (all_node true (Some 0) d v)) at_is ∙ passed)) in
     let after_is : after d k t close x ≡ s = same_Some _ _ (sym (sep_read d k t close x) ∙ (ap (past_sep k) rest ∙ sep)) in
     record {
-      shown = shown d k t close x total ∙ (λ i. part (key_placed total t (key_is i)) (node_in_front total d (at_is i)) (items_in_front total d k (after_is i)));
+      shown = shown d k t close x total ∙ (λ i. part (key_placed total t (key_is i)) (leading_node total d (at_is i)) (leading_items total d k (after_is i)));
       borrowed = subst (λ v. are_borrowed d k v ≡ true) after_is (items_there d k t close x);
       shorter = subst (λ (v : List ℕ). length v < length t) after_is (shorter d k t close x);
     }
@@ -186,7 +186,7 @@ key_found d t before borrowed p u split =
       read = read ∙ ap (λ v. Some (x.key, v)) rest_is;
       piece = λ total. ap (λ v. Some (key_here total t v)) (sym piece_is) ∙ k.piece total t;
       borrows = ap borrows_text (sym piece_is) ∙ k.borrows;
-      within = omega (arith, k.within, ap length piece_is, ap length x.stands);
+      within = omega (arith, k.within, ap length piece_is, ap length x.is_located);
     }
 
 -- what ends items or entries
@@ -195,13 +195,13 @@ close_is true = refl
 close_is false = refl
 
 -- no item or entry is left before the closing bracket
-pub none_left : (total d k : ℕ) (t : List ℕ) → begins_with k t ≡ true → items_in_front total d k t ≡ end
-unfolding items_in_front locate_items
+pub none_left : (total d k : ℕ) (t : List ℕ) → begins_with k t ≡ true → leading_items total d k t ≡ end
+unfolding leading_items locate_items
 none_left total d k t h = ap (located_or_end total k) (items_done d k t h)
 
 -- the first item or entry that the code has, and what is left
 pub record PartsLeft (p : BorrowedParts) (e : BorrowedEntry) (s : List ℕ) : Type 0 where
-  pub shown : parts_view p ≡ part (borrowed_entry e).0 (borrowed_entry e).1 (items_in_front p.total p.depth (closing_byte p.keyed) s)
+  pub shown : parts_view p ≡ part (borrowed_entry e).0 (borrowed_entry e).1 (leading_items p.total p.depth (closing_byte p.keyed) s)
   pub borrowed : are_borrowed p.depth (closing_byte p.keyed) s ≡ true
   pub shorter : length s < length p.text.now
 
@@ -211,16 +211,16 @@ entry_node p e r is passed = ap (λ d. past_node (all_node true (Some 0) d e.nod
 pub comma_there : (p : BorrowedParts) (e : BorrowedEntry) (r : List ℕ) (j : ℕ) → begins_with (closing_byte p.keyed) p.text.now ≡ false →
     IsFirstEntry p e → past_node (all_node true (Some 0) e.node.depth e.node.text.now) ≡ Some r → j ≡ closing_byte p.keyed → past_sep j r ≡ None → ⊥
 comma_there p e r j before is passed same missing =
-    sep_found p.depth (closing_byte p.keyed) p.text.now (close_is p.keyed) before p.borrowed is.key e.node.text.now r is.stands (entry_node p e r is passed) (ap (λ k. past_sep k r) (sym same) ∙ missing)
+    sep_found p.depth (closing_byte p.keyed) p.text.now (close_is p.keyed) before p.borrowed is.key e.node.text.now r is.is_located (entry_node p e r is passed) (ap (λ k. past_sep k r) (sym same) ∙ missing)
 
 pub parts_left : (p : BorrowedParts) (e : BorrowedEntry) (r s : List ℕ) (j : ℕ) → begins_with (closing_byte p.keyed) p.text.now ≡ false →
     IsFirstEntry p e → past_node (all_node true (Some 0) e.node.depth e.node.text.now) ≡ Some r → j ≡ closing_byte p.keyed → past_sep j r ≡ Some s →
     PartsLeft p e s
 parts_left p e r s j before is passed same sep =
     let k : ℕ = closing_byte p.keyed in
-    let left = left_after p.total p.depth k p.text.now (close_is p.keyed) before p.borrowed is.key e.node.text.now r s is.stands (entry_node p e r is passed) (ap (λ m. past_sep m r) (sym same) ∙ sep) in
+    let left = left_after p.total p.depth k p.text.now (close_is p.keyed) before p.borrowed is.key e.node.text.now r s is.is_located (entry_node p e r is passed) (ap (λ m. past_sep m r) (sym same) ∙ sep) in
     record {
-      shown = left.shown ∙ (λ i. part (sym is.view i) (node_in_front (sym is.total i) (sym is.depth i) e.node.text.now) (items_in_front p.total p.depth k s));
+      shown = left.shown ∙ (λ i. part (sym is.view i) (leading_node (sym is.total i) (sym is.depth i) e.node.text.now) (leading_items p.total p.depth k s));
       borrowed = left.borrowed;
       shorter = left.shorter;
     }

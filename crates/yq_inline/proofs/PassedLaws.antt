@@ -36,7 +36,7 @@ pub scalar_passed : (t p r : List ℕ) → read_scalar true (Some 0) t ≡ Some 
 unfolding node_text IsFlowNode tree_of
 scalar_passed t p r read borrows =
     let a = scalar_takes true (Some 0) t (p, r) read in
-    record { passed = record { node = scalar p; stands = a.0; valid = a.1; borrowed = borrows; unique = refl; fit = refl }; some = refl }
+    record { passed = record { node = scalar p; is_located = a.0; valid = a.1; borrowed = borrows; unique = refl; fit = refl }; some = refl }
 
 pub scalar_shorter : (t p r : List ℕ) → read_scalar true (Some 0) t ≡ Some (p, r) → length r < length t
 scalar_shorter t p r read =
@@ -46,7 +46,7 @@ scalar_shorter t p r read =
 -- nothing
 pub nothing_passed : (d : ℕ) (t : List ℕ) → begins_content true t ≡ false → begins_with 38 t ≡ false → IsPassedNode d t t
 unfolding node_text IsFlowNode tree_of
-nothing_passed d t content amp = record { node = empty; stands = refl; valid = (content, amp); borrowed = refl; unique = refl; fit = refl }
+nothing_passed d t content amp = record { node = empty; is_located = refl; valid = (content, amp); borrowed = refl; unique = refl; fit = refl }
 
 -- a collection
 pub sequence_passed : (d : ℕ) (t g r rest : List ℕ) → read_gap t ≡ Some (g, r) → ArePassedParts d 93 [] r rest → IsPassedCollection 93 (d + 1) t rest
@@ -57,8 +57,8 @@ sequence_passed d t g r rest read p =
     record {
       passed = record {
         node = coll 93 g p.items;
-        stands = ap (λ l. 91 ∷ l) (a.0 ∙ ap (λ l. g ++ l) p.stand);
-        valid = (refl, subst (IsInlineGap g) p.stand a.1, subst (λ (x : ℕ). Deeper x (λ e. AreFlowItems e 93 p.items rest)) more p.valid);
+        is_located = ap (λ l. 91 ∷ l) (a.0 ∙ ap (λ l. g ++ l) p.are_there);
+        valid = (refl, subst (IsInlineGap g) p.are_there a.1, subst (λ (x : ℕ). Deeper x (λ e. AreFlowItems e 93 p.items rest)) more p.valid);
         borrowed = p.borrowed;
         unique = p.unique;
         fit = p.fit;
@@ -77,8 +77,8 @@ mapping_passed d t g r rest read e =
     record {
       passed = record {
         node = coll 125 g p.items;
-        stands = ap (λ l. 123 ∷ l) (a.0 ∙ ap (λ l. g ++ l) p.stand);
-        valid = (refl, subst (IsInlineGap g) p.stand a.1, subst (λ (x : ℕ). Deeper x (λ e. AreFlowItems e 125 p.items rest)) more p.valid);
+        is_located = ap (λ l. 123 ∷ l) (a.0 ∙ ap (λ l. g ++ l) p.are_there);
+        valid = (refl, subst (IsInlineGap g) p.are_there a.1, subst (λ (x : ℕ). Deeper x (λ e. AreFlowItems e 125 p.items rest)) more p.valid);
         borrowed = p.borrowed;
         unique = and_from (are_distinct (keys_of (items_tree p.items))) (each_has_unique_keys (items_tree p.items)) (ap are_distinct p.keys_are ∙ e.apart) p.unique;
         fit = p.fit;
@@ -92,7 +92,7 @@ pub collection_passed : (k d : ℕ) (t s rest : List ℕ) → t ≡ opening_brac
 collection_passed k d t s rest front c =
     let p = c.passed in
     record {
-      passed = record { node = p.node; stands = front ∙ p.stands; valid = p.valid; borrowed = p.borrowed; unique = p.unique; fit = p.fit };
+      passed = record { node = p.node; is_located = front ∙ p.is_located; valid = p.valid; borrowed = p.borrowed; unique = p.unique; fit = p.fit };
       some = ap is_empty_node c.is;
     }
 
@@ -104,7 +104,7 @@ pub none_passed : (d k : ℕ) (t s : List ℕ) → begins_with k t ≡ true → 
 unfolding flow_items_text AreFlowItems items_tree
 none_passed d k t s begins is = record {
   items = none;
-  stand = front_is k t begins ∙ ap (λ l. k ∷ l) (sym is);
+  are_there = front_is k t begins ∙ ap (λ l. k ∷ l) (sym is);
   valid = tt;
   borrowed = refl;
   unique = refl;
@@ -119,11 +119,11 @@ item_passed n d t m r rest le c sep a =
     let p = c.passed in
     let s = bind_some (sep_at 93 m) sep in
     let taken = sep_takes 93 m s.0 s.1 in
-    let at : s.0.1 ≡ flow_items_text 93 a.items rest = same_Some _ _ s.2 ∙ a.stand in
+    let at : s.0.1 ≡ flow_items_text 93 a.items rest = same_Some _ _ s.2 ∙ a.are_there in
     let here : m ≡ sep_text s.0.0 (flow_items_text 93 a.items rest) = taken.0 ∙ ap (sep_text s.0.0) at in
     record {
       items = item bare p.node s.0.0 a.items;
-      stand = p.stands ∙ ap (node_text p.node) here;
+      are_there = p.is_located ∙ ap (node_text p.node) here;
       valid = (refl, ap not c.some, deeper_node p.node true (Some 0) n d _ le (subst (IsFlowNode true (Some 0) n p.node) here p.valid), subst (IsSep 93 s.0.0) at taken.1, a.valid);
       borrowed = and_from (borrows_node p.node) (borrows_items a.items) p.borrowed a.borrowed;
       unique = and_from (has_unique_keys (tree_of p.node)) (each_has_unique_keys (items_tree a.items)) p.unique a.unique;
@@ -140,12 +140,12 @@ keyed_passed n d (keyed q b g) t v m r rest k more front valid is borrows fit le
     let key : Key = keyed q b g in
     let s = bind_some (sep_at 125 m) sep in
     let taken = sep_takes 125 m s.0 s.1 in
-    let at : s.0.1 ≡ flow_items_text 125 a.items rest = same_Some _ _ s.2 ∙ a.stand in
+    let at : s.0.1 ≡ flow_items_text 125 a.items rest = same_Some _ _ s.2 ∙ a.are_there in
     let here : m ≡ sep_text s.0.0 (flow_items_text 125 a.items rest) = taken.0 ∙ ap (sep_text s.0.0) at in
-    let value : v ≡ node_text p.node (sep_text s.0.0 (flow_items_text 125 a.items rest)) = p.stands ∙ ap (node_text p.node) here in
+    let value : v ≡ node_text p.node (sep_text s.0.0 (flow_items_text 125 a.items rest)) = p.is_located ∙ ap (node_text p.node) here in
     record {
       items = item key p.node s.0.0 a.items;
-      stand = front ∙ ap (key_text key) value;
+      are_there = front ∙ ap (key_text key) value;
       valid = (subst (IsInlineKey 125 key) value valid, refl, deeper_node p.node true (Some 0) n d _ le (subst (IsFlowNode true (Some 0) n p.node) here p.valid), subst (IsSep 125 s.0.0) at taken.1, a.valid);
       borrowed = and_from (borrows_text q) (borrows_node p.node && borrows_items a.items) (ap borrows_text is ∙ borrows) (and_from (borrows_node p.node) (borrows_items a.items) p.borrowed a.borrowed);
       unique = and_from (has_unique_keys (tree_of p.node)) (each_has_unique_keys (items_tree a.items)) p.unique a.unique;

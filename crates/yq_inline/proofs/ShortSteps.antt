@@ -6,15 +6,15 @@ use Rattle.std.{proofs.Math.Bool.or-true, specs.Str.{IsCharBoundary, IsUtf8}}
 use Rattle.yq_core.{specs.Answers.more, specs.Borrowed.borrows_text, specs.Nodes.{begins_content, begins_with, ends_key}}
 use Rattle.yq_core.{specs.Plain.{begins_plain, ends_plain, ends_text, holds_break, plain_at}, specs.PlacedReading.{past_sep, placed_node}}
 use Rattle.yq_core.specs.QuotedReading.{closes, cut_at, quoted_at, quoted_len, scalar_len}
-use Rattle.yq_core.specs.Reading.{after_colon, lead_at, read_flow_key, read_gap, read_scalar, sep_at, sep_behind, with_its_lines}
+use Rattle.yq_core.specs.Reading.{after_colon, lead_at, read_flow_key, read_gap, read_scalar, sep_at, sep_after, with_its_lines}
 use Rattle.yq_core.{specs.Runs.run_goes_on, specs.Scalars.{begins_scalar, is_quoted, scalar_style}}
 use Rattle.yq_core.{specs.Text.{front, is_feed, is_space, upto}, specs.declared.runs.Run.TheVariants.{Plain, Quoted}}
 use Rattle.yq_core.{proofs.Across.plain_colon, proofs.BorrowedTexts.{any_take, borrows_parts}, proofs.Bools.{at_byte, more_none}}
 use Rattle.yq_core.{proofs.EndLaws.node_no_space, proofs.NodesPieceLaws.front_is, proofs.PlainLaws.boundary_plain}
-use Rattle.yq_core.{proofs.PlainRuns.run_behind, proofs.QuotedFound.{boundary_quoted, quoted_text}}
-use Rattle.yq_core.proofs.QuotedRuns.{closed_here, quoted_behind}
+use Rattle.yq_core.{proofs.PlainRuns.run_after, proofs.QuotedFound.{boundary_quoted, quoted_text}}
+use Rattle.yq_core.proofs.QuotedRuns.{closed_here, quoted_after}
 use Rattle.yq_inline.{specs.Measured.{kind_of_style, measured}, specs.Short.{IsShortKey, IsShortScalar, IsSpacedKey, stops_plain}}
-use Rattle.yq_inline.{proofs.GapSteps.{behind_space, no_gap}, proofs.MeasureSteps.{node_content, scalar_some}}
+use Rattle.yq_inline.{proofs.GapSteps.{after_a_space, no_gap}, proofs.MeasureSteps.{node_content, scalar_some}}
 
 -- bytes that a run goes over
 none_in_run : (p q : ℕ → Bool) → ((b : ℕ) → p b ≡ true → q b ≡ false) → (t : List ℕ) → list_any q (take (prefix_len p t) t) ≡ false
@@ -57,7 +57,7 @@ run_stops (b ∷ bs) h = ⊎_elim
 run_is : (spaces : Option ℕ) (t s : List ℕ) (n : ℕ) → n ≡ prefix_len (run_goes_on Plain) t → s ≡ drop n t → stops_plain s ≡ true → n ≡ upto (ends_plain true spaces) t
 run_is spaces t s n run rest ends =
     let stops = run_stops s ends in
-    let all = run_behind true spaces t s 0 n (0 + upto (ends_plain true spaces) t) run rest refl in
+    let all = run_after true spaces t s 0 n (0 + upto (ends_plain true spaces) t) run rest refl in
     omega (arith, all, plain_colon true spaces s stops.0 stops.1)
 
 pub boundary_run : (t s : List ℕ) (n : ℕ) → n ≡ prefix_len (run_goes_on Plain) t → s ≡ drop n t → stops_plain s ≡ true → IsCharBoundary t n
@@ -97,7 +97,7 @@ closes_double (b ∷ bs) h = rw h refl
 
 run_closed : (u s : List ℕ) (n : ℕ) → n ≡ prefix_len (run_goes_on (Quoted 34)) u → s ≡ drop n u → begins_with 34 s ≡ true → Some (0 + n) ≡ quoted_len 34 0 u
 run_closed u s n run rest quote =
-    closed_here 34 (0 + n) s (closes_double s quote) (quoted_behind 34 u s 0 n run rest (more_none (quoted_len 34 0 u)))
+    closed_here 34 (0 + n) s (closes_double s quote) (quoted_after 34 u s 0 n run rest (more_none (quoted_len 34 0 u)))
 
 run_len_is : (t u s : List ℕ) (n : ℕ) → t ≡ 34 ∷ u → n ≡ prefix_len (run_goes_on (Quoted 34)) u → s ≡ drop n u → begins_with 34 s ≡ true → Some (n + 2) ≡ scalar_len t
 run_len_is t u s n text run rest quote =
@@ -162,7 +162,7 @@ short_key_is t p v is content =
     let b : List ℕ = 32 ∷ v in
     let apart = content_apart v content in
     let none : read_gap r ≡ Some ([], r) = no_gap r (ap is_space is.spaced) in
-    let lead : read_gap b ≡ Some (32 ∷ [], v) = behind_space v apart.0 apart.1 in
+    let lead : read_gap b ≡ Some (32 ∷ [], v) = after_a_space v apart.0 apart.1 in
     record {
       read = rw (is.scalar.read None, none, is.spaced, key_ends p b refl, lead, content) (rw (or-true (begins_with 38 v)) refl);
       quoted = is.scalar.quoted;
@@ -170,20 +170,20 @@ short_key_is t p v is content =
     }
 
 -- `:` and one space
-pub colon_in_front : (t b v : List ℕ) → begins_with 58 t ≡ true → b ≡ drop 1 t → begins_with 32 b ≡ true → v ≡ drop 1 b → t ≡ 58 ∷ 32 ∷ v
-colon_in_front t b v colon behind space after =
-    front_is 58 t colon ∙ ap (λ (l : List ℕ). 58 ∷ l) (sym behind ∙ (front_is 32 b space ∙ ap (λ (l : List ℕ). 32 ∷ l) (sym after)))
+pub leading_colon : (t b v : List ℕ) → begins_with 58 t ≡ true → b ≡ drop 1 t → begins_with 32 b ≡ true → v ≡ drop 1 b → t ≡ 58 ∷ 32 ∷ v
+leading_colon t b v colon following space after =
+    front_is 58 t colon ∙ ap (λ (l : List ℕ). 58 ∷ l) (sym following ∙ (front_is 32 b space ∙ ap (λ (l : List ℕ). 32 ∷ l) (sym after)))
 
 -- what separates items
-pub comma_in_front : (k : ℕ) (t b g r : List ℕ) → begins_with 44 t ≡ true → b ≡ drop 1 t → read_gap b ≡ Some (g, r) → past_sep k t ≡ Some r
-unfolding sep_at sep_behind
-comma_in_front k t b g r comma behind gap =
+pub leading_comma : (k : ℕ) (t b g r : List ℕ) → begins_with 44 t ≡ true → b ≡ drop 1 t → read_gap b ≡ Some (g, r) → past_sep k t ≡ Some r
+unfolding sep_at sep_after
+leading_comma k t b g r comma after gap =
     let none : read_gap t ≡ Some ([], t) = no_gap t (ap is_space (front_is 44 t comma)) in
-    rw (none, comma, ← behind, gap) refl
+    rw (none, comma, ← after, gap) refl
 
-pub closing_behind_gap : (k : ℕ) (t g r : List ℕ) → read_gap t ≡ Some (g, r) → begins_with 44 r ≡ false → begins_with k r ≡ true → past_sep k t ≡ Some r
-unfolding sep_at sep_behind
-closing_behind_gap k t g r gap comma closes_it = rw (gap, comma, closes_it) refl
+pub closing_following_gap : (k : ℕ) (t g r : List ℕ) → read_gap t ≡ Some (g, r) → begins_with 44 r ≡ false → begins_with k r ≡ true → past_sep k t ≡ Some r
+unfolding sep_at sep_after
+closing_following_gap k t g r gap comma closes_it = rw (gap, comma, closes_it) refl
 
 -- a scalar is measured
 scalar_starts : (t : List ℕ) → begins_scalar true t ≡ true → (begins_with 38 t ≡ false) × ((begins_with 42 t ≡ false) × ((begins_with 91 t ≡ false) × (begins_with 123 t ≡ false)))

@@ -20,7 +20,7 @@ module _ (d : ℕ) (t rest : List ℕ) (p : IsPassedHead d t rest) where
   node = coll p.close p.collection.gap p.collection.items
 
   spelled : t ≡ node_text node rest
-  spelled = p.stands ∙ (p.collection.passed.stands ∙ ap (λ (x : FlowNode). node_text x rest) p.collection.is)
+  spelled = p.is_located ∙ (p.collection.passed.is_located ∙ ap (λ (x : FlowNode). node_text x rest) p.collection.is)
 
   valid : IsFlowNode true (Some 0) d node rest
   valid = subst (λ (x : FlowNode). IsFlowNode true (Some 0) d x rest) p.collection.is p.collection.passed.valid
@@ -62,11 +62,11 @@ whole_passed d h more t w is =
     record {
       close = w.close;
       after = w.gap ++ flow_items_text w.close w.items more;
-      stands = there;
+      is_located = there;
       collection = record {
         passed = record {
           node = node;
-          stands = refl;
+          is_located = refl;
           valid = coll_any w.close w.gap w.items true (Some 0) d [] more w.valid;
           borrowed = w.borrowed;
           unique = w.unique;

@@ -3,8 +3,8 @@ use Rattle.std.specs.Prelude.{◌≡◌, ℕ, Bool, true, false, List, [], ◌�
 use Rattle.yq_core.{specs.Answers.◌>>=◌, specs.Entries.{EntryPieces, entry_pieces_at, path_inside}}
 use Rattle.yq_core.{specs.Nodes.{FlowNode, Items, bare, begins_content, begins_with, node_text}, specs.Paths.Step}
 use Rattle.yq_core.{specs.Places.{Placed, locate}, specs.Reading.{all_items, all_node, lead_at, name_at}, specs.View.inline_view}
-use Rattle.yq_inline.{specs.Measured.closing_byte, specs.declared.in_front.NodeInFront.NodeInFront}
-use Rattle.yq_inline.{specs.declared.along.NodeAlong.NodeAlong, specs.declared.in_front.PartsInFront.PartsInFront}
+use Rattle.yq_inline.{specs.Measured.closing_byte, specs.declared.before_offset.LeadingNode.LeadingNode}
+use Rattle.yq_inline.{specs.declared.along.NodeAlong.NodeAlong, specs.declared.before_offset.LeadingParts.LeadingParts}
 
 -- the text from the node of an item or entry on (own)
 abbrev pub node_from : EntryPieces → List ℕ
@@ -15,11 +15,11 @@ abbrev pub as_item : FlowNode × List ℕ → EntryPieces
 as_item x = record { key = bare; node = x.0; rest = x.1 }
 
 -- the node in front is read so (own)
-abbrev pub front_read : NodeInFront → Option (FlowNode × List ℕ)
+abbrev pub front_read : LeadingNode → Option (FlowNode × List ℕ)
 front_read n = all_node n.flow n.spaces n.depth n.text.now
 
 -- the same, if there is one (own)
-abbrev pub read_in : Option NodeInFront → Option (FlowNode × List ℕ)
+abbrev pub read_in : Option LeadingNode → Option (FlowNode × List ℕ)
 read_in None = None
 read_in (Some n) = front_read n
 
@@ -37,11 +37,11 @@ all_in [] o = o
 all_in (s ∷ ss) o = all_in ss (one_in s o)
 
 -- steps lead in the node in front to another one in front, if there is one (own)
-abbrev pub LeadsAlong : List Step → NodeInFront → Option NodeInFront → Type 0
+abbrev pub LeadsAlong : List Step → LeadingNode → Option LeadingNode → Type 0
 LeadsAlong ss n o = read_in o ≡ all_in ss (front_read n)
 
 -- the items or entries in front are read so (own)
-abbrev pub parts_read : PartsInFront → Option (Items × List ℕ)
+abbrev pub parts_read : LeadingParts → Option (Items × List ℕ)
 parts_read p = all_items p.depth (closing_byte p.keyed) p.text.now
 
 -- an item or entry with its places in the text from its node on (own)
@@ -57,11 +57,11 @@ abbrev pub along_view : NodeAlong → List ℕ × Placed
 along_view n = (n.text.now, inline_view n.node)
 
 -- what the code answers is the node to which steps lead in the node in front, if there is one (own)
-abbrev pub ReadsAlong : List Step → NodeInFront → Option NodeAlong → Type 0
+abbrev pub ReadsAlong : List Step → LeadingNode → Option NodeAlong → Type 0
 ReadsAlong ss n o = option_map along_view o ≡ located_along ss (front_read n)
 
 -- the same at one step more (own)
-abbrev pub ReadsPart : List Step → Step → NodeInFront → Option NodeAlong → Type 0
+abbrev pub ReadsPart : List Step → Step → LeadingNode → Option NodeAlong → Type 0
 ReadsPart ss s n o = ReadsAlong (ss ++ (s ∷ [])) n o
 
 -- what follows the anchor of the node in front and the gap after it, if it has one (own)

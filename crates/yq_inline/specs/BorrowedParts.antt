@@ -1,6 +1,6 @@
 -- The items and entries of nodes that a text lends (own).
 use Rattle.std.specs.Prelude.{◌≡◌, ℕ, ◌==◌, List, Option, Some, None, option_map, if◌then◌else◌}
-use Rattle.yq_core.{specs.Borrowed.items_in_front, specs.Entries.PlacedEntry, specs.Nodes.{Key, bare}}
+use Rattle.yq_core.{specs.Borrowed.leading_items, specs.Entries.PlacedEntry, specs.Nodes.{Key, bare}}
 use Rattle.yq_core.{specs.Places.{Parts, end, part, key_placed}, specs.Reading.read_flow_key, specs.View.borrowed_view}
 use Rattle.yq_inline.{specs.Measured.closing_byte, specs.declared.parts.BorrowedEntry.BorrowedEntry}
 use Rattle.yq_inline.specs.declared.parts.BorrowedParts.{BorrowedParts}
@@ -11,7 +11,7 @@ borrowed_entry e = (option_map (λ k. (k.0.now, k.1)) e.key, borrowed_view e.nod
 
 -- the items or entries that those of the code show (own)
 abbrev pub parts_view : BorrowedParts → Parts
-parts_view p = items_in_front p.total p.depth (closing_byte p.keyed) p.text.now
+parts_view p = leading_items p.total p.depth (closing_byte p.keyed) p.text.now
 
 -- the first item or entry, if there is one, before the others (own)
 abbrev pub first_and_others : Option (BorrowedEntry × BorrowedParts) → Parts
@@ -30,7 +30,7 @@ key_before k t = if k == 125 then read_flow_key t else Some (bare, t)
 -- The entry in front: its key with the piece of that, and its node, which begins after the key (own).
 pub record IsFirstEntry (p : BorrowedParts) (e : BorrowedEntry) : Type 0 where
   pub key : Key
-  pub stands : key_before (closing_byte p.keyed) p.text.now ≡ Some (key, e.node.text.now)
+  pub is_located : key_before (closing_byte p.keyed) p.text.now ≡ Some (key, e.node.text.now)
   pub view : (borrowed_entry e).0 ≡ key_placed p.total p.text.now key
   pub total : e.node.total ≡ p.total
   pub depth : e.node.depth ≡ p.depth

@@ -84,5 +84,5 @@ past_part true d t = past_node (placed_entry 0 d t)
 past_part false d t = past_node (placed_item 0 d t)
 
 -- what follows a node that a text lends (own)
-abbrev pub behind_borrowed : BorrowedNode → Option (List ℕ)
-behind_borrowed node = past_node (all_node true (Some 0) node.depth node.text.now)
+abbrev pub after_borrowed : BorrowedNode → Option (List ℕ)
+after_borrowed node = past_node (all_node true (Some 0) node.depth node.text.now)

@@ -5,10 +5,10 @@ use Rattle.yq_core.{specs.Answers.◌>>=◌, specs.Collections.{CollPieces, coll
 use Rattle.yq_core.specs.Nodes.{FlowNode, Items, Key, Sep, flow_items_text, item, key_text, node_text, none, sep_text}
 use Rattle.yq_core.{specs.Reading.{all_items, all_node, sep_at}, specs.Quoted.IsQuotedText, specs.Scalars.{is_quoted, scalar_content}}
 use Rattle.yq_core.{specs.Tree.key_label, specs.Trees.key_content}
-use Rattle.yq_inline.{specs.Along.{front_read, parts_read}, specs.Measured.closing_byte, specs.declared.in_front.NodeInFront.NodeInFront}
-use Rattle.yq_inline.{specs.declared.in_front.PartsInFront.PartsInFront, specs.declared.passing.FoundPart.FoundPart}
-use Rattle.yq_inline.{specs.declared.passing.PassedPart.PassedPart, specs.declared.neighbours.CollectionEnd.CollectionEnd}
-use Rattle.yq_inline.specs.declared.neighbours.Neighbours.{Neighbours}
+use Rattle.yq_inline.{specs.Along.{front_read, parts_read}, specs.Measured.closing_byte}
+use Rattle.yq_inline.{specs.declared.before_offset.LeadingNode.LeadingNode, specs.declared.before_offset.LeadingParts.LeadingParts}
+use Rattle.yq_inline.{specs.declared.passing.FoundPart.FoundPart, specs.declared.passing.PassedPart.PassedPart}
+use Rattle.yq_inline.{specs.declared.neighbours.CollectionEnd.CollectionEnd, specs.declared.neighbours.Neighbours.Neighbours}
 use denote.Bor.{Bor}
 
 -- ---- what items and entries are next to each other
@@ -102,71 +102,71 @@ IsWrittenKey None = Unit {0}
 IsWrittenKey (Some k) = is_quoted k.now ≡ true → IsQuotedText k.now
 
 -- The first of the items or entries in front, whose node begins this text.
-pub record IsFirstInFront (p : PartsInFront) (u : List ℕ) : Type 0 where
+pub record IsLeadingPart (p : LeadingParts) (u : List ℕ) : Type 0 where
   pub key : Key
   pub node : FlowNode
   pub sep : Sep
   pub items : Items
   pub rest : List ℕ
-  pub behind : List ℕ
+  pub following : List ℕ
   pub after : List ℕ
-  pub read : all_node true (Some 0) p.depth u ≡ Some (node, behind)
-  pub sep_read : sep_at (closing_byte p.keyed) behind ≡ Some (sep, after)
+  pub read : all_node true (Some 0) p.depth u ≡ Some (node, following)
+  pub sep_read : sep_at (closing_byte p.keyed) following ≡ Some (sep, after)
   pub others : all_items p.depth (closing_byte p.keyed) after ≡ Some (items, rest)
   pub all : parts_read p ≡ Some (item key node sep items, rest)
   pub fewer : length after < length p.text.now
 
 -- The key in front, if entries have one, and the text from the node after it on.
-pub record IsKeyInFront (p : PartsInFront) (x : Option (Bor (List ℕ)) × Bor (List ℕ)) : Type 0 where
-  pub first : IsFirstInFront p x.1.now
+pub record IsLeadingKey (p : LeadingParts) (x : Option (Bor (List ℕ)) × Bor (List ℕ)) : Type 0 where
+  pub first : IsLeadingPart p x.1.now
   pub means : key_content first.key ≡ key_means x.0
   pub quoted : IsWrittenKey x.0
 
 -- The first item or entry is passed, and the others are those after it.
-pub record IsPassed (p : PartsInFront) (u : List ℕ) (f : IsFirstInFront p u) (x : PassedPart × PartsInFront) : Type 0 where
+pub record IsPassed (p : LeadingParts) (u : List ℕ) (f : IsLeadingPart p u) (x : PassedPart × LeadingParts) : Type 0 where
   pub others : parts_read x.1 ≡ Some (f.items, f.rest)
   pub keyed : x.1.keyed ≡ p.keyed
   pub fewer : length x.1.text.now < length p.text.now
   pub ends : passed_view x.0 ≡ first_ends (closing_byte p.keyed) f.key f.node f.sep f.items f.rest
 
 -- the texts of the last of the items or entries in front; of another one, if there is none
-abbrev pub last_read : Option PartTexts → PartsInFront → Option PartTexts
+abbrev pub last_read : Option PartTexts → LeadingParts → Option PartTexts
 last_read o p = parts_read p >>= λ x. last_ends (closing_byte p.keyed) o x.0 x.1
 
 -- the text from the first of them on, if there is one
-abbrev pub first_read : PartsInFront → Option (List ℕ)
+abbrev pub first_read : LeadingParts → Option (List ℕ)
 first_read p = parts_read p >>= λ x. first_text (closing_byte p.keyed) x.0 x.1
 
 -- those from the one on to which a step leads, and the one before it; before the first one is this one
-abbrev pub from_read : Step → Option PartTexts → PartsInFront → Option (Option PartTexts × Items × List ℕ)
+abbrev pub from_read : Step → Option PartTexts → LeadingParts → Option (Option PartTexts × Items × List ℕ)
 from_read s o p = parts_read p >>= λ x. rest_from (closing_byte p.keyed) s o x.0 x.1
 
 -- A step leads to the first one of others, of which one is before these, if any, and whose node begins this text.
-pub record IsStepPart (s : Step) (p : PartsInFront) (x : FoundPart) : Type 0 where
+pub record IsStepPart (s : Step) (p : LeadingParts) (x : FoundPart) : Type 0 where
   pub keyed : x.parts.keyed ≡ p.keyed
-  pub first : IsFirstInFront x.parts x.node.now
+  pub first : IsLeadingPart x.parts x.node.now
   pub found : from_read s None p ≡ Some (option_map passed_view x.before, item first.key first.node first.sep first.items, first.rest)
 
 -- what the code finds is where a step leads; nothing, where it leads to none
-abbrev pub FindsStep : Step → PartsInFront → Option FoundPart → Type 0
+abbrev pub FindsStep : Step → LeadingParts → Option FoundPart → Type 0
 FindsStep s p None = from_read s None p ≡ None
 FindsStep s p (Some x) = IsStepPart s p x
 
 -- A collection is in front, by what follows its bracket and by its items or entries.
-pub record IsCollectionOf (w : CollPieces) (x : Bor (List ℕ) × PartsInFront) : Type 0 where
+pub record IsCollectionOf (w : CollPieces) (x : Bor (List ℕ) × LeadingParts) : Type 0 where
   pub close : w.close ≡ closing_byte x.1.keyed
   pub read : parts_read x.1 ≡ Some (w.items, w.rest)
   pub inside : x.0.now ≡ w.gap ++ flow_items_text w.close w.items w.rest
 
 -- what the code finds is a collection, if there is one
-abbrev pub FindsCollection : Option CollPieces → Option (Bor (List ℕ) × PartsInFront) → Type 0
+abbrev pub FindsCollection : Option CollPieces → Option (Bor (List ℕ) × LeadingParts) → Type 0
 FindsCollection o None = o ≡ None
 FindsCollection o (Some x) = (w : CollPieces) × (o ≡ Some w) × IsCollectionOf w x
 
 -- what the code finds is the end of the collection to which steps lead in the node in front
-abbrev pub FindsEnd : List Step → NodeInFront → Option CollectionEnd → Type 0
+abbrev pub FindsEnd : List Step → LeadingNode → Option CollectionEnd → Type 0
 FindsEnd ss n o = option_map end_view o ≡ option_map coll_end (coll_read ss (front_read n))
 
 -- what the code finds is the item or entry to which a step more leads
-abbrev pub FindsAround : List Step → Step → NodeInFront → Option Neighbours → Type 0
+abbrev pub FindsAround : List Step → Step → LeadingNode → Option Neighbours → Type 0
 FindsAround ss s n o = option_map around_view o ≡ (coll_read ss (front_read n) >>= coll_around s)

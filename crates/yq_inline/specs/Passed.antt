@@ -9,7 +9,7 @@ use Rattle.yq_core.{specs.Scalars.scalar_content, specs.Trees.{tree_of, items_tr
 -- A node that the text lends is in front, with at most d collections nested; its keys are fit, and no mapping has one twice (own).
 pub record IsPassedNode (d : ℕ) (t rest : List ℕ) : Type 0 where
   pub node : FlowNode
-  pub stands : t ≡ node_text node rest
+  pub is_located : t ≡ node_text node rest
   pub valid : IsFlowNode true (Some 0) d node rest
   pub borrowed : borrows_node node ≡ true
   pub unique : has_unique_keys (tree_of node) ≡ true
@@ -30,7 +30,7 @@ pub record IsPassedCollection (k d : ℕ) (t rest : List ℕ) : Type 0 where
 -- The same of items or entries with these keys, and of their closing bracket (own).
 pub record ArePassedParts (d k : ℕ) (keys : List (List ℕ)) (t rest : List ℕ) : Type 0 where
   pub items : Items
-  pub stand : t ≡ flow_items_text k items rest
+  pub are_there : t ≡ flow_items_text k items rest
   pub valid : AreFlowItems d k items rest
   pub borrowed : borrows_items items ≡ true
   pub unique : each_has_unique_keys (items_tree items) ≡ true
@@ -55,7 +55,7 @@ pub record IsPassedKey (content t rest : List ℕ) : Type 0 where
 pub record IsPassedHead (d : ℕ) (t rest : List ℕ) : Type 0 where
   pub close : ℕ
   pub after : List ℕ
-  pub stands : t ≡ opening_bracket close ∷ after
+  pub is_located : t ≡ opening_bracket close ∷ after
   pub collection : IsPassedCollection close d after rest
 
 -- such a collection is in front, where its depth isn't 0 (own)

@@ -3,8 +3,8 @@ ghost use Rattle.std.specs.Prelude.{◌≡◌, [], IfOk, map};
 ghost use Rattle.yq_core.specs.Entries.{tree_step};
 ghost use Rattle.yq_inline.specs.Along as spec;
 
-use crate::in_front::NodeInFront;
-use crate::parts_in_front::parts_in_front;
+use crate::before_offset::LeadingNode;
+use crate::leading_parts::leading_parts;
 use crate::passing::find_part;
 use crate::reading::read_node;
 use std::alloc::{AllocError, Global};
@@ -18,16 +18,16 @@ pub struct NodeAlong<'t> {
 }
 
 /// The node of the item or entry to which a step leads.
-fn part_along<'t>(node: NodeInFront<'t>, step: &Step) -> Option<NodeInFront<'t>>
+fn part_along<'t>(node: LeadingNode<'t>, step: &Step) -> Option<LeadingNode<'t>>
     ensures { spec.read_in result ≡ spec.one_in (tree_step step.now) (spec.front_read node.entry) }
 {
-    let Some((_, parts)) = parts_in_front(node) else {
+    let Some((_, parts)) = leading_parts(node) else {
         return None;
     };
     let Some(found) = find_part(parts, step) else {
         return None;
     };
-    Some(NodeInFront {
+    Some(LeadingNode {
         flow: true,
         spaces: Some(0),
         depth: found.parts.depth,
@@ -36,7 +36,7 @@ fn part_along<'t>(node: NodeInFront<'t>, step: &Step) -> Option<NodeInFront<'t>>
 }
 
 /// The node in front, with its places.
-fn read_front<'t>(alloc: Global, node: NodeInFront<'t>) -> Result<Option<NodeAlong<'t>>, AllocError>
+fn read_front<'t>(alloc: Global, node: LeadingNode<'t>) -> Result<Option<NodeAlong<'t>>, AllocError>
     ensures { IfOk result (spec.ReadsAlong [] node.entry) }
 {
     let text = node.text;
@@ -49,7 +49,7 @@ fn read_front<'t>(alloc: Global, node: NodeInFront<'t>) -> Result<Option<NodeAlo
 }
 
 /// The node in front to which steps lead, if there is one.
-pub(crate) fn front_along<'t>(node: NodeInFront<'t>, steps: &[Step]) -> Option<NodeInFront<'t>>
+pub(crate) fn front_along<'t>(node: LeadingNode<'t>, steps: &[Step]) -> Option<LeadingNode<'t>>
     ensures { spec.LeadsAlong (map tree_step steps.now) node.entry result }
 {
     let mut found = node;
@@ -65,7 +65,7 @@ pub(crate) fn front_along<'t>(node: NodeInFront<'t>, steps: &[Step]) -> Option<N
 /// The node to which steps lead, with its places, if there is one.
 pub fn read_along<'t>(
     alloc: Global,
-    node: NodeInFront<'t>,
+    node: LeadingNode<'t>,
     steps: &[Step],
 ) -> Result<Option<NodeAlong<'t>>, AllocError>
     ensures { IfOk result (spec.ReadsAlong (map tree_step steps.now) node.entry) }
@@ -79,7 +79,7 @@ pub fn read_along<'t>(
 /// The node of the item or entry to which a step leads in the one to which steps lead, with its places, if there is one.
 pub fn read_part<'t>(
     alloc: Global,
-    node: NodeInFront<'t>,
+    node: LeadingNode<'t>,
     steps: &[Step],
     last: &Step,
 ) -> Result<Option<NodeAlong<'t>>, AllocError>

@@ -98,11 +98,11 @@ fn pass_collection<'t>(keys: &mut Keys<'t>, depth: usize, text: &'t str) -> Opti
     ensures passed { IfSome result (λ p. spec.IsPassedContent p.nested text.now p.rest.now) }
     ensures kept { IfSome result (λ p. key_texts keys.new.items ≡ key_texts keys.old.items) }
 {
-    if let Some(behind) = strip(b'[', text) {
-        return pass_sequence(keys, depth, behind);
+    if let Some(after) = strip(b'[', text) {
+        return pass_sequence(keys, depth, after);
     }
-    if let Some(behind) = strip(b'{', text) {
-        return pass_mapping(keys, depth, behind);
+    if let Some(after) = strip(b'{', text) {
+        return pass_mapping(keys, depth, after);
     }
     if !begins_scalar(true, text.as_bytes()) {
         return None;
@@ -199,9 +199,9 @@ fn pass_items<'t>(keys: &mut Keys<'t>, depth: usize, text: &'t str) -> Option<Pa
     let mut nested = 0;
     let mut rest = text;
     'each: loop {
-        if let Some(behind) = strip(b']', rest) {
+        if let Some(following) = strip(b']', rest) {
             return Some(Passed {
-                rest: behind,
+                rest: following,
                 nested,
             });
         }
@@ -227,12 +227,12 @@ fn pass_entries<'t>(keys: &mut Keys<'t>, depth: usize, text: &'t str) -> Option<
     let mut nested = 0;
     let mut rest = text;
     'each: loop {
-        if let Some(behind) = strip(b'}', rest) {
+        if let Some(following) = strip(b'}', rest) {
             if !take_distinct(keys, others) {
                 return None;
             }
             return Some(Passed {
-                rest: behind,
+                rest: following,
                 nested,
             });
         }

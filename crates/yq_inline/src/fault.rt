@@ -3,7 +3,7 @@ ghost use Rattle.std.specs.Prelude.{◌≢◌};
 ghost use Rattle.yq_core.specs.declared.fault.FaultKind.TheVariants.{NotUtf8};
 
 use yq_core::fault_place::fault;
-use yq_core::text::{behind_spaces, spaces_len};
+use yq_core::text::{spaces_len, without_spaces};
 use yq_core::{FaultKind, ReadFault};
 
 /// The whole text from the line on which this rest of it begins.
@@ -23,7 +23,7 @@ fn is_unclosed(whole: &str, open: &str, rest: &str) -> bool {
     let opened = from_line(whole, open);
     let line = from_line(whole, rest);
     let is_left = line.len() < opened.len() && spaces_len(line) <= spaces_len(opened);
-    rest.is_empty() || (is_left && !matches!(behind_spaces(opened), [b'[' | b'{', ..]))
+    rest.is_empty() || (is_left && !matches!(without_spaces(opened), [b'[' | b'{', ..]))
 }
 
 /// A fault in a flow collection after whose bracket was `open`: where this rest of the whole text

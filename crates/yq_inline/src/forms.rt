@@ -23,7 +23,7 @@ pub enum BorrowedForm<'t> {
 }
 
 /// The kind and the text of the scalar in front.
-fn scalar_in_front(text: &str) -> (Kind, &str)
+fn leading_scalar(text: &str) -> (Kind, &str)
     requires { spec.borrows_front (read true (Some 0) text.now) ≡ true }
     ensures { spec.front_node (read true (Some 0) text.now) ≡
         Some (scalar None result.0 result.1.now) }
@@ -63,15 +63,15 @@ pub fn form_of<'t>(node: BorrowedNode<'t>) -> BorrowedForm<'t>
     ensures node { spec.form_node result ≡ placed_tree (borrowed_view node.entry) }
     ensures parts { spec.form_parts result ≡ parts_of (borrowed_view node.entry) }
 {
-    if let Some(behind) = strip(b'[', node.text) {
-        return BorrowedForm::List(parts_inside(node, false, behind));
+    if let Some(after) = strip(b'[', node.text) {
+        return BorrowedForm::List(parts_inside(node, false, after));
     }
-    if let Some(behind) = strip(b'{', node.text) {
-        return BorrowedForm::Map(parts_inside(node, true, behind));
+    if let Some(after) = strip(b'{', node.text) {
+        return BorrowedForm::Map(parts_inside(node, true, after));
     }
     if !begins_scalar(true, node.text.as_bytes()) {
         return BorrowedForm::Scalar(Kind::Null, "null");
     }
-    let (kind, text) = scalar_in_front(node.text);
+    let (kind, text) = leading_scalar(node.text);
     BorrowedForm::Scalar(kind, text)
 }

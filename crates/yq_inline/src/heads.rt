@@ -18,8 +18,8 @@ pub fn pass_head<'t>(keys: &mut Keys<'t>, text: &'t str) -> Option<Passed<'t>>
     ensures nested { IfSome result (λ p. p.nested ≤ depth_limit) }
     ensures passed { IfSome result (λ p. spec.IsPassedHead p.nested text.now p.rest.now) }
 {
-    if let Some(behind) = strip(b'[', text) {
-        return pass_sequence(keys, BORROWED_DEPTH, behind);
+    if let Some(after) = strip(b'[', text) {
+        return pass_sequence(keys, BORROWED_DEPTH, after);
     }
     pass_mapping(keys, BORROWED_DEPTH, strip(b'{', text)?)
 }

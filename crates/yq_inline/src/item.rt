@@ -11,7 +11,7 @@ use yq_core::{FaultKind, Inline, ReadFault};
 
 /// What follows an item and the comma after it, if there is one; the item, which is not to be nothing,
 /// is in front of `text`, and after the `[` was `open`.
-pub(crate) fn read_behind<'t>(
+pub(crate) fn read_following<'t>(
     whole: &str,
     open: &str,
     text: &str,

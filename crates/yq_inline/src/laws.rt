@@ -2,7 +2,7 @@
 ghost use Rattle.std.specs.Prelude.{◌≡◌, ◌∷◌, length, Bool, List, Option, Some, option_map, ℕ, ℤ};
 ghost use Rattle.yq_core.{specs.Paths.Step, specs.declared.style.Place.Place, specs.Inline.{IsInline, IsInlineAt, inline_at}};
 ghost use Rattle.yq_core.specs.Nodes.{IsFlowNode, FlowNode, node_text};
-ghost use Rattle.yq_core.specs.Entries.{EntryPieces, StandsIn, placed_entry_at, entry_pieces_at, locate_entry, pieces_text};
+ghost use Rattle.yq_core.specs.Entries.{EntryPieces, IsEntryInText, placed_entry_at, entry_pieces_at, locate_entry, pieces_text};
 ghost use Rattle.yq_core.{specs.Places.{Placed, locate}, specs.Trees.{placed_tree, tree_of}, specs.OneReading.HasOneReading};
 ghost use Rattle.yq_inline.specs.NodesWithin.{IsNodeWithin};
 
@@ -30,7 +30,7 @@ pub fn entry_places()
         placed_entry_at steps (locate_entry total x) ≡
         option_map (locate_entry total) (entry_pieces_at steps x) }
     ensures text { (steps : List Step) (x y : EntryPieces) → entry_pieces_at steps x ≡ Some y →
-        StandsIn (pieces_text x) y }
+        IsEntryInText (pieces_text x) y }
     ensures node { (flow : Bool) (spaces : Option ℕ) (d : ℕ) (s : Step) (ss : List Step)
         (x y : EntryPieces) → IsFlowNode flow spaces d x.node x.rest →
         entry_pieces_at (s ∷ ss) x ≡ Some y →

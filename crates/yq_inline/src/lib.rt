@@ -3,21 +3,21 @@
 #![tactic(auto)]
 
 mod along;
+mod before_offset;
 mod borrowed;
 mod borrowed_entries;
 pub mod borrows;
 pub mod fault;
 mod forms;
 mod heads;
-mod in_front;
 mod item;
 mod keys;
 mod laws;
 mod lead;
+mod leading_parts;
 pub mod measuring;
 mod neighbours;
 mod parts;
-mod parts_in_front;
 mod passing;
 pub mod pieces;
 mod read;
@@ -26,11 +26,11 @@ mod scalar;
 pub mod short;
 
 pub use along::{NodeAlong, read_along, read_part};
+pub use before_offset::LeadingNode;
 pub use borrowed::Passed;
 pub use borrowed_entries::entry_in;
 pub use forms::{BorrowedForm, form_of};
 pub use heads::{MeasuredHead, measure_head, pass_head};
-pub use in_front::NodeInFront;
 pub use keys::{Keys, take_distinct};
 pub use laws::{entry_places, one_inline, one_tree};
 pub use lead::read_gap;

@@ -102,10 +102,10 @@ pub fn measure_node<'t>(
     ensures read { MeasuresNode result (reading.placed_node flow spaces 0 depth text.now) }
     ensures fault { IfErr result (λ f. f.kind ≢ NotUtf8) }
 {
-    let Some(behind) = strip(b'&', text) else {
+    let Some(after) = strip(b'&', text) else {
         return measure_content(flow, spaces, whole, depth, text);
     };
-    let (_, rest) = read_name(whole, behind)?;
+    let (_, rest) = read_name(whole, after)?;
     let (gap, rest) = read_lead(flow, whole, rest)?;
     let node = measure_content(flow, spaces, whole, depth, rest)?;
     if !may_follow(gap, node) {
@@ -133,16 +133,16 @@ fn measure_content<'t>(
     ensures read { MeasuresNode result (reading.placed_content flow spaces 0 depth text.now) }
     ensures fault { IfErr result (λ f. f.kind ≢ NotUtf8) }
 {
-    if let Some(behind) = strip(b'*', text) {
-        let (_, rest) = read_name(whole, behind)?;
+    if let Some(after) = strip(b'*', text) {
+        let (_, rest) = read_name(whole, after)?;
         return Ok(unanchored(MeasuredKind::Alias, rest));
     }
-    if let Some(behind) = strip(b'[', text) {
-        let rest = measure_collection(whole, depth, false, behind)?;
+    if let Some(after) = strip(b'[', text) {
+        let rest = measure_collection(whole, depth, false, after)?;
         return Ok(unanchored(MeasuredKind::Collection, rest));
     }
-    if let Some(behind) = strip(b'{', text) {
-        let rest = measure_collection(whole, depth, true, behind)?;
+    if let Some(after) = strip(b'{', text) {
+        let rest = measure_collection(whole, depth, true, after)?;
         return Ok(unanchored(MeasuredKind::Collection, rest));
     }
     if begins_content(flow, text.as_bytes()) {
@@ -188,12 +188,12 @@ pub(crate) fn measure_value<'t>(
     if let Some(node) = measure_scalar(text) {
         return Ok(node);
     }
-    if let Some(behind) = strip(b'[', text) {
-        let rest = measure_collection(whole, depth, false, behind)?;
+    if let Some(after) = strip(b'[', text) {
+        let rest = measure_collection(whole, depth, false, after)?;
         return Ok(unanchored(MeasuredKind::Collection, rest));
     }
-    if let Some(behind) = strip(b'{', text) {
-        let rest = measure_collection(whole, depth, true, behind)?;
+    if let Some(after) = strip(b'{', text) {
+        let rest = measure_collection(whole, depth, true, after)?;
         return Ok(unanchored(MeasuredKind::Collection, rest));
     }
     measure_node(true, Some(0), whole, depth, text)
@@ -244,8 +244,8 @@ fn measure_parts<'t>(
     let closing = if keyed { b'}' } else { b']' };
     let mut rest = text;
     'each: loop {
-        if let Some(behind) = strip(closing, rest) {
-            return Ok(behind);
+        if let Some(after) = strip(closing, rest) {
+            return Ok(after);
         }
         rest = measure_part(whole, depth, keyed, open, rest)?;
     }

@@ -5,8 +5,8 @@ ghost use Rattle.yq_inline.specs.Along.{front_read};
 ghost use Rattle.yq_inline.specs.Neighbours as spec;
 
 use crate::along::front_along;
-use crate::in_front::{NodeInFront, PartsInFront};
-use crate::parts_in_front::parts_in_front;
+use crate::before_offset::{LeadingNode, LeadingParts};
+use crate::leading_parts::leading_parts;
 use crate::passing::{PassedPart, find_part, first_text, last_part, pass};
 use yq_core::Step;
 
@@ -31,16 +31,16 @@ pub struct CollectionEnd<'t> {
 
 /// What follows the bracket of the collection to which steps lead, and its items or entries, if there is one.
 fn collection_along<'t>(
-    node: NodeInFront<'t>,
+    node: LeadingNode<'t>,
     steps: &[Step],
-) -> Option<(&'t str, PartsInFront<'t>)>
+) -> Option<(&'t str, LeadingParts<'t>)>
     ensures { spec.FindsCollection (spec.coll_read (map tree_step steps.now)
         (front_read node.entry)) result }
 {
     let Some(found) = front_along(node, steps) else {
         return None;
     };
-    parts_in_front(found)
+    leading_parts(found)
 }
 
 /// What follows the last item or entry, or this text, if there is none.
@@ -54,7 +54,7 @@ fn past_last<'t>(last: Option<PassedPart<'t>>, inside: &'t str) -> &'t str
 }
 
 /// Where the collection to which steps lead ends, if there is one.
-pub fn collection_end<'t>(node: NodeInFront<'t>, steps: &[Step]) -> Option<CollectionEnd<'t>>
+pub fn collection_end<'t>(node: LeadingNode<'t>, steps: &[Step]) -> Option<CollectionEnd<'t>>
     ensures { spec.FindsEnd (map tree_step steps.now) node.entry result }
 {
     let Some((inside, parts)) = collection_along(node, steps) else {
@@ -70,7 +70,7 @@ pub fn collection_end<'t>(node: NodeInFront<'t>, steps: &[Step]) -> Option<Colle
 
 /// The item or entry to which a step leads in the collection to which steps lead, if there is one.
 pub fn part_neighbours<'t>(
-    node: NodeInFront<'t>,
+    node: LeadingNode<'t>,
     steps: &[Step],
     last: &Step,
 ) -> Option<Neighbours<'t>>

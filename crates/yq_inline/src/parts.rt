@@ -3,7 +3,7 @@ ghost use Rattle.std.specs.Prelude.{◌≡◌, ◌≢◌, ◌<◌, ◌≤◌, If
 ghost use Rattle.yq_core.{specs.Borrowed.are_borrowed, specs.Entries.flow_part_at, specs.Nodes.begins_with};
 ghost use Rattle.yq_core.{specs.Paths.{Nth, To, is_item, key_is}, specs.PlacedReading.{past_sep, split_key}, specs.Quoted.IsQuotedText};
 ghost use Rattle.yq_core.{specs.Scalars.is_quoted as is_in_quotes, specs.Trees.unplaced_key};
-ghost use Rattle.yq_inline.specs.Measured.{closing_byte, behind_borrowed};
+ghost use Rattle.yq_inline.specs.Measured.{closing_byte, after_borrowed};
 
 use crate::measuring::measure_node;
 use crate::pieces::{read_key, read_sep};
@@ -43,7 +43,7 @@ pub(crate) fn closing_bracket(keyed: bool) -> u8
 }
 
 /// The key in front as it is written, and what follows its `:` and the gap after it.
-fn key_in_front(text: &str) -> (&str, &str)
+fn leading_key(text: &str) -> (&str, &str)
     requires { split_key text.now ≢ None }
     ensures split { split_key text.now ≡ Some (result.0.now, result.1.now) }
     ensures quoted { is_in_quotes result.0.now ≡ true → IsQuotedText result.0.now }
@@ -58,7 +58,7 @@ fn key_in_front(text: &str) -> (&str, &str)
 
 /// What follows a node.
 pub fn past_borrowed(node: BorrowedNode<'_>) -> &str
-    ensures rest { behind_borrowed node.entry ≡ Some result.now }
+    ensures rest { after_borrowed node.entry ≡ Some result.now }
     ensures shorter { length result.now ≤ length node.entry.text.now }
 {
     match measure_node(true, Some(0), node.text, node.depth, node.text) {
@@ -90,7 +90,7 @@ impl<'t> BorrowedParts<'t> {
         requires some { begins_with 125 self.text.now ≡ false }
         ensures { IsFirstEntry self.entry result }
     {
-        let (piece, text) = key_in_front(self.text);
+        let (piece, text) = leading_key(self.text);
         let start = self.total - self.text.len();
         let place = inline_piece(style_of(piece.as_bytes()), start, start + piece.len());
         let node = BorrowedNode {

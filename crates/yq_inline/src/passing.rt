@@ -6,7 +6,7 @@ ghost use Rattle.yq_inline.specs.Measured.{closing_byte};
 ghost use Rattle.yq_core.specs.Paths as paths;
 ghost use Rattle.yq_inline.specs.Neighbours as spec;
 
-use crate::in_front::PartsInFront;
+use crate::before_offset::LeadingParts;
 use crate::measuring::measure_value;
 use crate::parts::closing_bracket;
 use crate::pieces::{read_key, read_sep};
@@ -28,22 +28,22 @@ pub(crate) struct FoundPart<'t> {
     /// The item or entry before it.
     pub(crate) before: Option<PassedPart<'t>>,
     /// Those from it on.
-    pub(crate) parts: PartsInFront<'t>,
+    pub(crate) parts: LeadingParts<'t>,
     /// The text from its node on.
     pub(crate) node: &'t str,
 }
 
 /// Whether no item or entry is in front.
-fn are_none(parts: PartsInFront<'_>) -> bool
+fn are_none(parts: LeadingParts<'_>) -> bool
     ensures { result ≡ begins_with (closing_byte parts.entry.keyed) parts.entry.text.now }
 {
     first_is(closing_bracket(parts.keyed), parts.text.as_bytes())
 }
 
 /// The key in front as it is written, if entries have one, and the text from the node on.
-fn key_in_front<'t>(parts: PartsInFront<'t>) -> (Option<&'t str>, &'t str)
+fn leading_key<'t>(parts: LeadingParts<'t>) -> (Option<&'t str>, &'t str)
     requires { begins_with (closing_byte parts.keyed) parts.text.now ≡ false }
-    ensures { spec.IsKeyInFront parts.entry result }
+    ensures { spec.IsLeadingKey parts.entry result }
 {
     if !parts.keyed {
         return (None, parts.text);
@@ -56,9 +56,9 @@ fn key_in_front<'t>(parts: PartsInFront<'t>) -> (Option<&'t str>, &'t str)
 }
 
 /// The first item or entry, whose node begins this text, and the others after it.
-pub(crate) fn pass<'t>(parts: PartsInFront<'t>, node: &'t str) -> (PassedPart<'t>, PartsInFront<'t>)
-    requires { spec.IsFirstInFront parts node.now }
-    ensures { (f : spec.IsFirstInFront parts.entry node.now) → spec.IsPassed parts.entry node.now f result }
+pub(crate) fn pass<'t>(parts: LeadingParts<'t>, node: &'t str) -> (PassedPart<'t>, LeadingParts<'t>)
+    requires { spec.IsLeadingPart parts node.now }
+    ensures { (f : spec.IsLeadingPart parts.entry node.now) → spec.IsPassed parts.entry node.now f result }
 {
     let value = match measure_value(node, parts.depth, node) {
         Ok(value) => value,
@@ -74,7 +74,7 @@ pub(crate) fn pass<'t>(parts: PartsInFront<'t>, node: &'t str) -> (PassedPart<'t
         text: parts.text,
         rest: value.rest,
     };
-    let others = PartsInFront {
+    let others = LeadingParts {
         depth: parts.depth,
         keyed: parts.keyed,
         text,
@@ -83,13 +83,13 @@ pub(crate) fn pass<'t>(parts: PartsInFront<'t>, node: &'t str) -> (PassedPart<'t
 }
 
 /// The last item or entry in front, if there is one.
-pub(crate) fn last_part<'t>(parts: PartsInFront<'t>) -> Option<PassedPart<'t>>
+pub(crate) fn last_part<'t>(parts: LeadingParts<'t>) -> Option<PassedPart<'t>>
     ensures { option_map spec.passed_view result ≡ spec.last_read None parts.entry }
 {
     let mut rest = parts;
     let mut last = None;
     'each: while !are_none(rest) {
-        let (_, node) = key_in_front(rest);
+        let (_, node) = leading_key(rest);
         let (passed, others) = pass(rest, node);
         last = Some(passed);
         rest = others;
@@ -98,7 +98,7 @@ pub(crate) fn last_part<'t>(parts: PartsInFront<'t>) -> Option<PassedPart<'t>>
 }
 
 /// The text from the first item or entry on, if there is one.
-pub(crate) fn first_text<'t>(parts: PartsInFront<'t>) -> Option<&'t str>
+pub(crate) fn first_text<'t>(parts: LeadingParts<'t>) -> Option<&'t str>
     ensures { option_map (λ t. t.now) result ≡ spec.first_read parts.entry }
 {
     if are_none(parts) {
@@ -144,14 +144,14 @@ fn is_here(step: &Step, left: usize, key: Option<&str>) -> bool
 }
 
 /// Where a step leads among items or entries.
-pub(crate) fn find_part<'t>(parts: PartsInFront<'t>, step: &Step) -> Option<FoundPart<'t>>
+pub(crate) fn find_part<'t>(parts: LeadingParts<'t>, step: &Step) -> Option<FoundPart<'t>>
     ensures { spec.FindsStep (tree_step step.now) parts.entry result }
 {
     let mut rest = parts;
     let mut left = index_of(step);
     let mut before = None;
     'each: while !are_none(rest) {
-        let (key, node) = key_in_front(rest);
+        let (key, node) = leading_key(rest);
         if is_here(step, left, key) {
             return Some(FoundPart {
                 before,

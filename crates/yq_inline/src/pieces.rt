@@ -198,15 +198,15 @@ fn read_colon<'t>(piece: &str, whole: &str, open: &str, text: &'t str) -> Result
 }
 
 /// What follows an item and the comma after it, if there is one, whatever gaps are round that.
-#[tactic(auto, unfolding(yq_core::specs::Reading::sep_at, yq_core::specs::Reading::sep_behind))]
+#[tactic(auto, unfolding(yq_core::specs::Reading::sep_at, yq_core::specs::Reading::sep_after))]
 fn long_sep<'t>(close: u8, whole: &str, open: &str, text: &'t str) -> Result<&'t str, ReadFault>
     ensures read { ReadsAs (λ x. x.now) result (reading.past_sep close text.now) }
     ensures shorter { IfOk result (λ x. length x.now ≤ length text.now) }
     ensures fault { IfErr result (λ f. f.kind ≢ NotUtf8) }
 {
     let (_, rest) = read_gap(whole, text)?;
-    if let Some(behind) = strip(b',', rest) {
-        let (_, rest) = read_gap(whole, behind)?;
+    if let Some(after) = strip(b',', rest) {
+        let (_, rest) = read_gap(whole, after)?;
         return Ok(rest);
     }
     if first_is(close, rest.as_bytes()) {

@@ -7,7 +7,7 @@ ghost use Rattle.yq_inline.specs.InlineAnswers.{GivesNode, GivesCore, GivesNodes
 ghost use Rattle.yq_core.specs.Places as spec;
 ghost use Rattle.yq_core.specs.PlacedReading as reading;
 
-use crate::item::read_behind;
+use crate::item::read_following;
 use crate::lead::read_open;
 use crate::pieces::{begins_content, read_lead, read_name, read_sep};
 use crate::scalar::{read_entry_key, read_text};
@@ -46,8 +46,8 @@ fn takes_anchor(node: &Inline<'_>) -> bool
 }
 
 /// Whether the node may come after an anchor and this gap.
-fn stands_behind(gap: &str, node: &Inline<'_>) -> bool
-    ensures { result ≡ reading.stands_behind gap.now (inline_view node.now) }
+fn may_follow_anchor(gap: &str, node: &Inline<'_>) -> bool
+    ensures { result ≡ reading.may_follow_anchor gap.now (inline_view node.now) }
 {
     (is_bare(node) || !gap.is_empty()) && takes_anchor(node)
 }
@@ -66,7 +66,7 @@ fn put_anchor<'t>(
     ensures read { GivesAnchored whole.now text.now name.now gap.now node.entry rest.now result }
     ensures fault { IfErr result IsOfText }
 {
-    if !stands_behind(gap, &node) {
+    if !may_follow_anchor(gap, &node) {
         return Err(ReadError::from(fault(FaultKind::BadScalar, whole, text)));
     }
     Ok((
@@ -96,10 +96,10 @@ pub fn read_node<'t>(
     ensures read { GivesNode result (placed_node flow spaces (length whole.now) depth text.now) }
     ensures fault { IfErr result IsOfText }
 {
-    let Some(behind) = strip(b'&', text) else {
+    let Some(after) = strip(b'&', text) else {
         return read_content(alloc, flow, spaces, whole, depth, text);
     };
-    let (name, rest) = read_name(whole, behind)?;
+    let (name, rest) = read_name(whole, after)?;
     let (gap, rest) = read_lead(flow, whole, rest)?;
     match read_content(alloc, flow, spaces, whole, depth, rest) {
         Ok((node, rest)) => put_anchor(whole, text, name, gap, node, rest),
@@ -144,15 +144,15 @@ fn read_form<'t>(
     ensures read { GivesCore result (placed_form flow spaces (length whole.now) depth text.now) }
     ensures fault { IfErr result IsOfText }
 {
-    if let Some(behind) = strip(b'*', text) {
-        let (name, rest) = read_name(whole, behind)?;
+    if let Some(after) = strip(b'*', text) {
+        let (name, rest) = read_name(whole, after)?;
         return Ok((Form::Alias(name), rest));
     }
-    if let Some(behind) = strip(b'[', text) {
-        return read_sequence(alloc, whole, depth, behind);
+    if let Some(after) = strip(b'[', text) {
+        return read_sequence(alloc, whole, depth, after);
     }
-    if let Some(behind) = strip(b'{', text) {
-        return read_mapping(alloc, whole, depth, behind);
+    if let Some(after) = strip(b'{', text) {
+        return read_mapping(alloc, whole, depth, after);
     }
     if begins_content(flow, text.as_bytes()) {
         return read_text(alloc, flow, spaces, whole, text);
@@ -216,8 +216,8 @@ fn read_item<'t>(
 {
     match read_node(alloc, true, Some(0), whole, depth, text) {
         Ok((item, rest)) => {
-            let behind = read_behind(whole, open, text, &item, rest)?;
-            Ok((item, behind))
+            let after = read_following(whole, open, text, &item, rest)?;
+            Ok((item, after))
         }
         Err(e) => Err(e),
     }
@@ -241,9 +241,9 @@ fn read_items<'t>(
     let mut items = Vec::new(alloc);
     let mut rest = text;
     'each: loop {
-        if let Some(behind) = strip(b']', rest) {
+        if let Some(following) = strip(b']', rest) {
             items.shrink_to_fit();
-            return Ok((items, behind));
+            return Ok((items, following));
         }
         let (item, after) = read_item(alloc, whole, depth, open, rest)?;
         items.push(item)?;
@@ -289,9 +289,9 @@ fn read_entries<'t>(
     let mut entries = Vec::new(alloc);
     let mut rest = text;
     'each: loop {
-        if let Some(behind) = strip(b'}', rest) {
+        if let Some(following) = strip(b'}', rest) {
             entries.shrink_to_fit();
-            return Ok((entries, behind));
+            return Ok((entries, following));
         }
         let (entry, after) = read_entry(alloc, whole, depth, open, rest)?;
         entries.push(entry)?;

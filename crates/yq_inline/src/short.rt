@@ -74,8 +74,8 @@ fn past_colon(text: &str) -> Option<&str>
     ensures colon { IfSome result (λ r. text.now ≡ 58 ∷ 32 ∷ r.now) }
     ensures shorter { IfSome result (λ r. length r.now < length text.now) }
 {
-    let behind = strip(b':', text)?;
-    let rest = strip(b' ', behind)?;
+    let after = strip(b':', text)?;
+    let rest = strip(b' ', after)?;
     Some(rest)
 }
 
@@ -143,8 +143,8 @@ pub(crate) fn short_sep(close: u8, text: &str) -> Option<&str>
     ensures read { IfSome result (λ r. past_sep close text.now ≡ Some r.now) }
     ensures shorter { IfSome result (λ r. length r.now ≤ length text.now) }
 {
-    if let Some(behind) = strip(b',', text) {
-        let (_, rest) = near_gap(behind)?;
+    if let Some(after) = strip(b',', text) {
+        let (_, rest) = near_gap(after)?;
         return Some(rest);
     }
     let (_, rest) = near_gap(text)?;

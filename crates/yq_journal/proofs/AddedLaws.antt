@@ -111,9 +111,9 @@ items_read : {A : Type 0} (to_data : A → Data) (of_data : Data → Option A) (
 items_read to_data of_data [] k = refl
 items_read to_data of_data (x ∷ xs) k = ap₂ (λ o p. option_and_then (λ d. option_map (item d) p) o) k.0.reads (items_read to_data of_data xs k.1)
 
-all_stand : {A : Type 0} (to_data : A → Data) (of_data : Data → Option A) (xs : List A) → AreReadBack to_data of_data xs → each_of of_data (list_data to_data xs) ≡ Some xs
-all_stand to_data of_data [] k = refl
-all_stand to_data of_data (x ∷ xs) k = ap₂ (λ o p. and_more o p) k.0.stands (all_stand to_data of_data xs k.1)
+all_are_there : {A : Type 0} (to_data : A → Data) (of_data : Data → Option A) (xs : List A) → AreReadBack to_data of_data xs → each_of of_data (list_data to_data xs) ≡ Some xs
+all_are_there to_data of_data [] k = refl
+all_are_there to_data of_data (x ∷ xs) k = ap₂ (λ o p. and_more o p) k.0.is_located (all_are_there to_data of_data xs k.1)
 
 -- a list of things as an array
 abbrev pub array_of : {A : Type 0} → (A → Data) → List A → Data
@@ -124,7 +124,7 @@ abbrev pub things_of : {A : Type 0} → (Data → Option A) → Data → Option 
 things_of of_data d = option_and_then (each_of of_data) (as_array d)
 
 pub list_kept : {A : Type 0} (to_data : A → Data) (of_data : Data → Option A) (xs : List A) → AreReadBack to_data of_data xs → IsReadBack (array_of to_data) (things_of of_data) xs
-list_kept to_data of_data xs k = search (rules, numbers_of, items_read, all_stand)
+list_kept to_data of_data xs k = search (rules, numbers_of, items_read, all_are_there)
 
 -- the first things of a list were added to a text
 pub record SoFar {A : Type 0} (to_data : A → Data) (of_data : Data → Option A) (xs : List A) (i : ℕ) (later : Bool) (before now : List ℕ) : Type 0 where

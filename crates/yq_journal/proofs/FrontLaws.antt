@@ -7,7 +7,7 @@ use Rattle.base64.{specs.Engines.standard, specs.GeneralPurpose.{decode_of, enco
 use Rattle.json.specs.Print.{escape, quoted}
 use Rattle.serde_json.{specs.Data.Data, specs.Written.{comma_if, compact_text, items_text}}
 use Rattle.yq_text.specs.Splice.{Splice, lengths_done}
-use Rattle.yq_journal.specs.Added.{Adds, HoldsRecord, IsInFront, IsReadBack, changes_data, records_data}
+use Rattle.yq_journal.specs.Added.{Adds, HoldsRecord, IsLeading, IsReadBack, changes_data, records_data}
 use Rattle.yq_journal.specs.Json.{change_data, journal_in, journal_text, list_data, record_data, record_of, records_of, splice_of}
 use Rattle.yq_journal.{specs.Json.splices_of, specs.Record.{IsRecord, Record, is_length}, specs.Refusals.{IsSound, most_records}}
 use Rattle.yq_journal.specs.State.{state}
@@ -35,10 +35,10 @@ front_is t front rest e =
     ap (λ n. take n t) size ∙ ap (take (length front)) e ∙ take-append_seam front rest
 
 -- a splice is in front
-pub splice_in_front : (s : Splice) (t x₁ x₂ x₃ x₄ x₅ : List ℕ) → s.at < 2 ^ 64 → decode_of standard (encode_of standard s.new) ≡ Ok s.new → decode_of standard (encode_of standard s.old) ≡ Ok s.old
+pub leading_splice : (s : Splice) (t x₁ x₂ x₃ x₄ x₅ : List ℕ) → s.at < 2 ^ 64 → decode_of standard (encode_of standard s.new) ≡ Ok s.new → decode_of standard (encode_of standard s.old) ≡ Ok s.old
     → t ≡ ((codes "{\"at\":" ++ decimal s.at) ++ codes ",\"new\":\"") ++ x₁ → x₁ ≡ escape (encode_of standard s.new) ++ x₂ → x₂ ≡ codes "\",\"old\":\"" ++ x₃
-    → x₃ ≡ escape (encode_of standard s.old) ++ x₄ → x₄ ≡ codes "\"}" ++ x₅ → IsInFront change_data splice_of s t x₅
-splice_in_front s t x₁ x₂ x₃ x₄ x₅ h n o e₁ e₂ e₃ e₄ e₅ =
+    → x₃ ≡ escape (encode_of standard s.old) ++ x₄ → x₄ ≡ codes "\"}" ++ x₅ → IsLeading change_data splice_of s t x₅
+leading_splice s t x₁ x₂ x₃ x₄ x₅ h n o e₁ e₂ e₃ e₄ e₅ =
     let added = splice_adds s [] _ _ _ _ _ _ h n o refl refl refl refl refl refl in
     record {
       text_is = five
@@ -59,10 +59,10 @@ abbrev pub numbers_text : ℕ → ℕ → ℕ → List ℕ
 numbers_text a b n = (((((codes "{\"after_len\":" ++ decimal a) ++ codes ",\"before_len\":") ++ decimal b) ++ codes ",\"count\":") ++ decimal n) ++ codes ",\"expr\":"
 
 -- a record is in front
-pub record_in_front : (r : Record) (t x₁ x₂ x₃ x₄ x₅ : List ℕ) → r.after_len < 2 ^ 64 → r.before_len < 2 ^ 64 → r.count < 2 ^ 64 → IsRecord r
+pub leading_record : (r : Record) (t x₁ x₂ x₃ x₄ x₅ : List ℕ) → r.after_len < 2 ^ 64 → r.before_len < 2 ^ 64 → r.count < 2 ^ 64 → IsRecord r
     → t ≡ numbers_text r.after_len r.before_len r.count ++ x₁ → x₁ ≡ quoted r.expr ++ x₂ → x₂ ≡ codes ",\"splices\":" ++ x₃
-    → IsInFront changes_data splices_of r.changes x₃ x₄ → x₄ ≡ codes "}" ++ x₅ → IsInFront record_data (record_of true) r t x₅
-record_in_front r t x₁ x₂ x₃ x₄ x₅ a b n valid e₁ e₂ e₃ e₄ e₅ =
+    → IsLeading changes_data splices_of r.changes x₃ x₄ → x₄ ≡ codes "}" ++ x₅ → IsLeading record_data (record_of true) r t x₅
+leading_record r t x₁ x₂ x₃ x₄ x₅ a b n valid e₁ e₂ e₃ e₄ e₅ =
     let added = record_adds r [] _ _ _ _ _ _ _ _ a b n valid refl refl refl refl refl refl (record { text_is = refl; kept = e₄.kept }) refl in
     record {
       text_is =
@@ -72,7 +72,7 @@ record_in_front r t x₁ x₂ x₃ x₄ x₅ a b n valid e₁ e₂ e₃ e₄ e�
     }
 
 -- the text that comes before the rest is what is written of what is in front
-pub front_adds : {A : Type 0} (to_data : A → Data) (of_data : Data → Option A) (x : A) (t rest front : List ℕ) → IsInFront to_data of_data x t rest → front ≡ take (length t - length rest) t → Adds to_data of_data x [] front
+pub front_adds : {A : Type 0} (to_data : A → Data) (of_data : Data → Option A) (x : A) (t rest front : List ℕ) → IsLeading to_data of_data x t rest → front ≡ take (length t - length rest) t → Adds to_data of_data x [] front
 front_adds to_data of_data x t rest front f is = record { text_is = is ∙ front_is t (compact_text (to_data x)) rest f.text_is; kept = f.kept }
 
 -- a record that keeps the text that is written of it
@@ -91,11 +91,11 @@ read_back_more to_data of_data [] x k l = (l, tt)
 read_back_more to_data of_data (y ∷ ys) x k l = (k.0, read_back_more to_data of_data ys x k.1 l)
 
 pub found_more : {A : Type 0} (to_data : A → Data) (of_data : Data → Option A) (xs : List A) (x : A) (later : Bool) (text left next last : List ℕ)
-    → FoundSoFar to_data of_data xs later text left → left ≡ comma_if later ++ next → IsInFront to_data of_data x next last → FoundSoFar to_data of_data (xs ++ x ∷ []) true text last
+    → FoundSoFar to_data of_data xs later text left → left ≡ comma_if later ++ next → IsLeading to_data of_data x next last → FoundSoFar to_data of_data (xs ++ x ∷ []) true text last
 found_more to_data of_data xs x later text left next last f comma front = search (rules, append_assoc, array_of, read_back_more)
 
 pub found_ends : {A : Type 0} (to_data : A → Data) (of_data : Data → Option A) (xs : List A) (later : Bool) (text left rest : List ℕ)
-    → FoundSoFar to_data of_data xs later text left → left ≡ codes "]" ++ rest → IsInFront (array_of to_data) (things_of of_data) xs text rest
+    → FoundSoFar to_data of_data xs later text left → left ≡ codes "]" ++ rest → IsLeading (array_of to_data) (things_of of_data) xs text rest
 found_ends to_data of_data xs later text left rest f e = record {
   text_is = f.all [] rest e ∙ ap (λ l. compact_text (array_of to_data l) ++ rest) (append-nil xs);
   kept = list_kept to_data of_data xs f.kept;
@@ -116,7 +116,7 @@ rests_sound rs at within limit = record { within = within; limit = limit; open_m
 
 -- a text of the written form, with no open move, is that of its journal
 pub journal_found : (rs : List Record) (at : ℕ) (t x₁ x₂ x₃ : List ℕ) → IsSound (state rs at None) → at < 2 ^ 64
-    → t ≡ ((codes "{\"at\":" ++ decimal at) ++ codes ",\"pending\":null,\"records\":") ++ x₁ → IsInFront records_data (records_of true) rs x₁ x₂
+    → t ≡ ((codes "{\"at\":" ++ decimal at) ++ codes ",\"pending\":null,\"records\":") ++ x₁ → IsLeading records_data (records_of true) rs x₁ x₂
     → x₂ ≡ codes ",\"version\":2}\n" ++ x₃ → length x₃ ≤ 0 → IsUtf8 t → (t ≡ journal_text (state rs at None)) × (journal_in t ≡ Some (state rs at None))
 journal_found rs at t x₁ x₂ x₃ sound h e₁ e₂ e₃ none utf8 =
     let added = journal_adds (state rs at None) [] _ _ _ _ _ _ sound h refl refl (record { text_is = refl; kept = kept_none }) refl (record { text_is = refl; kept = e₂.kept }) refl in

@@ -28,7 +28,7 @@ describes s t h none k = subst (λ o. DescribesPending s o t h) (sym none) k
 
 module _ (s : State) (h : History) (t u : List ℕ) (step : Move) (k : AtRest s t h) (m : moved_text s.records s.at step t ≡ Some u) (d : u ≢ t) where
   underway : (v : List ℕ) (g : History) → ((v ≡ t) × (g ≡ h)) ⊎ ((v ≡ u) × (g ≡ after_move h step u)) → Describes (with_move s step t) v g
-  underway v g stands = search rules
+  underway v g is_located = search rules
 
   -- a move is opened: beside the old text the history is what it was
   pub open_before : Describes (with_move s step t) t h
@@ -71,16 +71,16 @@ not_zero : (n : ℕ) → 0 < n → (n == 0) ≡ false
 not_zero n h = grind (arith, nat_tests)
 
 -- what describes a history can be undone down to its first text
-undo_stands : (s : State) (h : History) (t : List ℕ) → AtRest s t h → 0 < s.at → moved_text s.records s.at Undo t ≡ Some (text_after_edits h.first h.later (s.at - 1))
-undo_stands s h t k pos =
+undo_is_there : (s : State) (h : History) (t : List ℕ) → AtRest s t h → 0 < s.at → moved_text s.records s.at Undo t ≡ Some (text_after_edits h.first h.later (s.at - 1))
+undo_is_there s h t k pos =
     let place : suc (s.at - 1) ≡ h.at = omega (arith, k.reports.cursor) in
     let found = get_at s.records (s.at - 1) (omega (arith, k.reports.within, k.reports.cursor, same_length h.first s.records h.later k.reports.leads)) in
     let leads : done found.0 (text_after_edits h.first h.later (s.at - 1)) ≡ Some t = search (rules, leads_at) in
     search (rules, not_zero, undone_after_done)
 
 -- and redone up to its last
-redo_stands : (s : State) (h : History) (t : List ℕ) → AtRest s t h → s.at < length s.records → moved_text s.records s.at Redo t ≡ Some (text_after_edits h.first h.later (suc s.at))
-redo_stands s h t k fits =
+redo_is_there : (s : State) (h : History) (t : List ℕ) → AtRest s t h → s.at < length s.records → moved_text s.records s.at Redo t ≡ Some (text_after_edits h.first h.later (suc s.at))
+redo_is_there s h t k fits =
     let found = get_at s.records s.at fits in
     search (rules, leads_at)
 
@@ -93,7 +93,7 @@ pub undo_fault : (s : State) (t : List ℕ) (h : History) → AtRest s t h → w
 undo_fault s t h k =
     elim (s.at == 0) as (λ b. (s.at == 0) ≡ b → option_or (if b then Some fault.NothingToUndo else None) (if_moves (moved_text s.records s.at Undo t)) ≡ (if b then Some fault.NothingToUndo else None)) [
       | true ↦ λ e. refl
-      | false ↦ λ e. let pos : 0 < s.at = grind (arith, nat_tests) in ap if_moves (undo_stands s h t k pos)
+      | false ↦ λ e. let pos : 0 < s.at = grind (arith, nat_tests) in ap if_moves (undo_is_there s h t k pos)
     ] refl
     ∙ way_of s t h Undo k
 
@@ -105,7 +105,7 @@ redo_fault s t h k =
     option_or (if b then Some fault.NothingToRedo else None)
     (if_moves (moved_text s.records s.at Redo t)) ≡ (if b then Some fault.NothingToRedo else None)) [
       | true ↦ λ e. refl
-      | false ↦ λ e. let fits : s.at < length s.records = grind (arith, nat_tests) in ap if_moves (redo_stands s h t k fits)
+      | false ↦ λ e. let fits : s.at < length s.records = grind (arith, nat_tests) in ap if_moves (redo_is_there s h t k fits)
     ] refl
     ∙ way_of s t h Redo k
 

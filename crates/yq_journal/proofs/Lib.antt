@@ -13,5 +13,5 @@ pub mod FrontLaws
 pub mod NumberLaws
 pub mod RunLaws
 pub mod SquashLaws
-pub mod StandLaws
+pub mod MatchingLaws
 pub mod StepLaws

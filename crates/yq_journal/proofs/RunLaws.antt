@@ -20,8 +20,8 @@ pub turned : {A : Type 0} (xs : List A) (i e k : ℕ) (y : A) → i < e → e �
     → drop k (take (k + i + 1) (drop e (set xs i y) ++ take e (set xs i y))) ++ take k (take (k + i + 1) (drop e (set xs i y) ++ take e (set xs i y)))
     ≡ take i xs ++ (y ∷ drop e xs)
 turned xs i e k y run within is =
-    let behind : drop e (set xs i y) ≡ drop e xs = grind (arith, common_steps) in
+    let after : drop e (set xs i y) ≡ drop e xs = grind (arith, common_steps) in
     let front : take (i + 1) (set xs i y) ≡ take i xs ++ y ∷ [] = grind (arith, common_steps) in
     let long : k ≡ length (drop e xs) = is ∙ sym (length-drop e xs) in
-    let behind_more : k + i + 1 ≡ k + (i + 1) = omega arith in
+    let after_more : k + i + 1 ≡ k + (i + 1) = omega arith in
     search (rules, take_over, take-take, drop_seam, take_seam, append_assoc)

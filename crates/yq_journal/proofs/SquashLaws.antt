@@ -7,21 +7,21 @@ use Rattle.yq_text.proofs.SpliceLaws.{all_done-append}
 use Rattle.yq_journal.specs.Good.{Leads, AtRest, squash_refusal}
 use Rattle.yq_journal.specs.History.{History, Revision, text_after_edits, text_at, latest, latest_of, after_squash}
 use Rattle.yq_journal.{specs.Record.{Record, done, join, records_joined, meet}, specs.Refusals.squash_fault}
-use Rattle.yq_journal.{specs.State.{State, joined_of, last_done, squashed}, proofs.RecordLaws.stands_of}
+use Rattle.yq_journal.{specs.State.{State, joined_of, last_done, squashed}, proofs.RecordLaws.matching_of}
 
 -- one record done after the other is their join done
 done_join : (r q : Record) (b c d : List ℕ) → done r b ≡ Some c → done q c ≡ Some d → done (join r q) b ≡ Some d
-done_join r q b c d e f = search (rules, stands_of, eq-eqb, all_done-append)
+done_join r q b c d e f = search (rules, matching_of, eq-eqb, all_done-append)
 
 -- the text after all of these
 text_end : List ℕ → List Revision → List ℕ
 text_end t [] = t
 text_end t (e ∷ es) = text_end e.text es
 
-text_behind-length : (t : List ℕ) (es fs : List Revision) → text_after_edits t (es ++ fs) (length es) ≡ text_end t es
+following_text-length : (t : List ℕ) (es fs : List Revision) → text_after_edits t (es ++ fs) (length es) ≡ text_end t es
 unfolding text_end
-text_behind-length t [] fs = refl
-text_behind-length t (e ∷ es) fs = text_behind-length e.text es fs
+following_text-length t [] fs = refl
+following_text-length t (e ∷ es) fs = following_text-length e.text es fs
 
 text_end-take : (t : List ℕ) (es : List Revision) (n : ℕ) → n ≤ length es → text_end t (take n es) ≡ text_after_edits t es n
 unfolding text_end
@@ -70,7 +70,7 @@ latest-text e (f ∷ fs) = latest-text (record { expr = e.expr ++ codes " | " ++
 
 -- records that lead through texts have lengths that meet
 leads_meet : (t : List ℕ) (rs : List Record) (es : List Revision) → Leads t rs es → meet rs ≡ true
-leads_meet t (r ∷ q ∷ rs) (e ∷ f ∷ es) l = search (rules, stands_of, leads_meet e.text (q ∷ rs) (f ∷ es) l.2)
+leads_meet t (r ∷ q ∷ rs) (e ∷ f ∷ es) l = search (rules, matching_of, leads_meet e.text (q ∷ rs) (f ∷ es) l.2)
 leads_meet t (r ∷ q ∷ rs) [] l = absurd l
 leads_meet t (r ∷ q ∷ rs) (e ∷ []) l = absurd l.2
 leads_meet t _ es l = refl
@@ -120,7 +120,7 @@ unfolding squashed_front
 squash_rests s t h n k some fits =
     let within : h.at ≤ length h.later = k.reports.within in
     let long = length-squashed_front h n some fits within in
-    search (rules, squashed_front, append_assoc, squash_leads, length-append, text_end-squashed_front, text_behind-length)
+    search (rules, squashed_front, append_assoc, squash_leads, length-append, text_end-squashed_front, following_text-length)
 
 one_latest : (es : List Revision) → length es ≡ 1 → latest_of es ≡ es
 one_latest (e ∷ []) h = refl

@@ -4,7 +4,7 @@ use Rattle.std.{proofs.Common.{Some, None, sym, ap, ap₂, ◌∙◌, get_or}, s
 use Rattle.std.{proofs.lemmas.List.take-append-drop, proofs.Math.Seq.drop-cons}
 use Rattle.yq_text.specs.Splice.{Splice, change_done, all_done, flipped, length_done, lengths_done}
 use Rattle.yq_text.proofs.SpliceLaws.{all_done-append, flipped-append, lengths_done-append}
-use Rattle.yq_journal.{specs.Turned.flipped_if, proofs.StandLaws.{lengths_up_to, parts_of_length}}
+use Rattle.yq_journal.{specs.Turned.flipped_if, proofs.MatchingLaws.{lengths_up_to, parts_of_length}}
 
 -- ---- lengths
 

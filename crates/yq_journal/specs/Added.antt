@@ -20,7 +20,7 @@ records_data rs = array (list_data record_data rs)
 pub record IsReadBack {A : Type 0} (to_data : A → Data) (of_data : Data → Option A) (x : A) : Type 0 where
   pub numbers : HasNumbers (outline (to_data x))
   pub reads : of_json (outline (to_data x)) ≡ Some (to_data x)
-  pub stands : of_data (to_data x) ≡ Some x
+  pub is_located : of_data (to_data x) ≡ Some x
 
 -- a text goes on with the compact JSON of a thing, which is read back as that thing (RFC 8259)
 pub record Adds {A : Type 0} (to_data : A → Data) (of_data : Data → Option A) (x : A) (before after : List ℕ) : Type 0 where
@@ -32,13 +32,13 @@ abbrev pub AddsJson : {T E A : Type 0} → Result T E → (old new : String Glob
 AddsJson r old new to_data of_data x = OnOk r (Adds to_data of_data x (string_bytes old) (string_bytes new))
 
 -- a text is the compact JSON of a thing, which is read back as that thing, and a rest (RFC 8259)
-pub record IsInFront {A : Type 0} (to_data : A → Data) (of_data : Data → Option A) (x : A) (text rest : List ℕ) : Type 0 where
+pub record IsLeading {A : Type 0} (to_data : A → Data) (of_data : Data → Option A) (x : A) (text rest : List ℕ) : Type 0 where
   pub text_is : text ≡ compact_text (to_data x) ++ rest
   pub kept : IsReadBack to_data of_data x
 
 -- what an answer has, if anything, comes first in a text as compact JSON, which is read back as that thing; the rest is next to it (RFC 8259)
 abbrev pub FindsJson : {X E A : Type 0} → Result (Option (X × Bor (List ℕ))) E → (X → A) → (A → Data) → (Data → Option A) → List ℕ → Type 0
-FindsJson r view to_data of_data text = IfFound r (λ p. IsInFront to_data of_data (view p.0) text p.1.now)
+FindsJson r view to_data of_data text = IfFound r (λ p. IsLeading to_data of_data (view p.0) text p.1.now)
 
 -- bytes in base64, as JSON writes them (RFC 4648, section 4)
 abbrev pub base64_text : List ℕ → List ℕ

@@ -39,7 +39,7 @@ pub record Underway (s : State) (p : Pending) (t : List ℕ) (h : History) : Typ
   pub to : List ℕ
   pub moves : moved_text s.records s.at p.step p.from ≡ Some to
   pub changes : to ≢ p.from
-  pub stands : ((t ≡ p.from) × (h ≡ before)) ⊎ ((t ≡ to) × (h ≡ after_move before p.step to))
+  pub is_located : ((t ≡ p.from) × (h ≡ before)) ⊎ ((t ≡ to) × (h ≡ after_move before p.step to))
 
 -- the same, as a journal has an open move or none (own)
 abbrev pub DescribesPending : State → Option Pending → List ℕ → History → Type 0

@@ -89,7 +89,7 @@ squash_fault s n = if is_some s.pending then Some Unsettled else count_fault s.r
 
 -- an open move applies to its text and changes it (own)
 pub record CanMove (records : List Record) (at : ℕ) (step : Move) (from : List ℕ) : Type 0 where
-  pub stands : way_fault records at step from ≡ None
+  pub is_located : way_fault records at step from ≡ None
   pub changes : moved_text records at step from ≢ Some from
 
 -- what holds of every journal (own)

@@ -3,6 +3,7 @@
 
 mod bare;
 mod fault;
+mod is_located;
 mod journal;
 mod laws;
 mod lengths;
@@ -13,12 +14,12 @@ mod quoting;
 mod read;
 mod record;
 mod squash;
-mod stands;
 mod ways;
 mod write;
 
 pub use bare::is_bare_below;
 pub use fault::{JournalError, JournalFault};
+pub use is_located::{matches_new, matches_old};
 pub use journal::Journal;
 pub use laws::{
     faults_are_of_history, moves_go_on, open_moves_describe, settling_rests, squashes_go_on,
@@ -27,4 +28,3 @@ pub use lengths::leads;
 pub use moves::{MAX_RECORDS, Move, lead, make};
 pub use quoting::push_quoted;
 pub use record::{Record, record_inverts, redo_record, undo_record};
-pub use stands::{stands_after, stands_before};

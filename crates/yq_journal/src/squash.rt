@@ -153,9 +153,9 @@ pub(crate) fn replace_run(records: &mut Vec<Record>, start: usize, end: usize, b
     ensures { records.new.items ≡ take start records.old.items ++
         (by ∷ drop end records.old.items) }
 {
-    let behind = records.len() - end;
+    let after = records.len() - end;
     records[start] = by;
     records.rotate_left(end);
-    records.truncate(behind + start + 1);
-    records.rotate_left(behind);
+    records.truncate(after + start + 1);
+    records.rotate_left(after);
 }

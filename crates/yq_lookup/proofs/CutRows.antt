@@ -46,6 +46,6 @@ walk_found t n w h e = found_document t w.rows.now (cut_of t) n w.document h.cut
 
 -- a place in it
 pub walk_place : {A : Type 0} (t : List ℕ) (n : ℕ) (w : Walk) (found : Option A) (place : ℕ → Cut → List Row → Option A) → HasCut t w.rows.now → Some (stretch_view w.document) ≡ document_row_range n (cut_of t) →
-    ((k : InCut w.rows.now w.document (cut_of t)) → found ≡ place w.document.first (cut_of t) k.document.stand.rows) →
+    ((k : InCut w.rows.now w.document (cut_of t)) → found ≡ place w.document.first (cut_of t) k.document.are_there.rows) →
     found ≡ (slice_get (document_parts (cut_of t)) n >>= λ p. place (document_row n (cut_of t)) (cut_of t) p.rows)
 walk_place t n w found place h e agrees = place_found t w.rows.now (cut_of t) n w.document found place h.cut h.rows e h.sound agrees

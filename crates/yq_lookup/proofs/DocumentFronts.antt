@@ -6,8 +6,9 @@ use Rattle.std.{proofs.lemmas.List.Sums.sum_by-cons, proofs.lemmas.Option.same_S
 use Rattle.yq_row_table.specs.Grammar.{begins_document}
 use Rattle.yq_row_table.specs.Items.{Item, row_item, end_item, items_of_cut, rows_in_items, bounds_in_items, view_of_items}
 use Rattle.yq_row_table.{specs.Offsets.row_length, specs.RowStarts.{bound_length, part_end}, specs.Rows.{Cut, last, marked}}
-use Rattle.yq_row_table.{specs.Touched.{TouchesOnly, item_text, in_front}, specs.View.{Bound, bounds_from, slices, RowsView, rows_view}}
-use Rattle.yq_row_table.{proofs.ItemLaws.items_view_is, proofs.SliceLaws.print-length}
+use Rattle.yq_row_table.specs.Touched.{TouchesOnly, item_text, before_offset}
+use Rattle.yq_row_table.{specs.View.{Bound, bounds_from, slices, RowsView, rows_view}, proofs.ItemLaws.items_view_is}
+use Rattle.yq_row_table.proofs.SliceLaws.{print-length}
 use Rattle.yq_documents.{specs.PartReading.{first_rows, number_in, some_begin}, proofs.PartNumberLaws.part_later}
 use Rattle.yq_lookup.{specs.KnownDocuments.{DocumentStays, IsKnownDocument, part_by_number}, proofs.KnownDocumentLaws.found_later}
 use Rattle.yq_lookup.specs.declared.known_document.KnownDocument.{KnownDocument}
@@ -25,30 +26,30 @@ abbrev stop_in : ℕ → ℕ → Bound → List Item → ℕ
 stop_in k i b xs = sum_by row_length (take (b.rows - k) (rows_in_items xs)) + sum_by bound_length (take i (bounds_in_items k xs)) + (length b.end + length b.marker)
 
 -- an item in front of an offset
-item_in_front : (x : Item) (xs : List Item) (n : ℕ) → length (item_text x) < n → in_front n (x ∷ xs) ≡ x ∷ in_front (n - length (item_text x)) xs
-item_in_front x xs n less = ap (λ (b : Bool). cond b (x ∷ in_front (n - length (item_text x)) xs) []) (lt-ltb (length (item_text x)) n less)
+item_before_offset : (x : Item) (xs : List Item) (n : ℕ) → length (item_text x) < n → before_offset n (x ∷ xs) ≡ x ∷ before_offset (n - length (item_text x)) xs
+item_before_offset x xs n less = ap (λ (b : Bool). cond b (x ∷ before_offset (n - length (item_text x)) xs) []) (lt-ltb (length (item_text x)) n less)
 
-ends_in_front : (xs : List Item) (k n i : ℕ) (b : Bound) → slice_get (bounds_in_items k xs) i ≡ Some b → stop_in k i b xs < n → suc i ≤ length (bounds_in_items k (in_front n xs))
-ends_in_front [] k n i b h less = absurd (cc)
-ends_in_front (row_item r ∷ xs) k n i b h less =
+ends_before_offset : (xs : List Item) (k n i : ℕ) (b : Bound) → slice_get (bounds_in_items k xs) i ≡ Some b → stop_in k i b xs < n → suc i ≤ length (bounds_in_items k (before_offset n xs))
+ends_before_offset [] k n i b h less = absurd (cc)
+ends_before_offset (row_item r ∷ xs) k n i b h less =
     let own = length (item_text (row_item r)) in
     let index : b.rows - k ≡ suc (b.rows - (k + 1)) = omega (arith, bound_least xs (k + 1) i b h) in
     let rows = ap (λ (j : ℕ). sum_by row_length (take j (slices r ∷ rows_in_items xs))) index in
     let first = sum_by-cons row_length (slices r) (take (b.rows - (k + 1)) (rows_in_items xs)) in
     let small : own < n = omega (arith, less, print-length r [], first, rows) in
     let rest : stop_in (k + 1) i b xs < n - own = omega (arith, less, print-length r [], first, rows) in
-    omega (arith, ends_in_front xs (k + 1) (n - own) i b h rest, ap (λ (l : List Item). length (bounds_in_items k l)) (item_in_front (row_item r) xs n small))
-ends_in_front (end_item gap marker ∷ xs) k n zero b h less =
+    omega (arith, ends_before_offset xs (k + 1) (n - own) i b h rest, ap (λ (l : List Item). length (bounds_in_items k l)) (item_before_offset (row_item r) xs n small))
+ends_before_offset (end_item gap marker ∷ xs) k n zero b h less =
     let same = same_Some _ _ h in
     let own = ap (λ (x : Bound). length x.end + length x.marker) same in
     let small : length (item_text (end_item gap marker)) < n = omega (arith, less, own, length-append gap marker) in
-    omega (arith, ap (λ (l : List Item). length (bounds_in_items k l)) (item_in_front (end_item gap marker) xs n small))
-ends_in_front (end_item gap marker ∷ xs) k n (suc i) b h less =
+    omega (arith, ap (λ (l : List Item). length (bounds_in_items k l)) (item_before_offset (end_item gap marker) xs n small))
+ends_before_offset (end_item gap marker ∷ xs) k n (suc i) b h less =
     let own = length (item_text (end_item gap marker)) in
     let first = sum_by-cons bound_length (record { rows = k; end = gap; marker = marker }) (take i (bounds_in_items k xs)) in
     let small : own < n = omega (arith, less, first, length-append gap marker) in
     let rest : stop_in k i b xs < n - own = omega (arith, less, first, length-append gap marker) in
-    omega (arith, ends_in_front xs k (n - own) i b h rest, ap (λ (l : List Item). length (bounds_in_items k l)) (item_in_front (end_item gap marker) xs n small))
+    omega (arith, ends_before_offset xs k (n - own) i b h rest, ap (λ (l : List Item). length (bounds_in_items k l)) (item_before_offset (end_item gap marker) xs n small))
 
 -- ---- the first ends
 
@@ -81,8 +82,8 @@ not_first true (suc d) j k b bs e = sym (false_from_ne_true (eqb (suc d) 0) (λ 
 not_first false d j k b bs e = refl
 
 -- what is not found at once is found among the parts after
-found_behind : (is : Bool) (d j k : ℕ) (b : Bound) (bs : List Bound) → number_in is d j (b ∷ bs) ≡ Some (j + suc k) → number_in (begins_document b.marker) (cond is (d - 1) d) (j + 1) bs ≡ Some ((j + 1) + k)
-found_behind is d j k b bs e =
+found_after : (is : Bool) (d j k : ℕ) (b : Bound) (bs : List Bound) → number_in is d j (b ∷ bs) ≡ Some (j + suc k) → number_in (begins_document b.marker) (cond is (d - 1) d) (j + 1) bs ≡ Some ((j + 1) + k)
+found_after is d j k b bs e =
     let index : j + suc k ≡ (j + 1) + k = omega arith in
     sym (part_later is d j b (b ∷ bs) bs refl (not_first is d j k b bs e)) ∙ (e ∙ ap Some index)
 
@@ -91,9 +92,9 @@ begins_before : (is : Bool) (d j k : ℕ) (bs : List Bound) → number_in is d j
 begins_before is d j k [] e = absurd (cc)
 begins_before is d j zero (b ∷ bs) e =
     let index : (j + 1) + 0 ≡ j + 1 = omega arith in
-    ap (λ (x : Bool). x || some_begin (take 0 bs)) (found_first (begins_document b.marker) (cond is (d - 1) d) (j + 1) bs (found_behind is d j 0 b bs e ∙ ap Some index)).0
+    ap (λ (x : Bool). x || some_begin (take 0 bs)) (found_first (begins_document b.marker) (cond is (d - 1) d) (j + 1) bs (found_after is d j 0 b bs e ∙ ap Some index)).0
 begins_before is d j (suc k) (b ∷ bs) e =
-    ap (λ (x : Bool). begins_document b.marker || x) (begins_before (begins_document b.marker) (cond is (d - 1) d) (j + 1) k bs (found_behind is d j (suc k) b bs e)) ∙ or-true (begins_document b.marker)
+    ap (λ (x : Bool). begins_document b.marker || x) (begins_before (begins_document b.marker) (cond is (d - 1) d) (j + 1) k bs (found_after is d j (suc k) b bs e)) ∙ or-true (begins_document b.marker)
 
 begins_in : (n : ℕ) (bs : List Bound) → some_begin (take n bs) ≡ true → some_begin bs ≡ true
 begins_in zero bs h = absurd (false≢true h)
@@ -126,13 +127,13 @@ found_same is d j (suc k) n [] c same e = absurd (cc)
 found_same is d j (suc k) n (b ∷ bs) (last p) same e =
     let head : b ≡ record { rows = n + length p.rows; end = p.end; marker = [] } = cc (same) in
     let rest : take k bs ≡ take k [] = cc (same) in
-    let later = found_behind is d j k b bs e in
+    let later = found_after is d j k b bs e in
     absurd (none_after (cond is (d - 1) d) (j + 1) k bs rest (ap (λ (x : Bound). number_in (begins_document x.marker) (cond is (d - 1) d) (j + 1) bs) (sym head) ∙ later))
 found_same is d j (suc k) n (b ∷ bs) (marked p marker c) same e =
     let head : b ≡ record { rows = n + length p.rows; end = p.end; marker = marker } = cc (same) in
     let rest : take k bs ≡ take k (bounds_from (n + length p.rows) c) = cc (same) in
     let index : (j + 1) + k ≡ j + suc k = omega arith in
-    let later = found_same (begins_document b.marker) (cond is (d - 1) d) (j + 1) k (n + length p.rows) bs c rest (found_behind is d j k b bs e) in
+    let later = found_same (begins_document b.marker) (cond is (d - 1) d) (j + 1) k (n + length p.rows) bs c rest (found_after is d j k b bs e) in
     ap (λ (x : Bound). number_in is d j (x ∷ bounds_from (n + length p.rows) c)) (sym head)
     ∙ (part_later is d j b (b ∷ bounds_from (n + length p.rows) c) (bounds_from (n + length p.rows) c) refl (not_first is d j k b bs e)
     ∙ (later ∙ ap Some index))
@@ -162,8 +163,8 @@ document_stays c k front b known some at less new back touched =
     let rows : b.rows - 0 ≡ b.rows = omega arith in
     let stop : stop_in 0 j b (items_of_cut c) ≡ part_end j b (view_of_items (items_of_cut c)) + length b.marker = omega (arith, ap (λ (m : ℕ). sum_by row_length (take m (rows_in_items (items_of_cut c)))) rows) in
     let before : stop_in 0 j b (items_of_cut c) < front = omega (arith, less, stop, ap (part_end j b) (items_view_is c)) in
-    let within = ends_in_front (items_of_cut c) 0 front j b there before in
-    let front_items = in_front front (items_of_cut c) in
+    let within = ends_before_offset (items_of_cut c) 0 front j b there before in
+    let front_items = before_offset front (items_of_cut c) in
     let same = first_ends c front_items _ (suc j) touched.old_are within ∙ sym (first_ends new front_items _ (suc j) touched.new_are within) in
     number_stays (rows_view c).bounds new k.doc j same (known ∙ ap Some (sym is)) ∙ ap Some is
 

@@ -14,9 +14,9 @@ pub line_is_of : (t : List ℕ) (p : Path) (w : Walk) (steps : List Step) (o : O
 line_is_of t p w steps None h e same at = tt
 line_is_of t p w steps (Some k) h e same at =
     let f = walk_found t p.doc w h e in
-    let rows = f.document.stand.rows in
+    let rows = f.document.are_there.rows in
     row_line_found w.rows.now (cut_of t) p w.document steps (Some k.at) f same
-    (row_line_reached w.rows.now w.document f.document.stand steps (Some k.at) at.line
+    (row_line_reached w.rows.now w.document f.document.are_there steps (Some k.at) at.line
     (last_line steps [] (lines_of_rows rows) (line_number w.document rows k.at) (sym (at.leads f.document)) refl))
 
 -- where a line is, if that is known

@@ -8,10 +8,10 @@ use Rattle.yq_core.{specs.Inline.depth_limit, specs.Reading.all_node, specs.Bloc
 use Rattle.yq_core.specs.Nodes.{FlowNode, IsFlowNode, alias, anchored, begins_with, coll, empty, node_text, scalar, without_anchor}
 use Rattle.yq_core.{proofs.NodeLaws.all_again, proofs.NodesWrittenLaws.node_then, proofs.NodeAgain.{is_anchored, takes_unanchored}}
 use Rattle.yq_core.{specs.declared.block_header.BlockStyle.BlockStyle, specs.Trees.{node_head, tree_of}}
-use Rattle.yq_row_table.{specs.Exchange.behind_row, specs.Grammar.IsContent}
+use Rattle.yq_row_table.{specs.Exchange.after_row, specs.Grammar.IsContent}
 use Rattle.yq_row_table.specs.Rows.{Content, Nothing, Inline, Block, Row, parent_indent}
 use Rattle.yq_row_table.{specs.View.{RowsView, Slices, content_cut, rows_of}, proofs.PlaceLaws.row_in}
-use Rattle.yq_inline.specs.declared.in_front.NodeInFront.{NodeInFront}
+use Rattle.yq_inline.specs.declared.before_offset.LeadingNode.{LeadingNode}
 use Rattle.yq_outline.specs.Extents.{head_place}
 use Rattle.yq_documents.specs.Reading.{cut_of}
 use Rattle.yq_places.{specs.FlowNodes.content_flow, specs.RowWalk.HasCut}
@@ -103,7 +103,7 @@ pub record IsReadRow (t : List ℕ) (i : ℕ) (r : Row) (x : Slices) (text : Lis
   pub parent : x.parent ≡ parent_indent r
   pub own : text ≡ head_text r.content
   pub size : length t ≤ text_limit
-  pub stands : t ≡ take start t ++ (text ++ behind_row i (cut_of t))
+  pub is_located : t ≡ take start t ++ (text ++ after_row i (cut_of t))
   pub begins : start ≡ length (take start t)
 
 pub read_row : (t : List ℕ) (s : RowsView) (i : ℕ) (r : Row) (x : Slices) (text : List ℕ) (start : ℕ) → IsUtf8 t → HasCut t s → slice_get (rows_of (cut_of t)) i ≡ Some r → slice_get s.rows i ≡ Some x →
@@ -113,19 +113,19 @@ read_row t s i r x text start utf8 h is there from at =
     let own = pieces_from text x r pieces from in
     let row = row_in (cut_of t) i true r h.cut.parts is in
     record {
-      content = (row_alone row.limit r (behind_row i (cut_of t)) row.row).content;
+      content = (row_alone row.limit r (after_row i (cut_of t)) row.row).content;
       head = ap (λ (y : Slices). y.head) (sym pieces);
       parent = ap (λ (y : Slices). y.parent) pieces;
       own = own;
       size = h.cut.size;
-      stands = row_text t (cut_of t) i r start utf8 h.cut is at text own;
+      is_located = row_text t (cut_of t) i r start utf8 h.cut is at text own;
       begins = row_start t (cut_of t) i r start utf8 h.cut is at;
     }
 
 -- nothing, where no bracket is in front
-pub front_none : (t : List ℕ) (i : ℕ) (r : Row) (x : Slices) (text : List ℕ) (start : ℕ) → IsReadRow t i r x text start → opens x.head ≡ false → (ss : List Step) → content_flow ss r.content (behind_row i (cut_of t)) ≡ None
+pub front_none : (t : List ℕ) (i : ℕ) (r : Row) (x : Slices) (text : List ℕ) (start : ℕ) → IsReadRow t i r x text start → opens x.head ≡ false → (ss : List Step) → content_flow ss r.content (after_row i (cut_of t)) ≡ None
 front_none t i r x text start h closed ss =
-    content_more ss r.content (behind_row i (cut_of t)) ∙ ap (option_map (with_more (behind_row i (cut_of t)))) (sym (content_none (parent_indent r) r.content ss h.content (ap opens h.head ∙ closed)))
+    content_more ss r.content (after_row i (cut_of t)) ∙ ap (option_map (with_more (after_row i (cut_of t)))) (sym (content_none (parent_indent r) r.content ss h.content (ap opens h.head ∙ closed)))
 
 -- else the node
 module _ (t : List ℕ) (i : ℕ) (r : Row) (x : Slices) (text : List ℕ) (start : ℕ) (h : IsReadRow t i r x text start) (opened : opens x.head ≡ true) where
@@ -140,12 +140,12 @@ module _ (t : List ℕ) (i : ℕ) (r : Row) (x : Slices) (text : List ℕ) (star
   pub node_there : (spaces : Option ℕ) → spaces ≡ Some (deeper x.parent) → all_node false spaces depth_limit text ≡ None → ⊥
   node_there spaces is absent = let e = sym (reads spaces is) ∙ absent in cc
 
-  pub front_some : (a : NodeInFront) → a.flow ≡ false → a.spaces ≡ Some (deeper x.parent) → a.depth ≡ depth_limit → a.text.now ≡ text → IsRowFront t (behind_row i (cut_of t)) r (a, start)
+  pub front_some : (a : LeadingNode) → a.flow ≡ false → a.spaces ≡ Some (deeper x.parent) → a.depth ≡ depth_limit → a.text.now ≡ text → IsRowFront t (after_row i (cut_of t)) r (a, start)
   front_some a flow spaces depth is = record {
     head = node.0;
     read = (λ j. all_node (flow j) a.spaces (depth j) (is j)) ∙ reads a.spaces spaces;
     text = is ∙ (h.own ∙ node.1);
-    stands = h.stands ∙ ap (λ (l : List ℕ). take start t ++ (l ++ behind_row i (cut_of t))) (sym is);
+    is_located = h.is_located ∙ ap (λ (l : List ℕ). take start t ++ (l ++ after_row i (cut_of t))) (sym is);
     begins = h.begins;
     size = h.size;
   }

@@ -7,7 +7,7 @@ use Rattle.yq_core.proofs.TreeLaws.{node_tree}
 use Rattle.yq_row_table.specs.Rows.{Cut, Part, Row}
 use Rattle.yq_documents.{specs.Documents.document_parts, specs.LinesInRows.document_row, specs.Reading.part_document}
 use Rattle.yq_outline.specs.Lines.{head_of}
-use Rattle.yq_inline.{specs.Along.{as_item, located_along, located_from, node_from}, specs.declared.in_front.NodeInFront.NodeInFront}
+use Rattle.yq_inline.{specs.Along.{as_item, located_along, located_from, node_from}, specs.declared.before_offset.LeadingNode.LeadingNode}
 use Rattle.yq_places.{specs.NodeReading.summary_in_head, specs.NodesAt.{node_in, node_summary}, specs.RowWalk.document_row_range}
 use Rattle.yq_lookup.specs.RowFronts.{IsRowFront, summary_along}
 use Rattle.yq_core.specs.Tree as tree
@@ -21,7 +21,7 @@ none_there c n steps e =
     go None e = refl
     go (Some p) e = absurd cc
 
-module _ (t behind : List ℕ) (r : Row) (x : NodeInFront × ℕ) (h : IsRowFront t behind r x) (ss : List Step) where
+module _ (t after : List ℕ) (r : Row) (x : LeadingNode × ℕ) (h : IsRowFront t after r x) (ss : List Step) where
   abbrev top : EntryPieces
   top = as_item (h.head.node, h.head.rest)
 

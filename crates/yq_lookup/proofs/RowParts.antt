@@ -9,7 +9,7 @@ use Rattle.yq_row_table.specs.Rows.{parent_indent}
 use denote.Bor.{Bor}
 use Rattle.yq_documents.specs.Reading.{cut_of}
 use Rattle.yq_inline.specs.Along.{along_view, as_item, front_read, located_along, located_from, node_from}
-use Rattle.yq_inline.{specs.declared.along.NodeAlong.NodeAlong, specs.declared.in_front.NodeInFront.NodeInFront}
+use Rattle.yq_inline.{specs.declared.along.NodeAlong.NodeAlong, specs.declared.before_offset.LeadingNode.LeadingNode}
 use Rattle.yq_places.{specs.FlowNodes.{content_flow, flow_collection}, proofs.FlowNodeLaws.{content_more, entry_more, item_more, with_more}}
 use Rattle.yq_lookup.specs.PartNodes.{IsPartNode, PartAgrees, part_at, coll_part}
 use Rattle.yq_lookup.specs.RowFronts.{IsFlowFront, IsFoundNode, IsRowFront, LeadsToFront, flow_found}
@@ -18,13 +18,13 @@ use Rattle.yq_lookup.proofs.RowItems.{before_is}
 use Rattle.yq_core.specs.declared.path.Step as declared
 
 -- the node that the code finds is in no flow collection
-pub outside_there : (t : List ℕ) (n : ℕ) (steps : List Step) (x : FoundNode) → ((a : NodeInFront) (k : ℕ) (left : Bor (List declared.Step)) → x ≡ InFlow a k left → ⊥) → IsFoundNode t n steps x →
+pub outside_there : (t : List ℕ) (n : ℕ) (steps : List Step) (x : FoundNode) → ((a : LeadingNode) (k : ℕ) (left : Bor (List declared.Step)) → x ≡ InFlow a k left → ⊥) → IsFoundNode t n steps x →
     LeadsToFront t n steps None
 outside_there t n steps (InFlow a k left) never is = absurd (never a k left refl)
 outside_there t n steps (Outside o) never is = is.flow
 
 -- where it is, if it is in one
-pub leads_there : (t : List ℕ) (n : ℕ) (steps : List Step) (x : FoundNode) (o : Option (NodeInFront × ℕ × Bor (List declared.Step))) → flow_found x ≡ o → IsFoundNode t n steps x → LeadsToFront t n steps o
+pub leads_there : (t : List ℕ) (n : ℕ) (steps : List Step) (x : FoundNode) (o : Option (LeadingNode × ℕ × Bor (List declared.Step))) → flow_found x ≡ o → IsFoundNode t n steps x → LeadsToFront t n steps o
 leads_there t n steps x o e is = subst (LeadsToFront t n steps) e is.flow
 
 -- the items or entries of a node are those of its collection
@@ -50,11 +50,11 @@ part_more s more None = refl
 part_more s more (Some w) = item_more w.close s w.items w.rest more
 
 -- Steps lead to the flow collection at a path in a node in front.
-module _ (t : List ℕ) (n : ℕ) (steps : List Step) (x : NodeInFront × ℕ × Bor (List declared.Step)) (w : IsFlowFront t n steps x) (s : Step) where
-  abbrev behind : List ℕ
-  behind = w.behind
+module _ (t : List ℕ) (n : ℕ) (steps : List Step) (x : LeadingNode × ℕ × Bor (List declared.Step)) (w : IsFlowFront t n steps x) (s : Step) where
+  abbrev after : List ℕ
+  after = w.after
 
-  abbrev h : IsRowFront t w.behind w.row (x.0, x.1)
+  abbrev h : IsRowFront t w.after w.row (x.0, x.1)
   h = w.front
 
   abbrev top : EntryPieces
@@ -66,15 +66,15 @@ module _ (t : List ℕ) (n : ℕ) (steps : List Step) (x : NodeInFront × ℕ ×
   abbrev all : List Step
   all = ss ++ (s ∷ [])
 
-  part_is : part_at n steps s (cut_of t) ≡ option_map (entry_more behind) (entry_pieces_at all top)
+  part_is : part_at n steps s (cut_of t) ≡ option_map (entry_more after) (entry_pieces_at all top)
   part_is =
-      ap (λ (o : Option CollPieces). o >>= coll_part s) (w.found ∙ content_more ss w.row.content behind)
-      ∙ (part_more s behind (content_flow ss w.row.content []) ∙ ap (option_map (entry_more behind)) (ap (λ (o : Option CollPieces). o >>= coll_part s) (h.head.flow ss) ∙ parts_along ss s top))
+      ap (λ (o : Option CollPieces). o >>= coll_part s) (w.found ∙ content_more ss w.row.content after)
+      ∙ (part_more s after (content_flow ss w.row.content []) ∙ ap (option_map (entry_more after)) (ap (λ (o : Option CollPieces). o >>= coll_part s) (h.head.flow ss) ∙ parts_along ss s top))
 
   pub no_part_agrees : None ≡ located_along all (front_read x.0) → PartAgrees t (part_at n steps s (cut_of t)) None
   no_part_agrees e = subst (λ (o : Option EntryPieces). PartAgrees t o None) (sym part_is) (go (entry_pieces_at all top) (e ∙ ap (located_along all) h.read))
     where
-      go : (o : Option EntryPieces) → None ≡ option_map located_from o → PartAgrees t (option_map (entry_more behind) o) None
+      go : (o : Option EntryPieces) → None ≡ option_map located_from o → PartAgrees t (option_map (entry_more after) o) None
       go None e = tt
       go (Some y) e = cc
 
@@ -87,17 +87,17 @@ module _ (t : List ℕ) (n : ℕ) (steps : List Step) (x : NodeInFront × ℕ ×
 
   -- the node that the code has read
   module _ (m : NodeAlong) (start : ℕ) (at : start ≡ x.1 + (length x.0.text.now - length m.text.now)) where
-    stands : (y : EntryPieces) → entry_pieces_at all top ≡ Some y → along_view m ≡ located_from y → IsPartNode t (entry_more behind y) (m, start)
-    stands y there is =
+    is_located : (y : EntryPieces) → entry_pieces_at all top ≡ Some y → along_view m ≡ located_from y → IsPartNode t (entry_more after y) (m, start)
+    is_located y there is =
         let b = before_is t n steps x w all y there in
         let v = valid y there in
         let own : m.text.now ≡ node_from y = ap (λ (z : List ℕ × Placed). z.0) is in
         record {
           front = take x.1 t ++ b.0;
-          behind = behind;
+          after = after;
           rest = y.rest;
           depth = v.0;
-          text = h.stands ∙ (ap (λ (l : List ℕ). take x.1 t ++ (l ++ behind)) b.1 ∙ (simp append_assoc refl ∙ ap (λ (l : List ℕ). (take x.1 t ++ b.0) ++ (l ++ behind)) (sym own)));
+          text = h.is_located ∙ (ap (λ (l : List ℕ). take x.1 t ++ (l ++ after)) b.1 ∙ (simp append_assoc refl ∙ ap (λ (l : List ℕ). (take x.1 t ++ b.0) ++ (l ++ after)) (sym own)));
           before = omega (arith, at, h.begins, ap length b.1, length-append b.0 (node_from y), length-append (take x.1 t) b.0, ap (λ (z : List ℕ × Placed). length z.0) is);
           rest_is = refl;
           valid = v.1;
@@ -108,9 +108,9 @@ module _ (t : List ℕ) (n : ℕ) (steps : List Step) (x : NodeInFront × ℕ ×
     pub part_agrees : Some (along_view m) ≡ located_along all (front_read x.0) → PartAgrees t (part_at n steps s (cut_of t)) (Some (m, start))
     part_agrees e = subst (λ (o : Option EntryPieces). PartAgrees t o (Some (m, start))) (sym part_is) (go (entry_pieces_at all top) refl (e ∙ ap (located_along all) h.read))
       where
-        go : (o : Option EntryPieces) → entry_pieces_at all top ≡ o → Some (along_view m) ≡ option_map located_from o → PartAgrees t (option_map (entry_more behind) o) (Some (m, start))
+        go : (o : Option EntryPieces) → entry_pieces_at all top ≡ o → Some (along_view m) ≡ option_map located_from o → PartAgrees t (option_map (entry_more after) o) (Some (m, start))
         go None there e = cc
-        go (Some y) there e = stands y there (same_Some _ _ e)
+        go (Some y) there e = is_located y there (same_Some _ _ e)
 
 -- no collection is at the path
 pub part_missing : (t : List ℕ) (n : ℕ) (steps : List Step) (s : Step) → flow_collection n steps (cut_of t) ≡ None → PartAgrees t (part_at n steps s (cut_of t)) None

@@ -18,12 +18,12 @@ part_at n steps s c = flow_collection n steps c >>= coll_part s
 -- The node of an item or entry is in front of a piece of a text, after so many bytes of it, and has its places in this piece.
 pub record IsPartNode (t : List ℕ) (y : EntryPieces) (x : NodeAlong × ℕ) : Type 0 where
   pub front : List ℕ
-  pub behind : List ℕ
+  pub after : List ℕ
   pub rest : List ℕ
   pub depth : ℕ
-  pub text : t ≡ front ++ (x.0.text.now ++ behind)
+  pub text : t ≡ front ++ (x.0.text.now ++ after)
   pub before : x.1 ≡ length front
-  pub rest_is : y.rest ≡ rest ++ behind
+  pub rest_is : y.rest ≡ rest ++ after
   pub valid : IsFlowNode true (Some 0) depth y.node rest
   pub node_is : x.0.text.now ≡ node_text y.node rest
   pub view : inline_view x.0.node ≡ locate (length x.0.text.now) y.node rest

@@ -4,8 +4,8 @@ use denote.Bor.{Bor}
 use Rattle.yq_core.{specs.Places.Placed, specs.Collections.coll_along, specs.Entries.tree_step, specs.Inline.depth_limit, specs.Paths.Step}
 use Rattle.yq_core.{specs.Piece.deeper, specs.Nodes.{FlowNode, IsFlowNode, node_text}, specs.Trees.{placed_tree, tree_of}}
 use Rattle.yq_text.specs.Limit.{text_limit}
-use Rattle.yq_row_table.{specs.Exchange.behind_row, specs.Rows.{Content, Row, parent_indent}, specs.View.rows_of}
-use Rattle.yq_inline.{specs.Along.{front_read, located_along}, specs.declared.in_front.NodeInFront.NodeInFront}
+use Rattle.yq_row_table.{specs.Exchange.after_row, specs.Rows.{Content, Row, parent_indent}, specs.View.rows_of}
+use Rattle.yq_inline.{specs.Along.{front_read, located_along}, specs.declared.before_offset.LeadingNode.LeadingNode}
 use Rattle.yq_documents.specs.Reading.{cut_of}
 use Rattle.yq_places.{specs.FlowNodes.{content_flow, flow_collection}, specs.NodesAt.{NodeAt, node_in, node_summary, node_view}}
 use Rattle.yq_lookup.{specs.declared.node_at.FoundNode.FoundNode, specs.declared.node_at.FoundNode.TheVariants.{InFlow, Outside}}
@@ -23,45 +23,45 @@ pub record HeadNode (n : ℤ) (x : Content) : Type 0 where
   pub flow : (ss : List Step) → content_flow ss x [] ≡ coll_along ss node rest
 
 -- The node in front of a text is that in the head of a row; the text is a piece of another one, before so much and after so many bytes of it.
-pub record IsRowFront (t behind : List ℕ) (r : Row) (x : NodeInFront × ℕ) : Type 0 where
+pub record IsRowFront (t after : List ℕ) (r : Row) (x : LeadingNode × ℕ) : Type 0 where
   pub head : HeadNode (parent_indent r) r.content
   pub read : front_read x.0 ≡ Some (head.node, head.rest)
   pub text : x.0.text.now ≡ node_text head.node head.rest
-  pub stands : t ≡ take x.1 t ++ (x.0.text.now ++ behind)
+  pub is_located : t ≡ take x.1 t ++ (x.0.text.now ++ after)
   pub begins : x.1 ≡ length (take x.1 t)
   pub size : length t ≤ text_limit
 
 -- the same of what the code finds; nothing, only where no flow collection is in the head
-abbrev pub FrontAgrees : List ℕ → List ℕ → Row → Option (NodeInFront × ℕ) → Type 0
-FrontAgrees t behind r None = (ss : List Step) → content_flow ss r.content behind ≡ None
-FrontAgrees t behind r (Some x) = IsRowFront t behind r x
+abbrev pub FrontAgrees : List ℕ → List ℕ → Row → Option (LeadingNode × ℕ) → Type 0
+FrontAgrees t after r None = (ss : List Step) → content_flow ss r.content after ≡ None
+FrontAgrees t after r (Some x) = IsRowFront t after r x
 
 -- the same of row i of a text
-abbrev pub FindsFront : List ℕ → ℕ → Option (NodeInFront × ℕ) → Type 0
-FindsFront t i o = (r : Row) → slice_get (rows_of (cut_of t)) i ≡ Some r → FrontAgrees t (behind_row i (cut_of t)) r o
+abbrev pub FindsFront : List ℕ → ℕ → Option (LeadingNode × ℕ) → Type 0
+FindsFront t i o = (r : Row) → slice_get (rows_of (cut_of t)) i ≡ Some r → FrontAgrees t (after_row i (cut_of t)) r o
 
 -- Steps lead to the flow collection at a path of document n in the node in the head of a row.
-pub record IsFlowFront (t : List ℕ) (n : ℕ) (steps : List Step) (x : NodeInFront × ℕ × Bor (List declared.Step)) : Type 0 where
+pub record IsFlowFront (t : List ℕ) (n : ℕ) (steps : List Step) (x : LeadingNode × ℕ × Bor (List declared.Step)) : Type 0 where
   pub row : Row
-  pub behind : List ℕ
-  pub front : IsRowFront t behind row (x.0, x.1)
-  pub found : flow_collection n steps (cut_of t) ≡ content_flow (map tree_step x.2.now) row.content behind
+  pub after : List ℕ
+  pub front : IsRowFront t after row (x.0, x.1)
+  pub found : flow_collection n steps (cut_of t) ≡ content_flow (map tree_step x.2.now) row.content after
 
 -- the same of what the code finds; nothing, only where no flow collection is at the path
-abbrev pub LeadsToFront : List ℕ → ℕ → List Step → Option (NodeInFront × ℕ × Bor (List declared.Step)) → Type 0
+abbrev pub LeadsToFront : List ℕ → ℕ → List Step → Option (LeadingNode × ℕ × Bor (List declared.Step)) → Type 0
 LeadsToFront t n steps None = flow_collection n steps (cut_of t) ≡ None
 LeadsToFront t n steps (Some x) = IsFlowFront t n steps x
 
 -- what is known of the node to which steps lead in the node in front
-abbrev pub summary_along : List Step → NodeInFront → Option NodeAt
+abbrev pub summary_along : List Step → LeadingNode → Option NodeAt
 summary_along ss n = option_map (λ (x : List ℕ × Placed). node_summary (placed_tree x.1)) (located_along ss (front_read n))
 
 -- what the code finds is that node
-abbrev pub IsNodeAlong : List Step → NodeInFront → Option found.NodeAt → Type 0
+abbrev pub IsNodeAlong : List Step → LeadingNode → Option found.NodeAt → Type 0
 IsNodeAlong ss n o = option_map node_view o ≡ summary_along ss n
 
 -- where the code finds the node at a path in the node in front of a text; nothing outside flow collections
-abbrev pub flow_found : FoundNode → Option (NodeInFront × ℕ × Bor (List declared.Step))
+abbrev pub flow_found : FoundNode → Option (LeadingNode × ℕ × Bor (List declared.Step))
 flow_found (InFlow front before left) = Some (front, before, left)
 flow_found (Outside o) = None
 

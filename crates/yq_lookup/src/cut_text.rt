@@ -90,7 +90,7 @@ impl<'d, 't> CutText<'d, 't> {
         }
     }
 
-    /// The same of a text in two halves of which something is known, as `known_in_front` gives it: walks and
+    /// The same of a text in two halves of which something is known, as `known_before` gives it: walks and
     /// searches may go on from there.
     pub fn resumed(text: Halves<'t>, rows: &'d Rows<'t>, known: Knowledge) -> CutText<'d, 't>
         requires cut { HasCut (whole text) rows.now }

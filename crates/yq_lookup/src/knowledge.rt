@@ -8,7 +8,7 @@ ghost use Rattle.yq_lookup.specs.Knowledge.{AreSearches, IsKnowledge, SearchesSt
 use crate::known_document::KnownDocuments;
 use std::alloc::Global;
 use yq_outline::KnownItem;
-use yq_places::{StepSearch, searched_in_front};
+use yq_places::{StepSearch, searched_before};
 use yq_row_table::Rows;
 
 /// How far the rows of documents were searched for the first sequence, and the first mapping, under a key.
@@ -64,13 +64,13 @@ impl Knowledge {
 }
 
 /// Searches as far as they went in each text that keeps so many bytes in front.
-pub(crate) fn searches_in_front(rows: &Rows<'_>, steps: StepSearches, front: usize) -> StepSearches
+pub(crate) fn searches_before(rows: &Rows<'_>, steps: StepSearches, front: usize) -> StepSearches
     requires rows_view { IsRowsView rows.now }
     requires steps { AreSearches rows.now.rows steps }
     ensures { (c : Cut) → rows.now ≡ rows_view c → SearchesStay front c result }
 {
     StepSearches {
-        sequences: searched_in_front(rows, steps.sequences, front),
-        mappings: searched_in_front(rows, steps.mappings, front),
+        sequences: searched_before(rows, steps.sequences, front),
+        mappings: searched_before(rows, steps.mappings, front),
     }
 }

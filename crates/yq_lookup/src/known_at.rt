@@ -6,15 +6,15 @@ ghost use Rattle.yq_outline.specs.RowWalk.{AreKnown};
 ghost use Rattle.yq_places.specs.RowWalk.{StayKnown};
 ghost use Rattle.yq_row_walk.specs.Walk.{IsKnownLine, IsLineAbove};
 ghost use Rattle.yq_lookup.{specs.Knowledge.{KnowledgeStays, SearchesStay}, specs.KnownDocuments.DocumentsStay, specs.PathLines.IsLineOf};
-ghost use Rattle.yq_places.specs.StandingViews as row_agrees;
+ghost use Rattle.yq_places.specs.PlacementViews as row_agrees;
 
 use crate::cut_text::CutText;
-use crate::knowledge::{Knowledge, StepSearches, searches_in_front};
-use crate::known_document::{KnownDocuments, document_in_front};
+use crate::knowledge::{Knowledge, StepSearches, searches_before};
+use crate::known_document::{KnownDocuments, document_before};
 use std::alloc::Global;
 use yq_documents::Path;
 use yq_outline::{KnownItem, Position};
-use yq_places::{HeldRow, Way, keep_in_front, known_along, known_end, put_item, row_of_last};
+use yq_places::{HeldRow, Way, keep_before_offset, known_along, known_end, put_item, row_of_last};
 use yq_row_walk::{KnownLine, Walk};
 
 /// Where a line is, if it is known.
@@ -145,14 +145,14 @@ impl<'d, 't> CutText<'d, 't> {
     /// Takes what is known, as far as walks and searches may go on from there in each text that keeps so many
     /// bytes in front; of the next item that of the one before it.
     #[inline(always)]
-    pub fn known_in_front(&mut self, alloc: Global, front: usize) -> Knowledge
+    pub fn known_before(&mut self, alloc: Global, front: usize) -> Knowledge
         ensures same { self.new ≡ self.old }
         ensures known { KnowledgeStays front (cut_of self.old) result }
     {
-        let documents = self.documents_in_front(front);
-        let steps = self.steps_in_front(front);
+        let documents = self.documents_before(front);
+        let steps = self.steps_before(front);
         let mut items = self.take_items(alloc);
-        self.items_in_front(&mut items, front);
+        self.items_before_offset(&mut items, front);
         Knowledge {
             items,
             documents,
@@ -162,31 +162,31 @@ impl<'d, 't> CutText<'d, 't> {
 
     /// Leaves of items that are known those that stay known in each text that keeps so many bytes in front.
     #[inline(always)]
-    fn items_in_front(&self, known: &mut Vec<KnownItem>, front: usize)
+    fn items_before_offset(&self, known: &mut Vec<KnownItem>, front: usize)
         requires { AreKnown (rows_view (cut_of self.now)).rows known.old.items }
         ensures { StayKnown front (cut_of self.now) known.new.items }
     {
-        keep_in_front(self.rows(), known, front);
+        keep_before_offset(self.rows(), known, front);
     }
 
     /// The documents that are known, as far as searches may go on from there in each text that keeps so many
     /// bytes in front.
     #[inline(always)]
-    fn documents_in_front(&self, front: usize) -> KnownDocuments
+    fn documents_before(&self, front: usize) -> KnownDocuments
         ensures { DocumentsStay front (cut_of self.now) result }
     {
         let rows = self.rows();
         let known = self.documents();
         KnownDocuments {
-            last: document_in_front(rows, known.last, front),
-            before: document_in_front(rows, known.before, front),
+            last: document_before(rows, known.last, front),
+            before: document_before(rows, known.before, front),
         }
     }
 
     /// How far steps were searched in each text that keeps so many bytes in front.
-    fn steps_in_front(&self, front: usize) -> StepSearches
+    fn steps_before(&self, front: usize) -> StepSearches
         ensures { SearchesStay front (cut_of self.now) result }
     {
-        searches_in_front(self.rows(), self.steps(), front)
+        searches_before(self.rows(), self.steps(), front)
     }
 }

@@ -146,7 +146,7 @@ pub(crate) fn part_from(rows: &Rows<'_>, known: KnownDocuments, doc: usize) -> O
 }
 
 /// A document that is known, if the line of the marker before it ends in front of so many bytes.
-pub(crate) fn document_in_front(
+pub(crate) fn document_before(
     rows: &Rows<'_>,
     known: Option<KnownDocument>,
     front: usize,

@@ -1,11 +1,11 @@
 //! Laws on the pieces of a text where nodes, entries, items and comments are, for the crates above.
-ghost use Rattle.yq_places.{specs.CommentLaws.CommentsStand, specs.Existence.{ContentsExist, EntriesExist}};
-ghost use Rattle.yq_places.specs.PieceLaws.{ContentsBegin, ContentsSpell, EntriesSpell, LinesStand, PiecesHold};
+ghost use Rattle.yq_places.{specs.CommentLaws.CommentsAreThere, specs.Existence.{ContentsExist, EntriesExist}};
+ghost use Rattle.yq_places.specs.PieceLaws.{ContentsBegin, ContentsSpell, EntriesSpell, LinesAreIn, PiecesHold};
 
 /// The lines of a document with the text before and after them are the text; and each piece of it
 /// is in it, from one whole character to another.
 pub fn pieces_hold()
-    ensures lines { LinesStand }
+    ensures lines { LinesAreIn }
     ensures pieces { PiecesHold }
 {}
 
@@ -28,6 +28,6 @@ pub fn pieces_exist()
 {}
 
 /// The comments of the tree at a path are those in the pieces there, each exactly where there is one.
-pub fn comments_stand()
-    ensures { CommentsStand }
+pub fn comments_are_there()
+    ensures { CommentsAreThere }
 {}

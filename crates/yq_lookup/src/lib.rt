@@ -9,18 +9,18 @@ mod known_document;
 mod laws;
 mod line_above;
 mod node_at;
+mod placement;
 mod removal;
 mod row_front;
 mod spans;
-mod standing;
 mod walks;
 
 pub use cut_text::CutText;
 pub use knowledge::{Knowledge, StepSearches};
 pub use known_document::{KnownDocument, KnownDocuments};
-pub use laws::{comments_stand, contents_spell, entries_spell, pieces_exist, pieces_hold};
+pub use laws::{comments_are_there, contents_spell, entries_spell, pieces_exist, pieces_hold};
 pub use node_at::FoundNode;
 pub use yq_places::{
-    EntryMark, FlowHead, Held, HeldRow, LinesIn, NodeAt, Removal, Seam, Standing, TextPiece,
+    EntryMark, FlowHead, Held, HeldRow, LinesIn, NodeAt, Placement, Removal, Seam, TextPiece,
     collection_along, line_end, split_break,
 };

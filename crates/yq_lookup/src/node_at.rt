@@ -12,7 +12,7 @@ use crate::cut_text::CutText;
 use std::alloc::{AllocError, Global};
 use yq_core::{Kind, Step};
 use yq_documents::Path;
-use yq_inline::{NodeInFront, read_along};
+use yq_inline::{LeadingNode, read_along};
 use yq_outline::{Head, ScalarContent};
 use yq_places::{FlowHead, NodeAt, block_node, head_node, is_text, node_place, place_line};
 use yq_row_heads::row_head;
@@ -23,7 +23,7 @@ use yq_row_walk::head_place;
 pub enum FoundNode<'s, 't> {
     /// In the node in front of a text, which isn't read yet: how many bytes come before that, and the steps that lead
     /// on in it.
-    InFlow(NodeInFront<'t>, usize, &'s [Step]),
+    InFlow(LeadingNode<'t>, usize, &'s [Step]),
     /// Outside flow collections: what it is, if there is one.
     Outside(Option<NodeAt<'t>>),
 }
@@ -31,7 +31,7 @@ pub enum FoundNode<'s, 't> {
 /// What the node is to which steps lead in the node in front of a text, read alone.
 fn front_node<'t>(
     alloc: Global,
-    front: NodeInFront<'t>,
+    front: LeadingNode<'t>,
     steps: &[Step],
 ) -> Result<Option<NodeAt<'t>>, AllocError>
     ensures { IfOk result (fronts.IsNodeAlong (map tree_step steps.now) front.entry) }

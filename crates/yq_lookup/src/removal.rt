@@ -1,6 +1,6 @@
 //! What is taken out of a text with an item or entry of a block collection.
 ghost use Rattle.std.specs.Prelude.{◌≡◌, option_map};
-ghost use Rattle.yq_places.specs.StandingViews.{pieces_view};
+ghost use Rattle.yq_places.specs.PlacementViews.{pieces_view};
 ghost use Rattle.yq_documents.{specs.Located.steps_of, specs.Reading.cut_of};
 ghost use Rattle.yq_places.specs.FirstPlaces as first;
 ghost use Rattle.yq_places.specs.RemovalPlaces as spec;

@@ -7,7 +7,7 @@ ghost use Rattle.yq_lookup.specs.RowFronts as spec;
 
 use crate::cut_text::CutText;
 use yq_core::{DEPTH_LIMIT, Place, further_spaces};
-use yq_inline::NodeInFront;
+use yq_inline::LeadingNode;
 use yq_places::is_text;
 use yq_row_walk::head_place;
 
@@ -20,7 +20,7 @@ fn opens_collection(head: &[u8]) -> bool
 
 impl<'t> CutText<'_, 't> {
     /// The node in the head of row `i`, after its anchor, and how many bytes come before it, if a bracket is there.
-    pub(crate) fn row_front(&self, i: usize) -> Option<(NodeInFront<'t>, usize)>
+    pub(crate) fn row_front(&self, i: usize) -> Option<(LeadingNode<'t>, usize)>
         requires { i < length (rows_of (cut_of self.now)) }
         ensures { spec.FindsFront self.now i result }
     {
@@ -31,7 +31,7 @@ impl<'t> CutText<'_, 't> {
         if !opens_collection(row.head().as_bytes()) {
             return None;
         }
-        let front = NodeInFront {
+        let front = LeadingNode {
             flow: false,
             spaces: further_spaces(Place::Block, row.parent_indent()),
             depth: DEPTH_LIMIT,

@@ -3,7 +3,7 @@ use Rattle.std.proofs.Common.{◌≡◌, Bool, true, false, cond, ℕ, List, [],
 use Rattle.std.{proofs.lemmas.Option.none-some, specs.Option.option_or}
 use Rattle.yq_text.specs.Script.{Segment, keep}
 use Rattle.yq_core.specs.Tree.{Node}
-use Rattle.yq_places.specs.Standings.{FlowPart}
+use Rattle.yq_places.specs.Placements.{FlowPart}
 use Rattle.yq_edit_rules.{specs.FlowParts.flow_put, specs.Answers.GivesSegments}
 use Rattle.yq_edit_laws.specs.PartPuts.{part_put}
 

@@ -6,12 +6,12 @@ use Rattle.yq_core.{specs.Answers.◌>>=◌, specs.Paths.Step, specs.Tree.Node}
 use Rattle.yq_row_table.specs.Rows.{Cut}
 use Rattle.yq_documents.specs.Documents.{document_parts}
 use Rattle.yq_places.{specs.FirstPlaces.{first_out, first_removal}, specs.NodesAt.{NodeAt, node_in, node_summary, summary_several}}
-use Rattle.yq_places.{specs.PlacedRows.placed_document, specs.RemovalPlaces.{has_others_at, has_several}, specs.Standings.last_step}
+use Rattle.yq_places.{specs.PlacedRows.placed_document, specs.RemovalPlaces.{has_others_at, has_several}, specs.Placements.last_step}
 use Rattle.yq_places.proofs.NodeAtLaws.{none_agrees, several_agrees}
 use Rattle.yq_edit_rules.proofs.RemovalChangeLaws.{take_init}
 use Rattle.yq_edit_rules.specs.Edits.{empty_collection, removed, replace_segments, rows_or_sole, sole_removed}
 use Rattle.yq_edit_rules.{specs.EntryEdits.one_removed, specs.Removing.{first_removed, rows_removed}}
-use Rattle.yq_edit_laws.{specs.Emptying.summary_above, proofs.FlowSoundLaws.last_is, proofs.StandingExists.last_there}
+use Rattle.yq_edit_laws.{specs.Emptying.summary_above, proofs.FlowSoundLaws.last_is, proofs.PlacementExists.last_there}
 
 -- ---- whether there are others
 

@@ -4,7 +4,7 @@ ghost use Rattle.yq_core.specs.Values.{value_node};
 ghost use Rattle.yq_outline.specs.Bodies.{borrowed};
 ghost use Rattle.yq_row_table.specs.Rows.{cut_text};
 ghost use Rattle.yq_documents.{specs.Located.steps_of, specs.Reading.cut_of};
-ghost use Rattle.yq_places.{specs.NodesAt.node_in, specs.Standings.last_step};
+ghost use Rattle.yq_places.{specs.NodesAt.node_in, specs.Placements.last_step};
 ghost use Rattle.yq_semantics.specs.Operations.{operation_of};
 ghost use Rattle.yq_text.specs.Script.{keep};
 ghost use Rattle.yq_edit_laws.specs.Emptying.{IsNodeAbove};

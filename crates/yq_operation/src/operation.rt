@@ -57,7 +57,7 @@ pub fn change_one<'d, 'o: 'd>(
 {
     go_on(alloc, cut, op);
     let changed = change(alloc, cut, op)?;
-    let known = cut.known_in_front(alloc, changed.front);
+    let known = cut.known_before(alloc, changed.front);
     Ok((changed, known))
 }
 

@@ -3,7 +3,7 @@ use Rattle.std.proofs.Common.{◌≡◌, ℕ, ◌+◌, ◌<◌, List, [], ◌∷
 use Rattle.std.proofs.lemmas.Option.{none-some}
 use Rattle.yq_core.specs.Tree.{Node, Children, none, child}
 use Rattle.yq_outline.specs.Outline.{LineMark, Bare, Key, Dash, Line, level, Outline, end, row, flatten, IsOpen, IsWhole, IsEven, anchored}
-use Rattle.yq_outline.specs.Outline.{head_or, null_node, label, outline_node, children, value, Stands}
+use Rattle.yq_outline.specs.Outline.{head_or, null_node, label, outline_node, children, value, IsLocatedAt}
 use Rattle.yq_outline.specs.Grammar.{IsNodeOutline, alone, mapping, sequence, AreEntryLines, no_more, entry, IsUnder, headed, missing}
 use Rattle.yq_outline.{specs.Grammar.deeper_lines, proofs.Allowing.{IsEntry, IsCollection}, proofs.Values.{same_entry, same_rank}}
 
@@ -31,7 +31,7 @@ kind : (m : LineMark) (n : ℕ) (l : Line) (ls : List Line) (cs : Children) → 
 kind m n l ls cs e x = search rules
 
 mutual
-  from_node : {n : ℕ} {ls : List Line} {v : Node} → IsNodeOutline n ls v → Stands ls v n
+  from_node : {n : ℕ} {ls : List Line} {v : Node} → IsNodeOutline n ls v → IsLocatedAt ls v n
   from_node (alone {n} {l} {v} lev bare head) =
       record { outline = row l end end; even = (lev, rw head tt, alone_whole l.mark l.head v bare head, (n + 1, omega arith, tt), tt); lines_are = refl; node_is = rw (bare, head) refl }
   from_node (mapping {n} {l} {k} {ls} {cs} mark es) =
@@ -91,8 +91,8 @@ to_entries n (row l u a) c e =
     entry e.0 (entry_mark l.mark c) (under_of l l.head u refl e.1 e.3.0 (subst (λ k. k < e.3.0) (sym e.0) e.3.1) e.3.2 (λ b. to_entries e.3.0 u b e.3.2)) (to_entries n a (next_entries l n a c e.0 e.4) e.4) refl
 
 -- lines that mean a node are none, or the node's by the rules
-pub rules_from : (n : ℕ) (lines : List Line) (v : Node) → Stands lines v n → (l : Line) (ls : List Line) → lines ≡ l ∷ ls → IsNodeOutline n lines v
+pub rules_from : (n : ℕ) (lines : List Line) (v : Node) → IsLocatedAt lines v n → (l : Line) (ls : List Line) → lines ≡ l ∷ ls → IsNodeOutline n lines v
 rules_from n lines v s l ls is = search (rules, node_of, to_entries)
 
-pub rules_give : (n : ℕ) (lines : List Line) (v : Node) → IsNodeOutline n lines v → Stands lines v n
+pub rules_give : (n : ℕ) (lines : List Line) (v : Node) → IsNodeOutline n lines v → IsLocatedAt lines v n
 rules_give n lines v d = from_node d

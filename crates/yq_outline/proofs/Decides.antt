@@ -4,8 +4,9 @@ use Rattle.std.proofs.Common.{append_assoc, rules}
 use Rattle.std.proofs.lemmas.Bool.{lt-ltb, ltb-true, eqb-true, eq-eqb, cond-true, and_parts, and_from, false≢true}
 use Rattle.std.proofs.lemmas.Option.{none-some, same_Some}
 use Rattle.yq_core.specs.Tree.{Node}
-use Rattle.yq_outline.specs.Outline.{LineMark, Line, level, Outline, end, row, flatten, IsOpen, IsWhole, IsEven, value, Stands}
-use Rattle.yq_outline.{specs.Group.{deeper_lines, shallow, group, is_open, is_whole, level_or, is_even, stand}, proofs.Unique.group_even}
+use Rattle.yq_outline.specs.Outline.{LineMark, Line, level, Outline, end, row, flatten, IsOpen, IsWhole, IsEven, value, IsLocatedAt}
+use Rattle.yq_outline.specs.Group.{deeper_lines, shallow, group, is_open, is_whole, level_or, is_even, are_there}
+use Rattle.yq_outline.proofs.Unique.{group_even}
 
 -- the lines of an outline's two parts
 pub flatten-parts : (n : ℕ) (o : Outline) → flatten (deeper_lines n o) ++ flatten (shallow n o) ≡ flatten o
@@ -46,12 +47,12 @@ to_even n (row l u a) e =
     and_from _ _ (eq-eqb (level l) n e.0) (and_from _ _ (search rules) (and_from _ _ (search rules)
     (and_from _ _ (lt-ltb n d (first_above n e.3.0 l u e.3.1 e.0 e.3.2)) (and_from _ _ (to_even d u (first_even e.3.0 (level l + 1) u e.3.2)) (to_even n a e.4)))))
 
-pub stand-sound : (ls : List Line) (node : Node) → stand ls ≡ Some node → (n : ℕ) × Stands ls node n
-stand-sound ls node e = go (is_even (level_or 0 (group ls)) (group ls)) refl e
+pub are_there-sound : (ls : List Line) (node : Node) → are_there ls ≡ Some node → (n : ℕ) × IsLocatedAt ls node n
+are_there-sound ls node e = go (is_even (level_or 0 (group ls)) (group ls)) refl e
   where
-    go : (b : Bool) → is_even (level_or 0 (group ls)) (group ls) ≡ b → cond b (Some (value (group ls))) None ≡ Some node → (n : ℕ) × Stands ls node n
+    go : (b : Bool) → is_even (level_or 0 (group ls)) (group ls) ≡ b → cond b (Some (value (group ls))) None ≡ Some node → (n : ℕ) × IsLocatedAt ls node n
     go true h e = (level_or 0 (group ls), record { outline = group ls; even = even_from _ _ h; lines_are = flatten-group ls; node_is = same_Some _ _ e })
     go false h e = absurd (none-some _ e)
 
-pub stand-complete : (ls : List Line) (node : Node) (n : ℕ) → Stands ls node n → stand ls ≡ Some node
-stand-complete ls node n s = search (rules, group_even, cond-true, to_even, first_even)
+pub are_there-complete : (ls : List Line) (node : Node) (n : ℕ) → IsLocatedAt ls node n → are_there ls ≡ Some node
+are_there-complete ls node n s = search (rules, group_even, cond-true, to_even, first_even)

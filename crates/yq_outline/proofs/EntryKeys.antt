@@ -77,13 +77,13 @@ under_line (m ∷ ls) (suc i) l is h =
     let more : suc (i + 1) ≡ suc i + 1 = omega arith in
     subst (λ (k : ℕ). IsSound (part (m ∷ ls) k (level l))) more (under_line ls i l is (under_joined (level m) (group ls) h.1 h.2))
 
-behind_keys : (ks js : List (List ℕ)) → are_distinct (ks ++ js) ≡ true → are_distinct js ≡ true
-behind_keys [] js e = e
-behind_keys (k ∷ ks) js e = behind_keys ks js (and_parts (not (list_any (bytes_eq k) (ks ++ js))) (are_distinct (ks ++ js)) e).1
+after_keys : (ks js : List (List ℕ)) → are_distinct (ks ++ js) ≡ true → are_distinct js ≡ true
+after_keys [] js e = e
+after_keys (k ∷ ks) js e = after_keys ks js (and_parts (not (list_any (bytes_eq k) (ks ++ js))) (are_distinct (ks ++ js)) e).1
 
 -- the entries of a node have different keys
 keys_differ : (o : Outline) → IsSound o → are_distinct (keys_of (children o)) ≡ true
-keys_differ o h1 = search (rules, node_lines, is_nothing, and_parts, behind_keys)
+keys_differ o h1 = search (rules, node_lines, is_nothing, and_parts, after_keys)
 
 pub line_keys : (d : ℕ) (ls : List Line) (i : ℕ) (l : Line) → is_sound_outline d (group ls) ≡ true → slice_get ls i ≡ Some l → are_distinct (keys_of (children (part ls (i + 1) (level l)))) ≡ true
 line_keys d ls i l sound is = keys_differ _ (under_line ls i l is (are_under (group ls) (inl (d, sound))))
@@ -102,8 +102,8 @@ module _ (ls : List Line) (at floor next : ℕ) (l : Line) (is : slice_get ls at
   own : are_distinct (with_first (key_of l.mark) (keys_of (children (part ls next floor)))) ≡ true
   own = subst (λ (o : Outline). are_distinct (keys_of (children o)) ≡ true) (row_parts ls at floor next l is (deeper_line ls at floor l is (not_end _ deep)) (ends.2 l is)) differ'
 
-  pub keys_behind : are_distinct (keys_of (children (part ls next floor))) ≡ true
-  keys_behind = search (rules, own)
+  pub keys_after : are_distinct (keys_of (children (part ls next floor))) ≡ true
+  keys_after = search (rules, own)
 
   pub other_key : (key : List ℕ) (w : ℕ × Line × Outline) → position next (find_row (To key) (part ls next floor)) ≡ Some w → is_here (To key) (label l) ≡ false
   other_key key w found = search (rules, own, none-some, and_parts, not-true, differs, nowhere)

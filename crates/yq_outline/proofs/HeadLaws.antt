@@ -9,10 +9,10 @@ use Rattle.yq_core.proofs.BlockRepairLaws.{white_front}
 use Rattle.yq_outline.specs.Comments.{are_comments, last_comments}
 
 -- lines after lines
-all_behind : (ls ms : RawLines) → are_comments ls ≡ false → are_comments (ls ++ ms) ≡ false
-all_behind [] ms h = absurd (false≢true (sym h))
-all_behind (l ∷ ls) ms h = ⊎_elim {0, 0, 0}
-    (λ e. let more : are_comments ls ≡ false = rw e at h in rw e (all_behind ls ms more))
+all_following : (ls ms : RawLines) → are_comments ls ≡ false → are_comments (ls ++ ms) ≡ false
+all_following [] ms h = absurd (false≢true (sym h))
+all_following (l ∷ ls) ms h = ⊎_elim {0, 0, 0}
+    (λ e. let more : are_comments ls ≡ false = rw e at h in rw e (all_following ls ms more))
     (λ e. rw e refl)
     (cases_Bool (is_hash (past_white l)))
 
@@ -22,12 +22,12 @@ some_text x t ts e h = absurd (cc)
 no_run : (l : List ℕ) (ls : RawLines) → last_comments (l ∷ ls) ≡ [] → are_comments (l ∷ ls) ≡ false
 no_run l ls h = search (rules, false_from_ne_true, and_parts, some_text, cond-true)
 
-pub comments_behind : (ls ms : RawLines) → last_comments ls ≡ [] → last_comments (ls ++ ms) ≡ last_comments ms
-comments_behind [] ms h = refl
-comments_behind (l ∷ ls) ms h =
+pub comments_after : (ls ms : RawLines) → last_comments ls ≡ [] → last_comments (ls ++ ms) ≡ last_comments ms
+comments_after [] ms h = refl
+comments_after (l ∷ ls) ms h =
     let none = no_run l ls h in
     let more : last_comments ls ≡ [] = sym (cond-false _ _ _ none) ∙ h in
-    cond-false _ _ _ (all_behind (l ∷ ls) ms none) ∙ comments_behind ls ms more
+    cond-false _ _ _ (all_following (l ∷ ls) ms none) ∙ comments_after ls ms more
 
 -- a line with other white space in front
 same_line : (l x : List ℕ) (ls : RawLines) → past_white x ≡ past_white l → last_comments (x ∷ ls) ≡ last_comments (l ∷ ls)

@@ -29,9 +29,9 @@ end_within (l ∷ ls) zero h = (omega arith, omega (arith, count_within (level l
 end_within (l ∷ ls) (suc n) h = let again = end_within ls n (omega (arith, h)) in (omega (arith, again.0), omega (arith, again.1))
 
 -- the end of a line after others
-pub end_behind : (xs ys : List Line) (l : Line) → lines_end (length xs) (xs ++ (l ∷ ys)) ≡ suc (length xs) + deeper_count (level l) ys
-end_behind [] ys l = omega arith
-end_behind (x ∷ xs) ys l = omega (arith, end_behind xs ys l)
+pub following_end : (xs ys : List Line) (l : Line) → lines_end (length xs) (xs ++ (l ∷ ys)) ≡ suc (length xs) + deeper_count (level l) ys
+following_end [] ys l = omega arith
+following_end (x ∷ xs) ys l = omega (arith, following_end xs ys l)
 
 pub end_line : (ls : List Line) (n : ℕ) (l : Line) → slice_get ls n ≡ Some l → lines_end n ls ≡ suc n + deeper_count (level l) (drop (suc n) ls)
 end_line [] n l is = absurd (cc)
@@ -44,9 +44,9 @@ end_agrees ls n next within ends =
     let there = has_line ls n within in
     let k : ℕ = level there.0 in
     let one : n + 1 ≡ suc n = omega arith in
-    let behind : group (drop next ls) ≡ group (drop (deeper_count k (drop (suc n) ls)) (drop (suc n) ls)) =
+    let after : group (drop next ls) ≡ group (drop (deeper_count k (drop (suc n) ls)) (drop (suc n) ls)) =
     sym (ends.2 there.0 there.1) ∙ (ap (λ (j : ℕ). shallow k (group (drop j ls))) one ∙ shallow_group k (drop (suc n) ls)) in
-    let same : drop next ls ≡ drop (deeper_count k (drop (suc n) ls)) (drop (suc n) ls) = sym (flatten-group _) ∙ (ap flatten behind ∙ flatten-group _) in
+    let same : drop next ls ≡ drop (deeper_count k (drop (suc n) ls)) (drop (suc n) ls) = sym (flatten-group _) ∙ (ap flatten after ∙ flatten-group _) in
     omega (
       arith,
       within,

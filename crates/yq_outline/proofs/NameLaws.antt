@@ -70,8 +70,8 @@ names_children n (row l u a) even each apart =
     let hn = head_names l.head in
     let below = names_children even.3.0 u even.3.2 (each_front fu fa each.1) (apart_front fu fa apart.1) in
     let here = entry_names l.anchor l.head even.3.0 u even.1 apart.0.0 apart.0.1 even.3.2 (search rules) (apart_front fu fa apart.1) below in
-    let behind = names_children n a even.4 (each_back fu fa each.1) (apart_back fu fa apart.1) in
-    search (rules, with-append, append_assoc, line_names-append, fu, fa, hn, here, behind)
+    let after = names_children n a even.4 (each_back fu fa each.1) (apart_back fu fa apart.1) in
+    search (rules, with-append, append_assoc, line_names-append, fu, fa, hn, here, after)
 
 -- The names of the node that lines mean are those of the lines, in order.
 pub names_lines : (ls : List Line) → is_fine (group ls) ≡ true → HaveOneAnchorEach ls → HaveHeadsApart ls → names_of (value (group ls)) ≡ line_names ls

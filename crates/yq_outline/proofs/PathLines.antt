@@ -9,16 +9,16 @@ use Rattle.yq_outline.{specs.Positions.{position, line_here, begins_with_node, r
 use Rattle.yq_outline.proofs.NameLaws.{part-all}
 
 -- what a search found, by its index after so many lines
-abbrev behind : ℕ → Option (FoundLine × List Step) → Option (ℕ × List Step)
-behind n r = option_map (λ x. (n + length (lines_before x.0.place), x.1)) r
+abbrev after : ℕ → Option (FoundLine × List Step) → Option (ℕ × List Step)
+after n r = option_map (λ x. (n + length (lines_before x.0.place), x.1)) r
 
 -- the same after none
-behind_none : (r : Option (FoundLine × List Step)) → behind 0 r ≡ option_map (λ x. (length (lines_before x.0.place), x.1)) r
-behind_none r = search rules
+following_none : (r : Option (FoundLine × List Step)) → after 0 r ≡ option_map (λ x. (length (lines_before x.0.place), x.1)) r
+following_none r = search rules
 
 -- from the root, where all lines are looked at
 pub from_root : (ls : List Line) (steps : List Step) → reach_from ls None steps ≡ reached steps ls
-from_root ls steps = search (rules, behind_none, part-all)
+from_root ls steps = search (rules, following_none, part-all)
 
 -- from a line
 pub from_there : (ls : List Line) (i : ℕ) (l : Line) (s : Step) (ss : List Step) → slice_get ls i ≡ Some l → reach_from ls (Some i) (s ∷ ss) ≡ reach_under ls i s ss l
@@ -64,7 +64,7 @@ length-compose (below l p a) q = omega (arith, length-compose p q)
 length-compose (beside l u p) q = omega (arith, length-compose p q, length-append (flatten u) (lines_before (compose p q)), length-append (flatten u) (lines_before p))
 
 -- a line in what is under another, by its index in the whole
-deep_line : (first : ℕ) (f : FoundLine) (r : Option (FoundLine × List Step)) → behind first (option_map (λ x. (place_inside f x.0, x.1)) r) ≡ behind ((first + length (lines_before f.place)) + 1) r
+deep_line : (first : ℕ) (f : FoundLine) (r : Option (FoundLine × List Step)) → after first (option_map (λ x. (place_inside f x.0, x.1)) r) ≡ after ((first + length (lines_before f.place)) + 1) r
 deep_line first f r = search (rules, length-compose)
 
 -- one step
@@ -72,10 +72,10 @@ pub step_line : (ls : List Line) (first floor : ℕ) (s : Step) (ss : List Step)
     position first (find_row s (part ls first floor)) ≡ line_here ls r → IfSome r (λ i. i < length ls) →
     reach_in ls first floor s ss ≡ option_and_then (λ i. reach_from ls (Some i) ss) r
 step_line ls first floor s ss r other found within =
-    ap (behind first) (other_find s ss (part ls first floor) other) ∙ go (find_row s (part ls first floor)) r found within
+    ap (after first) (other_find s ss (part ls first floor) other) ∙ go (find_row s (part ls first floor)) r found within
   where
     go : (q : Option FoundLine) (r : Option ℕ) → position first q ≡ line_here ls r → IfSome r (λ i. i < length ls) →
-        behind first (option_and_then (λ f. in_rest f ss) q) ≡ option_and_then (λ i. reach_from ls (Some i) ss) r
+        after first (option_and_then (λ f. in_rest f ss) q) ≡ option_and_then (λ i. reach_from ls (Some i) ss) r
     go None None e w = refl
     go (Some f) None e w = cc
     go None (Some i) e w =

@@ -13,8 +13,8 @@ pub under-length : (ls : List Line) (i next : ℕ) (l : Line) → slice_get ls i
 under-length ls i next l is ends =
     let o : Outline = group (drop (i + 1) ls) in
     let parts : flatten (deeper_lines (level l) o) ++ flatten (shallow (level l) o) ≡ drop (i + 1) ls = flatten-parts (level l) o ∙ flatten-group (drop (i + 1) ls) in
-    let behind : flatten (shallow (level l) o) ≡ drop next ls = ap flatten (ends.2 l is) ∙ flatten-group (drop next ls) in
-    let sum : length (flatten (deeper_lines (level l) o)) + length (drop next ls) ≡ length (drop (i + 1) ls) = search (rules, length-append, o, behind, parts) in
+    let after : flatten (shallow (level l) o) ≡ drop next ls = ap flatten (ends.2 l is) ∙ flatten-group (drop next ls) in
+    let sum : length (flatten (deeper_lines (level l) o)) + length (drop next ls) ≡ length (drop (i + 1) ls) = search (rules, length-append, o, after, parts) in
     omega (arith, sum, length-drop next ls, length-drop (i + 1) ls, ends.0, ends.1)
 
 position-next : (at next : ℕ) (l : Line) (u : Outline) (r : Option FoundLine) → suc at + length (flatten u) ≡ next → position at (option_map (next_to l u) r) ≡ position next r

@@ -24,5 +24,5 @@ stop_step ls at floor next l is deep ends =
     let within : at < length ls = slice_get_within ls at l is in
     let next_is : next ≡ (at + 1) + m = end_agrees ls at next within ends ∙ sym (end_agrees ls at ((at + 1) + m) within (stop_end ls at l is)) in
     let count : deeper_count floor (drop at ls) ≡ suc (deeper_count floor rest) = ap (deeper_count floor) (drop_at ls at l is) ∙ count_more floor l rest deep in
-    let behind : deeper_count floor (drop next ls) ≡ deeper_count floor (drop m rest) = ap (λ (k : ℕ). deeper_count floor (drop k ls)) next_is ∙ ap (deeper_count floor) (sym (drop-drop m (at + 1) ls)) in
-    omega (arith, count, passed (level l) floor rest deep, next_is, behind)
+    let after : deeper_count floor (drop next ls) ≡ deeper_count floor (drop m rest) = ap (λ (k : ℕ). deeper_count floor (drop k ls)) next_is ∙ ap (deeper_count floor) (sym (drop-drop m (at + 1) ls)) in
+    omega (arith, count, passed (level l) floor rest deep, next_is, after)

@@ -2,7 +2,8 @@
 use Rattle.std.proofs.Common.{rules, ◌≡◌, ℕ, ◌<◌, ◌≤◌, List, [], ◌++◌, refl, sym, ap, ◌∙◌, subst, arith, append_assoc, append-nil}
 use Rattle.std.proofs.lemmas.Bool.{lt-ltb, le-ltb, cond-true, cond-false}
 use Rattle.yq_core.specs.Tree.{Node}
-use Rattle.yq_outline.{specs.Outline.{Line, level, Outline, end, row, flatten, IsEven, Stands}, specs.Group.{deeper_lines, shallow, group}}
+use Rattle.yq_outline.specs.Outline.{Line, level, Outline, end, row, flatten, IsEven, IsLocatedAt}
+use Rattle.yq_outline.specs.Group.{deeper_lines, shallow, group}
 
 -- one outline after another
 abbrev pub join : Outline → Outline → Outline
@@ -38,9 +39,9 @@ join-IsShallow n (row l u a) b e h = omega (arith, e.0)
 pub group-flatten : (n : ℕ) (o : Outline) (ls : List Line) → IsEven n o → IsShallow n (group ls) → group (flatten o ++ ls) ≡ join o (group ls)
 group-flatten n end ls e h = refl
 group-flatten n (row l u a) ls e h =
-    let behind : group (flatten a ++ ls) ≡ join a (group ls) = group-flatten n a ls e.4 h in
+    let after : group (flatten a ++ ls) ≡ join a (group ls) = group-flatten n a ls e.4 h in
     let deep : n < e.3.0 = e.3.1 in
-    let low : IsShallow n (group (flatten a ++ ls)) = rw behind (join-IsShallow n a (group ls) e.4 h) in
+    let low : IsShallow n (group (flatten a ++ ls)) = rw after (join-IsShallow n a (group ls) e.4 h) in
     let below : group (flatten u ++ (flatten a ++ ls)) ≡ join u (group (flatten a ++ ls)) =
     group-flatten e.3.0 u (flatten a ++ ls) e.3.2 (shallow_up n e.3.0 _ deep low) in
     let rest = join a (group ls) in
@@ -55,5 +56,5 @@ join-end (row l u a) = ap (row l u) (join-end a)
 pub group_even : (n : ℕ) (o : Outline) → IsEven n o → group (flatten o) ≡ o
 group_even n o e = ap group (sym (append-nil (flatten o))) ∙ (group-flatten n o [] e tt ∙ join-end o)
 
-pub one_node : (lines : List Line) (a b : Node) (m n : ℕ) → Stands lines a m → Stands lines b n → a ≡ b
+pub one_node : (lines : List Line) (a b : Node) (m n : ℕ) → IsLocatedAt lines a m → IsLocatedAt lines b n → a ≡ b
 one_node lines a b m n s t = search (rules, group_even)

@@ -45,13 +45,13 @@ first_shallow n above column [] m c l ys e h = count_stop n (mark_line above col
 first_shallow n above column (k ∷ ns) m c l ys e h = count_stop n (dash_line above column) _ (let same : level (dash_line above column) ≡ level l = ap level (same_Some _ _ e) in omega (arith, h, same))
 
 -- the lines after one of a row are as deep up to the row's end
-behind_line : (n : ℕ) (above : List (List ℕ)) (column : ℕ) (ns : List ℕ) (m : rows.RowMark) (c : Content) (k : ℕ) (l : Line) (ys : List Line) → k ≤ length ns → slice_get (lines_from above column ns m c) k ≡ Some l → n ≤ level l →
+after_line : (n : ℕ) (above : List (List ℕ)) (column : ℕ) (ns : List ℕ) (m : rows.RowMark) (c : Content) (k : ℕ) (l : Line) (ys : List Line) → k ≤ length ns → slice_get (lines_from above column ns m c) k ≡ Some l → n ≤ level l →
     deeper_count n (drop (suc k) (lines_from above column ns m c ++ ys)) ≡ (length ns - k) + deeper_count n ys
-behind_line n above column [] m c zero l ys h e deep = omega arith
-behind_line n above column [] m c (suc k) l ys h e deep = absurd (omega (arith, h))
-behind_line n above column (x ∷ ns) m c zero l ys h e deep = search (rules, same_Some, all_deeper, dash_level)
-behind_line n above column (x ∷ ns) m c (suc k) l ys h e deep =
-    omega (arith, behind_line n [] (suc (column + x)) ns m c k l ys (omega (arith, h)) e deep)
+after_line n above column [] m c zero l ys h e deep = omega arith
+after_line n above column [] m c (suc k) l ys h e deep = absurd (omega (arith, h))
+after_line n above column (x ∷ ns) m c zero l ys h e deep = search (rules, same_Some, all_deeper, dash_level)
+after_line n above column (x ∷ ns) m c (suc k) l ys h e deep =
+    omega (arith, after_line n [] (suc (column + x)) ns m c k l ys (omega (arith, h)) e deep)
 
 -- the first line of a row
 first_line : (r : Row) → RowAgrees r → (l : Line) × (slice_get (row_lines r) 0 ≡ Some l) × (level l ≡ line_level 0 (slices r))
@@ -90,11 +90,11 @@ line_of_row rs i k r e h =
     let a : List Line = lines_of_rows (take i rs) in
     let b : List Line = lines_of_rows (drop (suc i) rs) in
     let count : length (row_lines r) ≡ suc (length r.dashes) = lines_count (comments.head_comment r.gap) r.column r.dashes r.mark r.content in
-    ap (λ (ls : List Line). slice_get ls (length a + k)) (lines_cut rs i r e) ∙ (behind a (row_lines r ++ b) k ∙ front (row_lines r) b k (omega (arith, h, count)))
+    ap (λ (ls : List Line). slice_get ls (length a + k)) (lines_cut rs i r e) ∙ (after a (row_lines r ++ b) k ∙ front (row_lines r) b k (omega (arith, h, count)))
   where
-    behind : (xs ys : List Line) (n : ℕ) → slice_get (xs ++ ys) (length xs + n) ≡ slice_get ys n
-    behind [] ys n = ap (slice_get ys) (omega arith)
-    behind (x ∷ xs) ys n = let more : suc (length xs) + n ≡ suc (length xs + n) = omega arith in ap (slice_get (x ∷ (xs ++ ys))) more ∙ behind xs ys n
+    after : (xs ys : List Line) (n : ℕ) → slice_get (xs ++ ys) (length xs + n) ≡ slice_get ys n
+    after [] ys n = ap (slice_get ys) (omega arith)
+    after (x ∷ xs) ys n = let more : suc (length xs) + n ≡ suc (length xs + n) = omega arith in ap (slice_get (x ∷ (xs ++ ys))) more ∙ after xs ys n
 
     front : (xs ys : List Line) (n : ℕ) → n < length xs → slice_get (xs ++ ys) n ≡ slice_get xs n
     front [] ys n h = absurd (omega (arith, h))
@@ -113,7 +113,7 @@ module _ (rs : List Row) (i k : ℕ) (r : Row) (l : Line) (t : RowsAgree rs) (e 
       let one : suc at ≡ length a + suc k = omega arith in
       let rest : drop (suc at) (lines_of_rows rs) ≡ drop (suc k) (row_lines r ++ lines_of_rows others) =
       (λ j. drop (one j) (lines_cut rs i r e j)) ∙ drop-append-add a (row_lines r ++ lines_of_rows others) (suc k) in
-      search (rules, behind_line, rows_deeper, rows_agree_drop, lines_upto, others, rest)
+      search (rules, after_line, rows_deeper, rows_agree_drop, lines_upto, others, rest)
 
   pub ends_at : IsEndOf (lines_of_rows rs) at (length (lines_of_rows (take (suc i + deeper_rows (level l) (map slices (drop (suc i) rs))) rs)))
   ends_at = subst (IsEndOf (lines_of_rows rs) at) (followed (level l) (omega arith)) (end_counted (lines_of_rows rs) at l (line_of_row rs i k r e h ∙ is))

@@ -65,16 +65,16 @@ dash_before k [] t h = absurd (omega (arith, h))
 dash_before zero (n ∷ ns) t h = omega arith
 dash_before (suc k) (n ∷ ns) t h = omega (arith, dash_before k ns t (omega (arith, h)), length-append {A = ℕ})
 
-dash_behind : (ns : List ℕ) → length (dashes_text ns (45 ∷ [])) ≡ suc (length (dashes_text ns []))
-dash_behind [] = refl
-dash_behind (n ∷ ns) = omega (arith, dash_behind ns, length-append (replicate n 32) (dashes_text ns (45 ∷ [])), length-append (replicate n 32) (dashes_text ns []))
+dash_after : (ns : List ℕ) → length (dashes_text ns (45 ∷ [])) ≡ suc (length (dashes_text ns []))
+dash_after [] = refl
+dash_after (n ∷ ns) = omega (arith, dash_after ns, length-append (replicate n 32) (dashes_text ns (45 ∷ [])), length-append (replicate n 32) (dashes_text ns []))
 
 -- the rank of a line of a row
 pub rank_is : (r : Row) (k : ℕ) (l : Line) → RowAgrees r → k ≤ length r.dashes → IsLineOf r.column r.dashes r.mark r.content k l → rank l.mark ≡ line_rank k (slices r)
 rank_is r k l t h is = go (to_dash k r.dashes (last_dash r.mark) h (last_is r.mark)) (cases_lt k (length r.dashes))
   where
     go : dash_at k (slices r).dashes ≡ length (dashes_text (take k r.dashes) []) → (k < length r.dashes) ⊎ (length r.dashes ≤ k) → rank l.mark ≡ line_rank k (slices r)
-    go h1 h2 = search (rules, cond-true, lt-ltb, dash_before, take_all, cond-false, le-ltb, dash_behind)
+    go h1 h2 = search (rules, cond-true, lt-ltb, dash_before, take_all, cond-false, le-ltb, dash_after)
 
 -- the level of a line of a row
 pub level_is : (r : Row) (k : ℕ) (l : Line) → RowAgrees r → k ≤ length r.dashes → IsLineOf r.column r.dashes r.mark r.content k l → level l ≡ line_level k (slices r)

@@ -10,7 +10,7 @@ use Rattle.yq_outline.specs.RowWalk.{line_level, deeper_rows, HasRows, IsPositio
 use Rattle.yq_outline.{specs.RowWalk.AreRowsDeep, specs.declared.line_position.Position.Position}
 use Rattle.yq_outline.{specs.declared.line_position.Stretch.Stretch, proofs.WalkEnds.{line_of_row, lines_upto, ends_at, stops_at}}
 use Rattle.yq_outline.proofs.WalkLevels.{RowAgrees, RowsAgree, IsLineOf, line_in, level_is}
-use Rattle.yq_outline.proofs.WalkRows.{rows_behind, rows_length, row_of, rows_agree}
+use Rattle.yq_outline.proofs.WalkRows.{following_rows, rows_length, row_of, rows_agree}
 use Rattle.yq_core.{specs.Paths.Step, specs.Tree.Node}
 use Rattle.yq_row_table.{specs.Rows.Row, specs.View.{Slices, slices, RowsView}}
 use Rattle.yq_outline.specs.Comments as comments
@@ -89,13 +89,13 @@ rows_upto s d h q e n at row none =
     let i : ℕ = q.row - d.first in
     let next : (q.row + 1) - d.first ≡ suc i = omega (arith, at.from) in
     let rest : take (d.end - (q.row + 1)) (drop (q.row + 1) s.rows) ≡ map slices (drop (suc i) h.rows) =
-    rows_behind s d h (q.row + 1) (omega (arith, at.from)) (omega (arith, at.upto)) ∙ ap (λ (k : ℕ). map slices (drop k h.rows)) next in
+    following_rows s d h (q.row + 1) (omega (arith, at.from)) (omega (arith, at.upto)) ∙ ap (λ (k : ℕ). map slices (drop k h.rows)) next in
     search (rules, i, rest)
 
 -- where the lines under a line end
-pub behind_agrees : (s : RowsView) (d : Stretch) (h : HasRows s d) (q e : Position) (n : ℕ) → IsLine s d q → ((x : Slices) → slice_get s.rows q.row ≡ Some x → n ≡ line_level q.line x) →
+pub after_agrees : (s : RowsView) (d : Stretch) (h : HasRows s d) (q e : Position) (n : ℕ) → IsLine s d q → ((x : Slices) → slice_get s.rows q.row ≡ Some x → n ≡ line_level q.line x) →
     e.row ≡ (q.row + 1) + deeper_rows n (take (d.end - (q.row + 1)) (drop (q.row + 1) s.rows)) → e.line ≡ 0 → IsEndOf (lines_of_rows h.rows) (line_number d h.rows q) (line_number d h.rows e)
-behind_agrees s d h q e n at agrees row none =
+after_agrees s d h q e n at agrees row none =
     let l = located s d h q at in
     let i : ℕ = q.row - d.first in
     let same : level l.line ≡ n = l.level_agrees ∙ sym (agrees (slices l.row) l.pieces) in

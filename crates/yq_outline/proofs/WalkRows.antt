@@ -22,8 +22,8 @@ pub under_stop : (ss : List Slices) (n at end : ℕ) (x : Slices) → slice_get 
 under_stop ss n at end x is h stop = search (rules, drop_at, cond-false, le-ltb)
 
 -- the rows of a document from one on
-pub rows_behind : (s : RowsView) (d : Stretch) (h : HasRows s d) (k : ℕ) → d.first ≤ k → k ≤ d.end → take (d.end - k) (drop k s.rows) ≡ map slices (drop (k - d.first) h.rows)
-rows_behind s d h k from upto =
+pub following_rows : (s : RowsView) (d : Stretch) (h : HasRows s d) (k : ℕ) → d.first ≤ k → k ≤ d.end → take (d.end - k) (drop k s.rows) ≡ map slices (drop (k - d.first) h.rows)
+following_rows s d h k from upto =
     let n : ℕ = k - d.first in
     let m : ℕ = d.end - k in
     let sum : d.end - d.first ≡ n + m = omega (arith, from, upto) in
@@ -46,7 +46,7 @@ row_of s d h i x from upto is =
     let rest : List Slices = take (d.end - (i + 1)) (drop (i + 1) s.rows) in
     let more : d.end - i ≡ suc (d.end - (i + 1)) = omega (arith, upto) in
     let pieces : take (d.end - i) (drop i s.rows) ≡ x ∷ rest = (λ j. take (more j) (drop_at s.rows i x is j)) in
-    get_from h.rows (i - d.first) x rest (sym pieces ∙ rows_behind s d h i from (omega (arith, upto)))
+    get_from h.rows (i - d.first) x rest (sym pieces ∙ following_rows s d h i from (omega (arith, upto)))
 
 -- the pieces of rows tell their lines
 node_summary : (n : ℤ) (node : FlowNode) (rest : List ℕ) → is_anchored node ≡ false → IsFlowNode false (Some (deeper n)) depth_limit node rest → is_empty (node_text node []) ≡ is_none (node_head node)

@@ -7,7 +7,8 @@ mutual
   -- lines are a node's, the first one at this level (8.2.3)
   pub data IsNodeOutline : ℕ → List Line → Node → Type 0 where
     alone : {n : ℕ} {l : Line} {v : Node} → level l ≡ n → l.mark ≡ Bare → l.head ≡ Some v → IsNodeOutline n (l ∷ []) (anchored l.anchor v)
-    mapping : {n : ℕ} {l : Line} {k : List ℕ} {ls : List Line} {cs : Children} → l.mark ≡ Key k → AreEntryLines n (l ∷ ls) cs → IsNodeOutline n (l ∷ ls) (map None cs)
+    mapping : {n : ℕ} {l : Line} {k : List ℕ} {ls : List Line} {cs : Children} → l.mark ≡ Key k → AreEntryLines n (l ∷ ls) cs →
+        IsNodeOutline n (l ∷ ls) (map None cs)
     sequence : {n : ℕ} {l : Line} {ls : List Line} {cs : Children} → l.mark ≡ Dash → AreEntryLines n (l ∷ ls) cs → IsNodeOutline n (l ∷ ls) (list None cs)
 
   -- lines are those of items (8.2.1) or entries (8.2.2) at one level, in order

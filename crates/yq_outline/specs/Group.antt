@@ -1,4 +1,4 @@
--- Reading (own; a reader may skip it: the grammar is what is believed, and the clauses `found` and `only` tie the two): lines grouped from the last to the first.
+-- Reading (own; a reader may skip it: the grammar is believed, and the clauses `found` and `only` tie the two): lines grouped from the last to the first.
 use Rattle.std.specs.Prelude.{ℕ, nat_lt, nat_eq, ◌+◌, List, [], ◌∷◌, Option, Some, None, Bool, true, false, ◌&&◌, if◌then◌else◌}
 use Rattle.yq_core.specs.Tree.{Node}
 use Rattle.yq_outline.specs.Outline.{LineMark, Bare, Key, Dash, Line, level, Outline, end, row, value}
@@ -45,12 +45,13 @@ level_or n (row l u a) = level l
 abbrev pub is_even : ℕ → Outline → Bool
 is_even n end = true
 is_even n (row l under after) =
-    nat_eq (level l) n && (is_open l.head under && (is_whole l.mark l.head after && (nat_lt n (level_or (level l + 1) under) && (is_even (level_or (level l + 1) under) under && is_even n after))))
+    nat_eq (level l) n && (is_open l.head under && (is_whole l.mark l.head after
+    && (nat_lt n (level_or (level l + 1) under) && (is_even (level_or (level l + 1) under) under && is_even n after))))
 
 -- whether an outline is even at the level of its first line
 abbrev pub is_fine : Outline → Bool
 is_fine o = is_even (level_or 0 o) o
 
 -- the node that lines mean, if their outline is even
-abbrev pub stand : List Line → Option Node
-stand ls = let o = group ls in if is_fine o then Some (value o) else None
+abbrev pub are_there : List Line → Option Node
+are_there ls = let o = group ls in if is_fine o then Some (value o) else None

@@ -39,7 +39,14 @@ line_mark (rows.Key key colon) = Key (scalar_content key)
 
 -- the line of a mark in a column: in it are the row's anchor, head and line comment (YAML 1.2.2, section 8.2; own)
 abbrev pub mark_line : List (List ℕ) → ℕ → rows.RowMark → Content → Line
-mark_line above column mark c = record { column = column; mark = line_mark mark; anchor = content_anchor c; head = head_of c; head_comment = above; line_comment = comments.line_comment (tail_of c) }
+mark_line above column mark c = record {
+  column = column;
+  mark = line_mark mark;
+  anchor = content_anchor c;
+  head = head_of c;
+  head_comment = above;
+  line_comment = comments.line_comment (tail_of c);
+}
 
 -- the line of a dash before the mark: a collection begins after it (YAML 1.2.2, section 8.2.1; own)
 abbrev pub dash_line : List (List ℕ) → ℕ → Line

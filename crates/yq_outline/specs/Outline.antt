@@ -111,7 +111,7 @@ abbrev pub value : Outline → Node
 value o = shaped o (children o)
 
 -- Lines mean a node at a level: they are those of an even outline, which means it (8.2).
-pub record Stands (lines : List Line) (node : Node) (n : ℕ) : Type 0 where
+pub record IsLocatedAt (lines : List Line) (node : Node) (n : ℕ) : Type 0 where
   pub outline : Outline
   pub even : IsEven n outline
   pub lines_are : flatten outline ≡ lines

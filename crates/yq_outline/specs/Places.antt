@@ -48,7 +48,8 @@ next_to l under f = record f { place = beside l under f.place }
 abbrev pub find_row : Step → Outline → Option FoundLine
 find_row s end = None
 find_row s (row l under after) =
-    if is_here s (label l) then Some (record { place = here; line = l; under = under; after = after }) else option_map (next_to l under) (find_row (further s) after)
+    if is_here s (label l) then Some (record { place = here; line = l; under = under; after = after })
+    else option_map (next_to l under) (find_row (further s) after)
 
 -- a line found in what is under another one, as a line of the whole
 abbrev pub place_inside : FoundLine → FoundLine → FoundLine
@@ -72,7 +73,8 @@ find s [] (row l under after) =
     bare_or l.mark (Some (record { place = here; line = l; under = under; after = after }, s ∷ [])) (option_map (λ f. (f, [])) (find_row s (row l under after)))
 find s (t ∷ ts) (row l under after) =
     bare_or l.mark (Some (record { place = here; line = l; under = under; after = after }, s ∷ (t ∷ ts)))
-    (option_and_then (λ f. in_head f.line.head (Some (f, t ∷ ts)) (option_map (λ x. (place_inside f x.0, x.1)) (find t ts f.under))) (find_row s (row l under after)))
+    (option_and_then (λ f. in_head f.line.head (Some (f, t ∷ ts)) (option_map (λ x. (place_inside f x.0, x.1)) (find t ts f.under)))
+    (find_row s (row l under after)))
 
 -- what the line of an entry or item and the lines under it mean
 abbrev pub content_under : Line → Outline → Node

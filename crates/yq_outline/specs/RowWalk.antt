@@ -81,8 +81,8 @@ pub record HasRows (s : RowsView) (d : Stretch) : Type 0 where
 
 -- The lines of such rows are sound.
 pub record HasDocument (s : RowsView) (d : Stretch) : Type 0 where
-  pub stand : HasRows s d
-  pub sound : is_sound_outline depth_limit (group (lines_of_rows stand.rows)) ≡ true
+  pub are_there : HasRows s d
+  pub sound : is_sound_outline depth_limit (group (lines_of_rows are_there.rows)) ≡ true
 
 -- A line of a document, or the end after its rows.
 pub record IsPosition (s : RowsView) (d : Stretch) (q : Position) : Type 0 where
@@ -123,9 +123,9 @@ OfLines s d said = (h : HasRows s d) → said (lines_of_rows h.rows) (line_numbe
 -- A step leads to that line, if to any, among the lines from one on that are deeper than a level.
 abbrev pub Finds : RowsView → Stretch → Position → ℕ → Step → Option Position → Type 0
 Finds s d under floor step found =
-    (h : HasDocument s d) → position (line_number d h.stand.rows under)
-    (find_row step (part (lines_of_rows h.stand.rows) (line_number d h.stand.rows under) floor)) ≡ line_here (lines_of_rows h.stand.rows)
-    (option_map (line_number d h.stand.rows) found)
+    (h : HasDocument s d) → position (line_number d h.are_there.rows under)
+    (find_row step (part (lines_of_rows h.are_there.rows) (line_number d h.are_there.rows under) floor)) ≡ line_here (lines_of_rows h.are_there.rows)
+    (option_map (line_number d h.are_there.rows) found)
 
 -- where a step leads among the lines from one on that are deeper than a level
 abbrev pub found_from : Stretch → List Row → ℕ → Position → Step → Option (ℕ × Line × Outline)
@@ -134,12 +134,12 @@ found_from d rs floor q step = position (line_number d rs q) (find_row step (par
 -- Among the lines from one on that are deeper than a level, a walk to an item goes on from another line, by the item's index from there on.
 abbrev pub GoesOn : RowsView → Stretch → ℕ → Position → ℕ → Position → ℕ → Type 0
 GoesOn s d floor under index at left =
-    (h : HasDocument s d) → found_from d h.stand.rows floor under (Nth index) ≡ found_from d h.stand.rows floor at (Nth left)
+    (h : HasDocument s d) → found_from d h.are_there.rows floor under (Nth index) ≡ found_from d h.are_there.rows floor at (Nth left)
 
 -- The entries among the lines from one on that are deeper than a level have different keys (3.2.1.3).
 abbrev pub HaveKeys : RowsView → Stretch → Position → ℕ → Type 0
 HaveKeys s d under floor =
-    (h : HasDocument s d) → are_distinct (keys_of (children (part (lines_of_rows h.stand.rows) (line_number d h.stand.rows under) floor))) ≡ true
+    (h : HasDocument s d) → are_distinct (keys_of (children (part (lines_of_rows h.are_there.rows) (line_number d h.are_there.rows under) floor))) ≡ true
 
 -- An entry that is known has a key.
 abbrev pub IsKeyed : RowsView → Stretch → KnownItem → List ℕ → Type 0
@@ -150,9 +150,15 @@ abbrev pub next_reached : Stretch → List Row → Step → List Step → nexts.
 next_reached d rs s ss (nexts.TheVariants.Line q) = reach_from (lines_of_rows rs) (Some (line_number d rs q)) ss
 next_reached d rs s ss (nexts.TheVariants.Head q) = Some (line_number d rs q, s ∷ ss)
 
+-- the line to which steps lead and those that are left, by lines and the numbers of positions
+abbrev pub LeadsOfSteps : Type 0
+LeadsOfSteps = List Line → (Position → ℕ) → List Step → Option (ℕ × List Step)
+
 -- Where steps lead, by lines and their numbers, is where the code finds that the first of them leads.
-abbrev pub LeadsTo : RowsView → Stretch → (List Line → (Position → ℕ) → List Step → Option (ℕ × List Step)) → Step → Option nexts.Next → Type 0
-LeadsTo s d leads step found = (h : HasDocument s d) (ss : List Step) → leads (lines_of_rows h.stand.rows) (line_number d h.stand.rows) ss ≡ option_and_then (next_reached d h.stand.rows step ss) found
+abbrev pub LeadsTo : RowsView → Stretch → LeadsOfSteps → Step → Option nexts.Next → Type 0
+LeadsTo s d leads step found =
+    (h : HasDocument s d) (ss : List Step) →
+    leads (lines_of_rows h.are_there.rows) (line_number d h.are_there.rows) ss ≡ option_and_then (next_reached d h.are_there.rows step ss) found
 
 -- the line where a step leads
 abbrev pub next_position : nexts.Next → Position

@@ -4,13 +4,13 @@ use Rattle.std.proofs.Common.{cond, refl, sym, ap, ◌∙◌, subst, arith, appe
 use Rattle.std.{proofs.Math.Seq.{take-append_seam, drop-append_seam}, proofs.lemmas.Bool.eq-eqb, proofs.lemmas.Option.slice_get-map}
 use Rattle.std.{specs.List.slice_get, specs.Str.{IsUtf8, IsCharBoundary}}
 use Rattle.yq_core.{specs.Answers.◌>>=◌, specs.Text.{joined, text_lines}, proofs.LineLaws.joined_lines}
-use Rattle.yq_row_table.{specs.Exchange.row_front, specs.Gap.IsGap, specs.Rows.{Row, behind_gap, print_row, Cut}}
+use Rattle.yq_row_table.{specs.Exchange.row_front, specs.Gap.IsGap, specs.Rows.{Row, following_gap, print_row, Cut}}
 use Rattle.yq_row_table.{specs.View.{Slices, slices, rows_of, RowsView}, proofs.NodePieces.{BeginsAscii, before_ascii}}
 use Rattle.yq_row_table.{proofs.PlaceLaws.{row_front-append, row_in}, proofs.SliceLaws.content_slices}
 use Rattle.yq_documents.{specs.declared.path.Path.Path, specs.Located.steps_of, specs.Pieces.{TextPiece, before_run, last_run}}
 use Rattle.yq_documents.{specs.Reading.cut_of, specs.LinesInRows.{row_line_at, document_row}, proofs.RunLaws.run_split}
 use Rattle.yq_outline.{specs.declared.line_position.Position.Position, specs.Extents.row_start}
-use Rattle.yq_places.{specs.CommentPlaces.{text_to_line_end, gap_above, above_row, lines_above}, specs.LineReading.GapStands}
+use Rattle.yq_places.{specs.CommentPlaces.{text_to_line_end, gap_above, above_row, lines_above}, specs.LineReading.GapIsThere}
 use Rattle.yq_places.{specs.PlacedRows.PlacedRow, specs.RowLineReading.position_in, specs.RowWalk.HasCut}
 use Rattle.yq_places.{proofs.CommentPieceLaws.{row_place, run_begins}, proofs.PlacedRowLaws.{row_line_placed, no_row_line_placed}}
 use Rattle.yq_places.{proofs.SeamLaws.{IsSeam, seam_boundary, seam_then, gap_seam, row_seam}, proofs.StartLaws.start_agrees}
@@ -47,7 +47,7 @@ pub gap_split : (gap : List ℕ) → gap ≡ joined (before_run (text_lines gap)
 gap_split gap = sym (run_split (text_lines gap) ∙ joined_lines gap)
 
 -- the lines above a row, by the length of their run
-module _ (t : List ℕ) (start : ℕ) (gap run : List ℕ) (h : GapStands t start gap) (is : text_lines run ≡ last_run (text_lines gap)) where
+module _ (t : List ℕ) (start : ℕ) (gap run : List ℕ) (h : GapIsThere t start gap) (is : text_lines run ≡ last_run (text_lines gap)) where
   abbrev kept : List ℕ
   kept = joined (before_run (text_lines gap))
 
@@ -74,9 +74,9 @@ module _ (t : List ℕ) (start : ℕ) (gap run : List ℕ) (h : GapStands t star
       subst (λ n. IsCharBoundary front n) (sym size) (subst (λ x. IsCharBoundary x (length (h.before ++ kept))) (sym (e ∙ parts))
       (before_ascii (h.before ++ kept) run (subst BeginsAscii (sym run_is) (run_ascii (text_lines gap)))))
 
-  pub above_is : (front before behind : List ℕ) → front ≡ take (start + length gap) t → behind ≡ drop (start + length gap) t → before ≡ take (start + length gap - length run) front →
-      (k : GapStands t start gap) → ◌≡◌ {A = TextPiece} (record { before = before; text = run; behind = behind }) (gap_above k.before gap k.rest)
-  above_is front before behind e d b k =
+  pub above_is : (front before after : List ℕ) → front ≡ take (start + length gap) t → after ≡ drop (start + length gap) t → before ≡ take (start + length gap - length run) front →
+      (k : GapIsThere t start gap) → ◌≡◌ {A = TextPiece} (record { before = before; text = run; after = after }) (gap_above k.before gap k.rest)
+  above_is front before after e d b k =
       let whole : front ≡ (h.before ++ kept) ++ run = e ∙ parts in
       let first : before ≡ h.before ++ kept = b ∙ ((λ i. take (size i) (whole i)) ∙ take-append_seam (h.before ++ kept) run) in
       let ends : h.before ≡ k.before =
@@ -90,21 +90,21 @@ module _ (t : List ℕ) (x : RowsView) (held : HasCut t x) (path : Path) (n : Po
   abbrev w : PlacedRow
   w = (row_line_placed path (cut_of t) n row_line_is).0
 
-  whole : t ≡ w.before ++ print_row w.row w.behind
+  whole : t ≡ w.before ++ print_row w.row w.after
   whole = search (rules, row_line_placed, row_place)
 
   -- the lines above
-  pub gap_stands : (start : ℕ) (gap text : List ℕ) → start ≡ row_start n.row x → ((y : Slices) → slice_get x.rows n.row ≡ Some y → gap ≡ y.gap) →
-      text ≡ t → IsUtf8 t → (h : GapStands text start gap) × (h.before ≡ w.before) × (h.rest ≡ behind_gap w.row w.behind) × (gap ≡ w.row.gap)
-  gap_stands start gap text begins has e u =
+  pub gap_is_there : (start : ℕ) (gap text : List ℕ) → start ≡ row_start n.row x → ((y : Slices) → slice_get x.rows n.row ≡ Some y → gap ≡ y.gap) →
+      text ≡ t → IsUtf8 t → (h : GapIsThere text start gap) × (h.before ≡ w.before) × (h.rest ≡ following_gap w.row w.after) × (gap ≡ w.row.gap)
+  gap_is_there start gap text begins has e u =
       let at = (row_line_placed path (cut_of t) n row_line_is).1.at in
       let view_row : slice_get x.rows n.row ≡ Some (slices w.row) = ap (λ (y : RowsView). slice_get y.rows n.row) held.rows ∙ (slice_get-map slices (rows_of (cut_of t)) n.row ∙ ap (option_map slices) at.there) in
       let gap_is : gap ≡ w.row.gap = has (slices w.row) view_row in
       let start_is : start ≡ length w.before = begins ∙ (ap (row_start n.row) held.rows ∙ (start_agrees (cut_of t) n.row w.row at.there ∙ ap length at.before_is)) in
-      let rest : List ℕ = behind_gap w.row w.behind in
+      let rest : List ℕ = following_gap w.row w.after in
       let row = (row_in (cut_of t) n.row true w.row held.cut.parts at.there).row in
-      let front : IsSeam w.before (w.row.gap ++ rest) = subst (λ (q : List ℕ × List ℕ). IsSeam q.0 (print_row w.row q.1)) (λ i. (at.before_is i, at.behind_is i)) (row_seam (cut_of t) n.row true w.row held.cut.parts at.there) in
-      let inner : IsSeam w.row.gap rest = gap_seam w.row.gap rest (subst (λ q. IsGap w.row.gap (behind_gap w.row q)) at.behind_is row.gap) in
+      let front : IsSeam w.before (w.row.gap ++ rest) = subst (λ (q : List ℕ × List ℕ). IsSeam q.0 (print_row w.row q.1)) (λ i. (at.before_is i, at.following_is i)) (row_seam (cut_of t) n.row true w.row held.cut.parts at.there) in
+      let inner : IsSeam w.row.gap rest = gap_seam w.row.gap rest (subst (λ q. IsGap w.row.gap (following_gap w.row q)) at.following_is row.gap) in
       let seam : IsSeam (w.before ++ w.row.gap) rest = seam_then w.before w.row.gap rest front inner in
       let parts : t ≡ (w.before ++ w.row.gap) ++ rest = whole ∙ sym (append_assoc w.before w.row.gap rest) in
       let bound : IsCharBoundary t (length (w.before ++ w.row.gap)) = subst (λ q. IsCharBoundary q (length (w.before ++ w.row.gap))) (sym parts) (seam_boundary (w.before ++ w.row.gap) rest (subst IsUtf8 parts u) seam) in
@@ -122,9 +122,9 @@ module _ (t : List ℕ) (x : RowsView) (held : HasCut t x) (path : Path) (n : Po
       )
 
   pub lines_above_is : (start : ℕ) (gap text : List ℕ) (column : ℕ) (above : TextPiece) (begins : start ≡ row_start n.row x) (has : (y : Slices) → slice_get x.rows n.row ≡ Some y → gap ≡ y.gap) (e : text ≡ t) (u : IsUtf8 t) →
-      ((y : Slices) → slice_get x.rows n.row ≡ Some y → column ≡ y.column) → n.line ≡ 0 → ((h : GapStands text start gap) → above ≡ gap_above h.before gap h.rest) → Some (column, above) ≡ lines_above path.doc (steps_of path) (cut_of t)
+      ((y : Slices) → slice_get x.rows n.row ≡ Some y → column ≡ y.column) → n.line ≡ 0 → ((h : GapIsThere text start gap) → above ≡ gap_above h.before gap h.rest) → Some (column, above) ≡ lines_above path.doc (steps_of path) (cut_of t)
   lines_above_is start gap text column above begins has e u columns first agrees =
       let k = (row_line_placed path (cut_of t) n row_line_is).1 in
-      let g = gap_stands start gap text begins has e u in
+      let g = gap_is_there start gap text begins has e u in
       let view_row : slice_get x.rows n.row ≡ Some (slices w.row) = ap (λ (y : RowsView). slice_get y.rows n.row) held.rows ∙ (slice_get-map slices (rows_of (cut_of t)) n.row ∙ ap (option_map slices) k.at.there) in
       search (rules, eq-eqb, k, g, view_row)

@@ -11,34 +11,34 @@ use Rattle.yq_places.proofs.PieceTexts.{tail_text, entry_text, document_text, en
 use Rattle.yq_documents.specs.Pieces.{TextPiece, HoldsPiece, tail_comment, content_comment, gap_comment}
 use Rattle.yq_documents.specs.declared.path.Part.TheVariants as parts
 
-pub no_tail : (before behind : List ℕ) → tail_comment before [] behind ≡ None
+pub no_tail : (before after : List ℕ) → tail_comment before [] after ≡ None
 unfolding upto
-no_tail before behind = refl
+no_tail before after = refl
 
-pub no_gap : (before behind : List ℕ) → gap_comment before [] behind ≡ None
+pub no_gap : (before after : List ℕ) → gap_comment before [] after ≡ None
 unfolding text_lines
-no_gap before behind = refl
+no_gap before after = refl
 
-pub no_comment : (before : List ℕ) (c : Content) (behind : List ℕ) → c ≡ Nothing [] → content_comment before c behind ≡ None
-no_comment before c behind e = ap (λ x. content_comment before x behind) e ∙ no_tail (before ++ []) ([] ++ behind)
+pub no_comment : (before : List ℕ) (c : Content) (after : List ℕ) → c ≡ Nothing [] → content_comment before c after ≡ None
+no_comment before c after e = ap (λ x. content_comment before x after) e ∙ no_tail (before ++ []) ([] ++ after)
 
-content_holds : (before : List ℕ) (c : Content) (behind : List ℕ) (x : TextPiece) (t : List ℕ) → before ++ content_text c behind ≡ t → IsUtf8 t →
-    (c ≡ Nothing []) ⊎ Ended (content_cut c).4 ((content_cut c).5 ++ behind) → content_comment before c behind ≡ Some x → HoldsPiece t x
-content_holds before c behind x t text u (inl none) is = absurd (none-some _ (sym (no_comment before c behind none) ∙ is))
-content_holds before c behind x t text u (inr ended) is =
+content_holds : (before : List ℕ) (c : Content) (after : List ℕ) (x : TextPiece) (t : List ℕ) → before ++ content_text c after ≡ t → IsUtf8 t →
+    (c ≡ Nothing []) ⊎ Ended (content_cut c).4 ((content_cut c).5 ++ after) → content_comment before c after ≡ Some x → HoldsPiece t x
+content_holds before c after x t text u (inl none) is = absurd (none-some _ (sym (no_comment before c after none) ∙ is))
+content_holds before c after x t text u (inr ended) is =
     let s = content_cut c in
-    let whole = tail_text before c behind ∙ text in
-    subst (λ q. HoldsPiece q x) whole (tail_piece (before ++ (s.0 ++ (s.1 ++ (s.2 ++ s.3)))) s.4 (s.5 ++ behind) x (subst IsUtf8 (sym whole) u) ended is)
+    let whole = tail_text before c after ∙ text in
+    subst (λ q. HoldsPiece q x) whole (tail_piece (before ++ (s.0 ++ (s.1 ++ (s.2 ++ s.3)))) s.4 (s.5 ++ after) x (subst IsUtf8 (sym whole) u) ended is)
 
-entry_holds : (e : BlockEntry) (x : TextPiece) → IsUtf8 (entry_text e) → IsPrinted e.line (print_lines e.under e.behind) →
+entry_holds : (e : BlockEntry) (x : TextPiece) → IsUtf8 (entry_text e) → IsPrinted e.line (print_lines e.under e.after) →
     (piece_in_entry parts.LineComment [] e ≡ Some x) ⊎ (piece_in_entry parts.HeadComment [] e ≡ Some x) → HoldsPiece (entry_text e) x
 entry_holds e x u as_printed (inl is) = search (rules, content_holds, entry_text, append_assoc)
 entry_holds e x u as_printed (inr is) =
-    let rest = e.line.spaces ++ line_rest e.line (print_lines e.under e.behind) in
-    let whole : e.before ++ (e.line.gap ++ (e.line.spaces ++ line_rest e.line (print_lines e.under e.behind))) ≡ entry_text e = simp (append_assoc) in
+    let rest = e.line.spaces ++ line_rest e.line (print_lines e.under e.after) in
+    let whole : e.before ++ (e.line.gap ++ (e.line.spaces ++ line_rest e.line (print_lines e.under e.after))) ≡ entry_text e = simp (append_assoc) in
     subst (λ q. HoldsPiece q x) whole (gap_piece e.before e.line.gap rest x (subst IsUtf8 (sym whole) u) as_printed.gap is)
 
-pub comments_hold : (steps : List Step) (s : PrintedDocument) (x : TextPiece) → IsUtf8 (document_text s) → ArePrinted s.lines s.behind →
+pub comments_hold : (steps : List Step) (s : PrintedDocument) (x : TextPiece) → IsUtf8 (document_text s) → ArePrinted s.lines s.after →
     (piece_in parts.LineComment steps s ≡ Some x) ⊎ (piece_in parts.HeadComment steps s ≡ Some x) → HoldsPiece (document_text s) x
 comments_hold [] s x u as_printed (inl is) = absurd (none-some _ is)
 comments_hold [] s x u as_printed (inr is) = absurd (none-some _ is)

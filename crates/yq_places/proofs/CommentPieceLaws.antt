@@ -8,7 +8,7 @@ use Rattle.std.{proofs.lemmas.Str.{IsUtf8-take, IsUtf8-between}, specs.List.slic
 use Rattle.yq_core.specs.Text.{cut, front, ends_line, is_break, is_line, is_empty, joined, text_lines, no_white, past_white, upto}
 use Rattle.yq_core.{proofs.BlockPieceLaws.{IsLf, line_lf, append_lf, cut_lf}, proofs.Boundaries.{white_ascii, break_ascii}}
 use Rattle.yq_core.{proofs.LineLaws.joined_lines, proofs.Upto.upto_ends}
-use Rattle.yq_row_table.{specs.Exchange.{before_content, text_after_row, behind_row, HasPieces}, specs.Gap.{IsLineEnd, IsGap, AreGapLines}}
+use Rattle.yq_row_table.{specs.Exchange.{before_content, text_after_row, after_row, HasPieces}, specs.Gap.{IsLineEnd, IsGap, AreGapLines}}
 use Rattle.yq_row_table.specs.Grammar.{IsTail, IsContent}
 use Rattle.yq_row_table.specs.Rows.{Content, Nothing, Inline, Block, Row, print_row, rows_text, Part, part_text, Cut, last, marked}
 use Rattle.yq_row_table.{specs.Rows.cut_text, specs.View.{content_cut, slices, rows_of}, proofs.ExchangeLaws.{slice_front, slice_back}}
@@ -18,33 +18,33 @@ use Rattle.yq_documents.{specs.Pieces.{last_run, before_run, tail_comment, gap_c
 use Rattle.yq_places.specs.CommentReading.{before_row, before_tail}
 
 -- a text in three pieces, by the two places
-pieces_at : (before old behind : List ℕ) → IsUtf8 (before ++ (old ++ behind)) → IsCharBoundary (before ++ (old ++ behind)) (length before) → IsCharBoundary (before ++ (old ++ behind)) (length before + length old) →
-    HasPieces (before ++ (old ++ behind)) before old behind
-pieces_at before old behind u start end =
-    let t : List ℕ = before ++ (old ++ behind) in
+pieces_at : (before old after : List ℕ) → IsUtf8 (before ++ (old ++ after)) → IsCharBoundary (before ++ (old ++ after)) (length before) → IsCharBoundary (before ++ (old ++ after)) (length before + length old) →
+    HasPieces (before ++ (old ++ after)) before old after
+pieces_at before old after u start end =
+    let t : List ℕ = before ++ (old ++ after) in
     let front : IsUtf8 (take (length before) t) = IsUtf8-take t (length before) u start in
     let within : IsUtf8 (take (length before + length old - length before) (drop (length before) t)) = IsUtf8-between t (length before) (length before + length old) u (omega arith) start end in
     let middle : take (length before + length old - length before) (drop (length before) t) ≡ old =
-    ap (λ (q : List ℕ). take (length before + length old - length before) q) (drop-append_seam before (old ++ behind))
-    ∙ (ap (λ (n : ℕ). take n (old ++ behind)) (let same : length before + length old - length before ≡ length old = omega arith in same)
-    ∙ take-append_seam old behind) in
+    ap (λ (q : List ℕ). take (length before + length old - length before) q) (drop-append_seam before (old ++ after))
+    ∙ (ap (λ (n : ℕ). take n (old ++ after)) (let same : length before + length old - length before ≡ length old = omega arith in same)
+    ∙ take-append_seam old after) in
     search (rules, take-append_seam, front, within, middle)
 
 -- the end of a piece: an LF is its last byte, or nothing is after it
 abbrev pub Ended : List ℕ → List ℕ → Type 0
 Ended p rest = IsLf p ⊎ (rest ≡ [])
 
-begins_at : (before old behind : List ℕ) → BeginsAscii (old ++ behind) → IsCharBoundary (before ++ (old ++ behind)) (length before)
-begins_at before old behind h = before_ascii before (old ++ behind) h
+begins_at : (before old after : List ℕ) → BeginsAscii (old ++ after) → IsCharBoundary (before ++ (old ++ after)) (length before)
+begins_at before old after h = before_ascii before (old ++ after) h
 
-ends_ascii : (before old behind : List ℕ) → BeginsAscii behind → IsCharBoundary (before ++ (old ++ behind)) (length before + length old)
-ends_ascii before old behind h =
-    subst (λ (n : ℕ). IsCharBoundary (before ++ (old ++ behind)) n) (length-append before old)
-    (subst (λ (q : List ℕ). IsCharBoundary q (length (before ++ old))) (append_assoc before old behind) (before_ascii (before ++ old) behind h))
+ends_ascii : (before old after : List ℕ) → BeginsAscii after → IsCharBoundary (before ++ (old ++ after)) (length before + length old)
+ends_ascii before old after h =
+    subst (λ (n : ℕ). IsCharBoundary (before ++ (old ++ after)) n) (length-append before old)
+    (subst (λ (q : List ℕ). IsCharBoundary q (length (before ++ old))) (append_assoc before old after) (before_ascii (before ++ old) after h))
 
-ends_there : (before old behind : List ℕ) → IsUtf8 (before ++ (old ++ behind)) → Ended old behind → IsCharBoundary (before ++ (old ++ behind)) (length before + length old)
-ends_there before old behind u (inl lf) = cut_lf (before ++ (old ++ behind)) (before ++ old) behind (length before + length old) (sym (append_assoc before old behind)) (append_lf before old lf) (sym (length-append before old)) u
-ends_there before old behind u (inr none) = ends_ascii before old behind (subst BeginsAscii (sym none) tt)
+ends_there : (before old after : List ℕ) → IsUtf8 (before ++ (old ++ after)) → Ended old after → IsCharBoundary (before ++ (old ++ after)) (length before + length old)
+ends_there before old after u (inl lf) = cut_lf (before ++ (old ++ after)) (before ++ old) after (length before + length old) (sym (append_assoc before old after)) (append_lf before old lf) (sym (length-append before old)) u
+ends_there before old after u (inr none) = ends_ascii before old after (subst BeginsAscii (sym none) tt)
 
 suffix_lf : (a b : List ℕ) → IsLf (a ++ b) → 0 < length b → IsLf b
 suffix_lf [] b h some = h
@@ -94,16 +94,16 @@ tail_text tail = sym (take-append-drop (upto no_white tail) tail)
 -- a comment in a tail, as a piece of the text
 comment_piece : (before white c more : List ℕ) → IsUtf8 (before ++ ((white ++ c) ++ more)) → BeginsAscii (c ++ more) → Ended c more →
     HoldsPiece (before ++ ((white ++ c) ++ more))
-    (record { before = before ++ white; text = (cut ends_line c).0; behind = (cut ends_line c).1 ++ more })
+    (record { before = before ++ white; text = (cut ends_line c).0; after = (cut ends_line c).1 ++ more })
 comment_piece before white c more u begins ended =
     let text : List ℕ = (cut ends_line c).0 in
-    let behind : List ℕ = (cut ends_line c).1 ++ more in
-    let inner : c ++ more ≡ text ++ behind = ap (λ x. x ++ more) (sym (take-append-drop (upto ends_line c) c)) ∙ append_assoc text (cut ends_line c).1 more in
-    let whole : before ++ ((white ++ c) ++ more) ≡ (before ++ white) ++ (text ++ behind) = search (rules, append_assoc, text, behind, inner) in
-    subst (λ q. HasPieces q (before ++ white) text behind) (sym whole)
-    (pieces_at (before ++ white) text behind (subst IsUtf8 whole u)
-    (begins_at (before ++ white) text behind (subst BeginsAscii inner begins))
-    (ends_ascii (before ++ white) text behind (line_rest c more ended)))
+    let after : List ℕ = (cut ends_line c).1 ++ more in
+    let inner : c ++ more ≡ text ++ after = ap (λ x. x ++ more) (sym (take-append-drop (upto ends_line c) c)) ∙ append_assoc text (cut ends_line c).1 more in
+    let whole : before ++ ((white ++ c) ++ more) ≡ (before ++ white) ++ (text ++ after) = search (rules, append_assoc, text, after, inner) in
+    subst (λ q. HasPieces q (before ++ white) text after) (sym whole)
+    (pieces_at (before ++ white) text after (subst IsUtf8 whole u)
+    (begins_at (before ++ white) text after (subst BeginsAscii inner begins))
+    (ends_ascii (before ++ white) text after (line_rest c more ended)))
 
 cut_end : (white c tail more : List ℕ) → tail ≡ white ++ c → 0 < length c → Ended tail more → Ended c more
 cut_end white c tail more text some (inl lf) = inl (suffix_lf white c (subst IsLf text lf) some)
@@ -112,10 +112,10 @@ cut_end white c tail more text some (inr none) = inr none
 mark_piece : (before white tail more : List ℕ) (b : ℕ) (bs : List ℕ) → IsUtf8 (before ++ (tail ++ more)) → Ended tail more → tail ≡ white
     ++ (b ∷ bs) → b ≡ 35 →
     HoldsPiece (before ++ (tail ++ more))
-    (record { before = before ++ white; text = (cut ends_line (b ∷ bs)).0; behind = (cut ends_line (b ∷ bs)).1 ++ more })
+    (record { before = before ++ white; text = (cut ends_line (b ∷ bs)).0; after = (cut ends_line (b ∷ bs)).1 ++ more })
 mark_piece before white tail more b bs u ended text mark =
     let whole : before ++ (tail ++ more) ≡ before ++ ((white ++ (b ∷ bs)) ++ more) = ap (λ x. before ++ (x ++ more)) text in
-    subst (λ x. HoldsPiece x (record { before = before ++ white; text = (cut ends_line (b ∷ bs)).0; behind = (cut ends_line (b ∷ bs)).1 ++ more })) (sym whole)
+    subst (λ x. HoldsPiece x (record { before = before ++ white; text = (cut ends_line (b ∷ bs)).0; after = (cut ends_line (b ∷ bs)).1 ++ more })) (sym whole)
     (comment_piece before white (b ∷ bs) more (subst IsUtf8 whole u) (omega (arith, mark)) (cut_end white (b ∷ bs) tail more text (omega arith) ended))
 
 pub tail_piece : (before tail more : List ℕ) (q : TextPiece) → IsUtf8 (before ++ (tail ++ more)) → Ended tail more → tail_comment before tail more ≡ Some q → HoldsPiece (before ++ (tail ++ more)) q
@@ -123,7 +123,7 @@ tail_piece before tail more q u ended is = go (past_white tail) refl is
   where
     test : (c : Bool) (b : ℕ) (bs : List ℕ) → past_white tail ≡ b ∷ bs → eqb b 35 ≡ c →
         cond c (Some (record
-        { before = before ++ (cut no_white tail).0; text = (cut ends_line (b ∷ bs)).0; behind = (cut ends_line (b ∷ bs)).1 ++ more })) None ≡ Some
+        { before = before ++ (cut no_white tail).0; text = (cut ends_line (b ∷ bs)).0; after = (cut ends_line (b ∷ bs)).1 ++ more })) None ≡ Some
         q → HoldsPiece (before ++ (tail ++ more)) q
     test true b bs e mark found =
         subst (HoldsPiece (before ++ (tail ++ more))) (same_Some _ _ found)
@@ -132,7 +132,7 @@ tail_piece before tail more q u ended is = go (past_white tail) refl is
 
     go : (c : List ℕ) → past_white tail ≡ c →
         cond (front (λ b. eqb b 35) c)
-        (Some (record { before = before ++ (cut no_white tail).0; text = (cut ends_line c).0; behind = (cut ends_line c).1 ++ more })) None ≡ Some
+        (Some (record { before = before ++ (cut no_white tail).0; text = (cut ends_line c).0; after = (cut ends_line c).1 ++ more })) None ≡ Some
         q → HoldsPiece (before ++ (tail ++ more)) q
     go c e found = search (rules, test)
 
@@ -180,7 +180,7 @@ gap_piece before gap rest q u ended is = go (is_empty (joined (last_run (text_li
 
     go : (b : Bool) → is_empty (joined (last_run (text_lines gap))) ≡ b →
         cond b None (Some (record
-        { before = before ++ joined (before_run (text_lines gap)); text = joined (last_run (text_lines gap)); behind = rest })) ≡ Some q →
+        { before = before ++ joined (before_run (text_lines gap)); text = joined (last_run (text_lines gap)); after = rest })) ≡ Some q →
         HoldsPiece (before ++ (gap ++ rest)) q
     go true e found = absurd (cc)
     go false e found =
@@ -201,19 +201,19 @@ row_at (x ∷ rows) (suc i) r rest h = ap (print_row x) (row_at rows i r rest h)
 part_place : (p : Part) (marker before text rest : List ℕ) → rest ≡ before ++ text → part_text p (marker ++ rest) ≡ part_text p (marker ++ before) ++ text
 part_place p marker before text rest h = ap (λ l. part_text p (marker ++ l)) h ∙ (ap (part_text p) (sym (append_assoc marker before text)) ∙ part_then p (marker ++ before) text)
 
-pub row_place : (c : Cut) (i : ℕ) (r : Row) → slice_get (rows_of c) i ≡ Some r → cut_text c ≡ before_row i c ++ print_row r (behind_row i c)
+pub row_place : (c : Cut) (i : ℕ) (r : Row) → slice_get (rows_of c) i ≡ Some r → cut_text c ≡ before_row i c ++ print_row r (after_row i c)
 row_place (last p) i r h = row_at p.rows i r (p.end ++ []) h
 row_place (marked p marker c) i r h = go (cases_lt i (length p.rows)) (λ there. row_place c (i - length p.rows) r there)
   where
-    go : (i < length p.rows) ⊎ (length p.rows ≤ i) → (slice_get (rows_of c) (i - length p.rows) ≡ Some r → cut_text c ≡ before_row (i - length p.rows) c ++ print_row r (behind_row (i - length p.rows) c)) →
-        cut_text (marked p marker c) ≡ before_row i (marked p marker c) ++ print_row r (behind_row i (marked p marker c))
+    go : (i < length p.rows) ⊎ (length p.rows ≤ i) → (slice_get (rows_of c) (i - length p.rows) ≡ Some r → cut_text c ≡ before_row (i - length p.rows) c ++ print_row r (after_row (i - length p.rows) c)) →
+        cut_text (marked p marker c) ≡ before_row i (marked p marker c) ++ print_row r (after_row i (marked p marker c))
     go h1 h2 = search (rules, lt-ltb, row_at, slice_front, le-ltb, part_place, slice_back)
 
 apart : (a b c d e x : List ℕ) → a ++ (b ++ (c ++ (d ++ (e ++ x)))) ≡ (a ++ (b ++ (c ++ (d ++ e)))) ++ x
 apart a b c d e x = simp append_assoc refl
 
 -- the place of a row's tail
-pub tail_place : (c : Cut) (i : ℕ) (r : Row) → slice_get (rows_of c) i ≡ Some r → cut_text c ≡ before_tail i r c ++ ((slices r).tail ++ ((slices r).raw ++ behind_row i c))
+pub tail_place : (c : Cut) (i : ℕ) (r : Row) → slice_get (rows_of c) i ≡ Some r → cut_text c ≡ before_tail i r c ++ ((slices r).tail ++ ((slices r).raw ++ after_row i c))
 tail_place c i r is =
-    place c i r is ∙ (ap (λ x. before_content i c ++ x) (sym (content_slices r.content (behind_row i c)))
-    ∙ apart (before_content i c) (slices r).space (slices r).anchor (slices r).apart (slices r).head ((slices r).tail ++ ((slices r).raw ++ behind_row i c)))
+    place c i r is ∙ (ap (λ x. before_content i c ++ x) (sym (content_slices r.content (after_row i c)))
+    ∙ apart (before_content i c) (slices r).space (slices r).anchor (slices r).apart (slices r).head ((slices r).tail ++ ((slices r).raw ++ after_row i c)))

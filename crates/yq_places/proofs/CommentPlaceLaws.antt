@@ -15,8 +15,8 @@ use Rattle.yq_outline.{specs.Extents.{row_start, front_length, lines_before_mark
 pair : (a b c d : ℕ) → a ≡ b → c ≡ d → ◌≡◌ {A = ℕ × ℕ} (a, c) (b, d)
 pair a b c d e f = λ i. (e i, f i)
 
-pub tail_view : (before tail behind : List ℕ) (start : ℕ) → start ≡ length before → tail_span start tail ≡ option_map piece_span (tail_comment before tail behind)
-tail_view before tail behind start e = search (rules, pair, length-append)
+pub tail_view : (before tail after : List ℕ) (start : ℕ) → start ≡ length before → tail_span start tail ≡ option_map piece_span (tail_comment before tail after)
+tail_view before tail after start e = search (rules, pair, length-append)
 
 pub tail_fits : (start : ℕ) (tail white comment text rest : List ℕ) → (white, comment) ≡ cut no_white tail → (text, rest) ≡ cut ends_line comment → start + length tail ≤ text_limit → start + length white + length text ≤ text_limit
 tail_fits start tail white comment text rest e1 e2 h = search (rules, arith, length-take, length-drop)
@@ -59,8 +59,8 @@ some_span start gap run h1 = search rules
 pub some_run : (start : ℕ) (gap run : List ℕ) → text_lines run ≡ last_run (text_lines gap) → 0 < length run → Some (start + length gap - length run, start + length gap) ≡ gap_span start gap
 some_run start gap run e some = some_span start gap run some ∙ ap (span_of start gap) (sym (run_is gap run e))
 
-pub gap_agrees : (before gap behind : List ℕ) (start : ℕ) → start ≡ length before → gap_span start gap ≡ option_map piece_span (gap_comment before gap behind)
-gap_agrees before gap behind start e = go (is_empty (joined (last_run (text_lines gap))))
+pub gap_agrees : (before gap after : List ℕ) (start : ℕ) → start ≡ length before → gap_span start gap ≡ option_map piece_span (gap_comment before gap after)
+gap_agrees before gap after start e = go (is_empty (joined (last_run (text_lines gap))))
   where
     run : List ℕ
     run = joined (last_run (text_lines gap))
@@ -68,7 +68,7 @@ gap_agrees before gap behind start e = go (is_empty (joined (last_run (text_line
     other : List ℕ
     other = joined (before_run (text_lines gap))
 
-    go : (b : Bool) → cond b None (Some (start + length gap - length run, start + length gap)) ≡ option_map piece_span (cond b None (Some (record { before = before ++ other; text = run; behind = behind })))
+    go : (b : Bool) → cond b None (Some (start + length gap - length run, start + length gap)) ≡ option_map piece_span (cond b None (Some (record { before = before ++ other; text = run; after = after })))
     go true = refl
     go false = ap Some (pair _ _ _ _ (omega (arith, e, run_length gap, length-append before other)) (omega (arith, e, run_length gap, length-append before other)))
 

@@ -4,7 +4,7 @@ use Rattle.std.proofs.Common.{option_and_then, Bool, true, false, cond, refl, sy
 use Rattle.std.{proofs.lemmas.Bool.{eqb-true, eqb-false}, specs.List.slice_get}
 use Rattle.yq_core.{specs.Answers.◌>>=◌, specs.Paths.Step}
 use Rattle.yq_outline.{specs.Ends.{found_line, line_at_steps}, specs.Group.group, specs.Places.{lines_before, FoundLine, find}}
-use Rattle.yq_row_table.{specs.Exchange.{before_content, behind_row}, specs.Rows.{dashes_text, behind_gap, Row, Part, Cut}}
+use Rattle.yq_row_table.{specs.Exchange.{before_content, after_row}, specs.Rows.{dashes_text, following_gap, Row, Part, Cut}}
 use Rattle.yq_row_table.specs.View.{content_cut, slices, rows_of}
 use Rattle.yq_documents.{specs.declared.path.Path.Path, specs.Documents.document_parts, specs.Located.steps_of}
 use Rattle.yq_documents.specs.Pieces.{piece_span, tail_comment, content_comment, gap_comment}
@@ -13,7 +13,7 @@ use Rattle.yq_places.specs.CommentReading.{before_row, before_tail, line_comment
 use Rattle.yq_places.specs.PathPieces.{PrintedDocument, printed_document, found_entry, piece_in_entry, piece_in, path_piece}
 use Rattle.yq_places.specs.PrintedLines.{PrintedLine, line_front, print_lines, printed_lines, line_in}
 use Rattle.yq_places.{proofs.CommentHolds.{no_gap, no_comment}, proofs.CommentPlaceLaws.{tail_view, gap_agrees}, proofs.PieceHolds.no_part}
-use Rattle.yq_places.{specs.PlacedRows.placed_document, proofs.PlacedPartLaws.part_stands, proofs.PrintedLaws.lines_are}
+use Rattle.yq_places.{specs.PlacedRows.placed_document, proofs.PlacedPartLaws.part_is_there, proofs.PrintedLaws.lines_are}
 use Rattle.yq_places.{proofs.FoundEntries.{line_there, entry_is}, proofs.PrintedTexts.{map_some, lines_then}}
 use Rattle.yq_places.proofs.RunSpans.{begin_is, content_size, row_line_at as row_line_there}
 use Rattle.yq_places.proofs.PrintedRowLines.{IsPrintedLine, IsPlaced, document_placed}
@@ -28,9 +28,9 @@ gap_same a b gap x y e = sym (gap_agrees a gap x (length a) refl) ∙ gap_agrees
 
 -- the lines of a document among those of a cut
 module _ (c : Cut) (p : Part) (more : List Row) (k : ℕ) (start end : List ℕ) (there : drop k (rows_of c) ≡ p.rows ++ more)
-    (placed : IsPlaced c k p (record { before = start; lines = printed_lines p.rows; behind = end })) where
+    (placed : IsPlaced c k p (record { before = start; lines = printed_lines p.rows; after = end })) where
   abbrev document : PrintedDocument
-  document = record { before = start; lines = printed_lines p.rows; behind = end }
+  document = record { before = start; lines = printed_lines p.rows; after = end }
 
   abbrev before : ℕ → List ℕ
   before n = start ++ print_lines (take n (printed_lines p.rows)) []
@@ -43,7 +43,7 @@ module _ (c : Cut) (p : Part) (more : List Row) (k : ℕ) (start end : List ℕ)
     where
       go : (q : RowLine) → row_line n p.rows ≡ Some q → (d : IsPrintedLine p.rows n q) → d.line ≡ l → (b : Bool) → eqb q.line (length q.row.dashes) ≡ b →
           option_map piece_span (content_comment (before n ++ (line_front l ++ l.mark)) l.content rest) ≡
-          option_map piece_span (cond (eqb q.line (length q.row.dashes)) (tail_comment (before_tail (k + q.before) q.row c) (slices q.row).tail ((slices q.row).raw ++ behind_row (k + q.before) c)) None)
+          option_map piece_span (cond (eqb q.line (length q.row.dashes)) (tail_comment (before_tail (k + q.before) q.row c) (slices q.row).tail ((slices q.row).raw ++ after_row (k + q.before) c)) None)
       go q is d line true e =
           let at : q.line ≡ length q.row.dashes = eqb-true q.line (length q.row.dashes) e in
           let x = content_cut q.row.content in
@@ -71,7 +71,7 @@ module _ (c : Cut) (p : Part) (more : List Row) (k : ℕ) (start end : List ℕ)
       go a.0 a.1 a.2 a.3 (eqb a.0.line 0) refl ∙ sym (ap (λ (o : Option RowLine). option_map piece_span (o >>= λ q. head_comment_in (k + q.before) q c)) a.1)
     where
       go : (q : RowLine) → row_line n p.rows ≡ Some q → (d : IsPrintedLine p.rows n q) → d.line ≡ l → (b : Bool) → eqb q.line 0 ≡ b →
-          option_map piece_span (gap_comment (before n) l.gap rest) ≡ option_map piece_span (cond (eqb q.line 0) (gap_comment (before_row (k + q.before) c) q.row.gap (behind_gap q.row (behind_row (k + q.before) c))) None)
+          option_map piece_span (gap_comment (before n) l.gap rest) ≡ option_map piece_span (cond (eqb q.line 0) (gap_comment (before_row (k + q.before) c) q.row.gap (following_gap q.row (after_row (k + q.before) c))) None)
       go q is d line true e =
           let at : q.line ≡ 0 = eqb-true q.line 0 e in
           let gap : l.gap ≡ q.row.gap = ap (λ (y : PrintedLine). y.gap) (sym line) ∙ (d.first at).0 in
@@ -86,7 +86,7 @@ module _ (c : Cut) (p : Part) (more : List Row) (k : ℕ) (start end : List ℕ)
             ap length (d.first at).0,
             ap length (d.first at).1,
           ) in
-          cc (gap_same (before n) (before_row (k + q.before) c) q.row.gap rest (behind_gap q.row (behind_row (k + q.before) c)) size)
+          cc (gap_same (before n) (before_row (k + q.before) c) q.row.gap rest (following_gap q.row (after_row (k + q.before) c)) size)
       go q is d line false e = search (rules, eqb-false, no_gap)
 
   pub beside_spans : (steps : List Step) → option_map piece_span (piece_in parts.LineComment steps document) ≡ option_map piece_span (row_line_of steps p.rows >>= λ q. line_comment_in (k + q.before) q c)
@@ -123,7 +123,7 @@ module _ (c : Cut) (p : Part) (more : List Row) (k : ℕ) (start end : List ℕ)
 document_lines : (n : ℕ) (c : Cut) (s : PrintedDocument) → printed_document n c ≡ Some s → (p : Part) × (slice_get (document_parts c) n ≡ Some p) × (s.lines ≡ printed_lines p.rows)
 document_lines n c s e =
     let d = map_some (placed_document n c) e in
-    (d.0.part, (part_stands n c d.0 d.1).there, ap (λ (y : PrintedDocument). y.lines) (sym d.2))
+    (d.0.part, (part_is_there n c d.0 d.1).there, ap (λ (y : PrintedDocument). y.lines) (sym d.2))
 
 -- Where the comments at a path are, by their row lines.
 pub record AreSpans (path : Path) (c : Cut) : Type 0 where
@@ -139,9 +139,9 @@ comment_spans path c = record { line = beside (printed_document path.doc c) refl
     beside (Some s) is =
         let q = document_lines path.doc c s is in
         let b = part_begins c path.doc q.0 q.1 in
-        let own : s ≡ record { before = s.before; lines = printed_lines q.0.rows; behind = s.behind } = (λ i. record { before = s.before; lines = q.2 i; behind = s.behind }) in
+        let own : s ≡ record { before = s.before; lines = printed_lines q.0.rows; after = s.after } = (λ i. record { before = s.before; lines = q.2 i; after = s.after }) in
         ap (λ x. option_map piece_span (piece_in parts.LineComment (steps_of path) x)) own
-        ∙ (beside_spans c q.0 b.0 (document_row path.doc c) s.before s.behind b.1 (subst (IsPlaced c (document_row path.doc c) q.0) own (document_placed path.doc c q.0 s q.1 is)) (steps_of path)
+        ∙ (beside_spans c q.0 b.0 (document_row path.doc c) s.before s.after b.1 (subst (IsPlaced c (document_row path.doc c) q.0) own (document_placed path.doc c q.0 s q.1 is)) (steps_of path)
         ∙ sym (ap (λ (d : Option Part). option_map piece_span ((d >>= λ d. row_line_of (steps_of path) d.rows) >>= λ q. line_comment_in (document_row path.doc c + q.before) q c)) q.1))
 
     above : (o : Option PrintedDocument) → printed_document path.doc c ≡ o →
@@ -150,7 +150,7 @@ comment_spans path c = record { line = beside (printed_document path.doc c) refl
     above (Some s) is =
         let q = document_lines path.doc c s is in
         let b = part_begins c path.doc q.0 q.1 in
-        let own : s ≡ record { before = s.before; lines = printed_lines q.0.rows; behind = s.behind } = (λ i. record { before = s.before; lines = q.2 i; behind = s.behind }) in
+        let own : s ≡ record { before = s.before; lines = printed_lines q.0.rows; after = s.after } = (λ i. record { before = s.before; lines = q.2 i; after = s.after }) in
         ap (λ x. option_map piece_span (piece_in parts.HeadComment (steps_of path) x)) own
-        ∙ (above_spans c q.0 b.0 (document_row path.doc c) s.before s.behind b.1 (subst (IsPlaced c (document_row path.doc c) q.0) own (document_placed path.doc c q.0 s q.1 is)) (steps_of path)
+        ∙ (above_spans c q.0 b.0 (document_row path.doc c) s.before s.after b.1 (subst (IsPlaced c (document_row path.doc c) q.0) own (document_placed path.doc c q.0 s q.1 is)) (steps_of path)
         ∙ sym (ap (λ (d : Option Part). option_map piece_span ((d >>= λ d. row_line_of (steps_of path) d.rows) >>= λ q. head_comment_in (document_row path.doc c + q.before) q c)) q.1))

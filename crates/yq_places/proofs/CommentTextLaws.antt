@@ -12,8 +12,8 @@ cut_mark : (bs : List ℕ) → drop 1 (cut ends_line (35 ∷ bs)).0 ≡ (cut end
 unfolding upto
 cut_mark bs = refl
 
-pub tail_view : (before tail behind : List ℕ) → option_map comment_of (tail_comment before tail behind) ≡ comment_text tail
-tail_view before tail behind = search (rules, cut_mark, eqb-true)
+pub tail_view : (before tail after : List ℕ) → option_map comment_of (tail_comment before tail after) ≡ comment_text tail
+tail_view before tail after = search (rules, cut_mark, eqb-true)
 
 -- the run in a gap is the lines of a text
 abbrev RunIs : List (List ℕ) → Type 0
@@ -36,12 +36,12 @@ lines_none : text_lines [] ≡ []
 unfolding text_lines
 lines_none = refl
 
-pub gap_agrees : (before gap behind : List ℕ) → comments_of (gap_comment before gap behind) ≡ head_comment gap
-gap_agrees before gap behind =
+pub gap_agrees : (before gap after : List ℕ) → comments_of (gap_comment before gap after) ≡ head_comment gap
+gap_agrees before gap after =
     let run = run_is (text_lines gap) gap refl in
     let same : joined (last_run (text_lines gap)) ≡ run.0 = ap joined (sym run.1) ∙ joined_lines run.0 in
-    ap (λ x. comments_of (cond (is_empty x) None (Some (record { before = before ++ joined (before_run (text_lines gap)); text = x; behind = behind })))) same
+    ap (λ x. comments_of (cond (is_empty x) None (Some (record { before = before ++ joined (before_run (text_lines gap)); text = x; after = after })))) same
     ∙ (go run.0 ∙ (ap texts run.1 ∙ run_texts (text_lines gap)))
   where
-    go : (u : List ℕ) → comments_of (cond (is_empty u) None (Some (record { before = before ++ joined (before_run (text_lines gap)); text = u; behind = behind }))) ≡ texts (text_lines u)
+    go : (u : List ℕ) → comments_of (cond (is_empty u) None (Some (record { before = before ++ joined (before_run (text_lines gap)); text = u; after = after }))) ≡ texts (text_lines u)
     go u = search (rules, lines_none)

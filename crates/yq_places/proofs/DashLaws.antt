@@ -3,7 +3,7 @@ use Rattle.std.proofs.Common.{◌≡◌, ℕ, zero, suc, ◌<◌, ◌≤◌, Lis
 use Rattle.std.proofs.Common.{arith, append_assoc}
 use Rattle.yq_core.{specs.Paths.Step, proofs.Bools.bind_some}
 use Rattle.yq_outline.{specs.Ends.line_at_steps, specs.Lines.lines_of_rows}
-use Rattle.yq_row_table.{specs.Exchange.row_front, specs.Rows.{Row, behind_dashes, dashes_text, print_row, Cut}}
+use Rattle.yq_row_table.{specs.Exchange.row_front, specs.Rows.{Row, after_dashes, dashes_text, print_row, Cut}}
 use Rattle.yq_row_table.proofs.PlaceLaws.{dashes_then}
 use Rattle.yq_places.{specs.RowPieces.{past_dash, upto_dash}, specs.PlacedRows.{PlacedRow, placed_document, row_of_path}}
 use Rattle.yq_places.{proofs.EntryPlaceLaws.row_line_is, proofs.PrintedTexts.map_some, proofs.SeamLaws.dashes_split}
@@ -22,12 +22,12 @@ front_is k r =
     let parts : r.gap ++ (replicate r.column 32 ++ (f ++ 45 ∷ [])) ≡ (r.gap ++ (replicate r.column 32 ++ f)) ++ 45 ∷ [] = simp append_assoc refl in
     ap (λ l. r.gap ++ (replicate r.column 32 ++ l)) (dashes_then (take k r.dashes) [] (45 ∷ [])) ∙ parts
 
-pub row_cut : (k : ℕ) (r : Row) (t : List ℕ) → k < length r.dashes → print_row r t ≡ row_front (upto_dash k r) ++ past_dash (drop k r.dashes) (behind_dashes r t)
+pub row_cut : (k : ℕ) (r : Row) (t : List ℕ) → k < length r.dashes → print_row r t ≡ row_front (upto_dash k r) ++ past_dash (drop k r.dashes) (after_dashes r t)
 row_cut k r t h =
     let f : List ℕ = dashes_text (take k r.dashes) [] in
-    let b : List ℕ = past_dash (drop k r.dashes) (behind_dashes r t) in
+    let b : List ℕ = past_dash (drop k r.dashes) (after_dashes r t) in
     let parts : r.gap ++ (replicate r.column 32 ++ (f ++ (45 ∷ b))) ≡ ((r.gap ++ (replicate r.column 32 ++ f)) ++ 45 ∷ []) ++ b = simp append_assoc refl in
-    cc (dashes_split k r.dashes (behind_dashes r t), from_dash k r.dashes (behind_dashes r t) h, front_is k r)
+    cc (dashes_split k r.dashes (after_dashes r t), from_dash k r.dashes (after_dashes r t) h, front_is k r)
 
 -- ---- the row of a path
 

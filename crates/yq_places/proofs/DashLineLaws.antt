@@ -4,7 +4,7 @@ use Rattle.std.proofs.Common.{option_map, refl, sym, ap, ◌∙◌, subst, arith
 use Rattle.std.{proofs.lemmas.Bool.{cases_lt, lt-ltb, le-ltb, cond-true, cond-false}, proofs.lemmas.Option.same_Some, specs.List.slice_get}
 use Rattle.yq_row_table.specs.Rows.{Content, Row}
 use Rattle.yq_outline.{specs.Lines.{lines_from, row_lines, lines_of_rows}, specs.Outline.{Dash, Line}, proofs.RowLaws.lines_count}
-use Rattle.yq_documents.specs.LinesInRows.{RowLine, behind_one, row_line}
+use Rattle.yq_documents.specs.LinesInRows.{RowLine, one_row_later, row_line}
 use Rattle.yq_outline.specs.Comments as comments
 use Rattle.yq_row_table.specs.Rows as rows
 
@@ -42,7 +42,7 @@ row_line_found (r ∷ rs) n l e = go (cases_lt (length r.dashes) n) (λ k there.
     go (inl past) again =
         let at : n - length (row_lines r) ≡ n - suc (length r.dashes) = ap (λ (k : ℕ). n - k) count in
         let q = again (n - suc (length r.dashes)) (ap (slice_get (lines_of_rows rs)) (sym at) ∙ get_back (row_lines r) (lines_of_rows rs) n l (omega (arith, past, count)) e) in
-        (behind_one q.0, cond-true _ _ _ (lt-ltb (length r.dashes) n past) ∙ ap (option_map behind_one) q.1, q.2)
+        (one_row_later q.0, cond-true _ _ _ (lt-ltb (length r.dashes) n past) ∙ ap (option_map one_row_later) q.1, q.2)
     go (inr here) again = (
       record { before = 0; row = r; line = n },
       cond-false _ _ _ (le-ltb (length r.dashes) n here),

@@ -5,15 +5,15 @@ use Rattle.std.{proofs.lemmas.Option.{slice_get_within, none-some}, specs.List.s
 use Rattle.yq_outline.{proofs.EndsLaws.drop_at, specs.Ends.line_at_steps, specs.Lines.lines_of_rows, specs.Extents.lines_before_mark}
 use Rattle.yq_outline.specs.RowWalk.{HasRows, IsLine, deeper_rows, line_level, line_number}
 use Rattle.yq_outline.{specs.declared.line_position.Position.Position, specs.declared.line_position.Stretch.Stretch}
-use Rattle.yq_outline.{proofs.WalkRows.rows_behind, proofs.WalkPositions.located}
+use Rattle.yq_outline.{proofs.WalkRows.following_rows, proofs.WalkPositions.located}
 use Rattle.yq_core.{specs.Answers.◌>>=◌, specs.Paths.Step, proofs.Bools.bind_some}
 use Rattle.yq_row_table.{specs.Grammar.IsCut, specs.Rows.{Row, Part, Cut}, specs.View.{Slices, slices, RowsView, rows_view}}
 use Rattle.yq_documents.{specs.Documents.document_parts, specs.Reading.cut_of}
 use Rattle.yq_documents.specs.LinesInRows.{RowLine, document_row, row_line, row_line_of}
 use Rattle.yq_places.specs.PlacedRows.{PlacedPart, placed_document}
-use Rattle.yq_places.specs.Standings.{RowsOfEntry, entry_rows_at, rows_of_entry, under_count}
-use Rattle.yq_places.specs.StandingReading.{IsEntryIn, StandingCounts, numbers_at, numbers_of_entry, as_numbers}
-use Rattle.yq_places.{proofs.EntryPlaceLaws.row_line_is, proofs.PlacedPartLaws.{map_some, part_stands, placed_is}}
+use Rattle.yq_places.specs.Placements.{RowsOfEntry, entry_rows_at, rows_of_entry, under_count}
+use Rattle.yq_places.specs.PlacementReading.{IsEntryIn, PlacementCounts, numbers_at, numbers_of_entry, as_numbers}
+use Rattle.yq_places.{proofs.EntryPlaceLaws.row_line_is, proofs.PlacedPartLaws.{map_some, part_is_there, placed_is}}
 use Rattle.yq_places.{proofs.RowLineSpans.steps_row, proofs.WalkDocuments.row_line_number}
 use Rattle.yq_places.specs.declared.places.rows_of_entry.RowsOfEntry as declared
 
@@ -31,7 +31,7 @@ entry_row_agrees s d h q at steps level dashes end level_is dashes_are end_is li
     let x : RowLine = record { before = i; row = l.row; line = q.line } in
     let next : (q.row + 1) - d.first ≡ suc i = omega (arith, at.from) in
     let rest : take (d.end - (q.row + 1)) (drop (q.row + 1) s.rows) ≡ map slices (drop (suc i) h.rows) =
-    rows_behind s d h (q.row + 1) (omega (arith, at.from)) (omega (arith, at.upto)) ∙ ap (λ (k : ℕ). map slices (drop k h.rows)) next in
+    following_rows s d h (q.row + 1) (omega (arith, at.from)) (omega (arith, at.upto)) ∙ ap (λ (k : ℕ). map slices (drop k h.rows)) next in
     let count : dashes ≡ length l.row.dashes = dashes_are (slices l.row) l.pieces ∙ l.row_agrees.counted in
     let under : deeper_rows level (take (d.end - (q.row + 1)) (drop (q.row + 1) s.rows)) ≡ under_count x (drop (suc i) h.rows) = (λ j. deeper_rows (level_is (slices l.row) l.pieces j) (rest j)) in
     search (rules, row_line_number, arith)
@@ -68,8 +68,8 @@ entry_found t s n steps m cut is e =
     let fits : count ≤ length back = omega (arith, fewer (line_level q.line (slices q.row)) (map slices back), length-map back slices) in
     let front : length (take q.before rs) ≡ q.before = length-take-le q.before rs (omega (arith, within)) in
     let rest : drop q.before rs ≡ q.row ∷ back = drop_at rs q.before q.row row ∙ ap (λ (j : ℕ). q.row ∷ drop j rs) next in
-    let row_is : k + q.before ≡ m.row = ap (λ (y : StandingCounts). y.0) same in
-    let end_is : k + q.before + 1 + count ≡ m.end = ap (λ (y : StandingCounts). y.3) same in
+    let row_is : k + q.before ≡ m.row = ap (λ (y : PlacementCounts). y.0) same in
+    let end_is : k + q.before + 1 + count ≡ m.end = ap (λ (y : PlacementCounts). y.3) same in
     record {
       entry = entry_rows_at d.0 q;
       is = search (rules, arith, take-append-drop, row_line_is);
@@ -85,4 +85,4 @@ no_entry n steps c e = go (placed_document n c) refl
 
     go : (o : Option PlacedPart) → placed_document n c ≡ o → (o >>= λ y. option_map (entry_rows_at y) (row_line_of steps y.part.rows)) ≡ None
     go None is = refl
-    go (Some d) is = at_row_line d (row_line_of steps d.part.rows) (part_stands n c d is).there refl
+    go (Some d) is = at_row_line d (row_line_of steps d.part.rows) (part_is_there n c d is).there refl

@@ -3,7 +3,7 @@ use Rattle.std.proofs.Common.{◌≡◌, ℕ, suc, ◌+◌, ◌-◌, ◌≤◌, 
 use Rattle.std.proofs.Common.{option_and_then, true, false, ap, ◌<◌, take, rules}
 use Rattle.std.{proofs.lemmas.Bool.{ltb-false, eq-eqb, eqb-true, false≢true}, proofs.lemmas.Option.same_Some, specs.List.slice_get}
 use Rattle.yq_core.{specs.Answers.◌>>=◌, specs.Paths.Step, specs.Entries.{PlacedEntry, entry_place, content_place}, specs.Places.Placed}
-use Rattle.yq_row_table.{specs.Exchange.behind_row, specs.Rows.{Row, Cut, cut_text}, specs.View.{rows_of, Bound}}
+use Rattle.yq_row_table.{specs.Exchange.after_row, specs.Rows.{Row, Cut, cut_text}, specs.View.{rows_of, Bound}}
 use Rattle.yq_documents.{specs.FlowReading.row_flow, specs.declared.path.Path.Path, specs.LinesInRows.{RowLine, row_line, row_line_at}}
 use Rattle.yq_outline.{specs.Places.{lines_before, FoundLine}, specs.Lines.lines_of_rows, specs.Ends.reached, proofs.Values.If}
 use Rattle.yq_outline.{proofs.KnownLaws.{get_dropped, get_front}, specs.declared.line_position.Position.Position}
@@ -35,7 +35,7 @@ TextSpan = Option (ℕ × ℕ)
 
 -- where steps go on in the head of a line
 pub flow_left : (k : ℕ) (c : Cut) (rs : List Row) (steps left : List Step) (n : ℕ) (q : RowLine) (flow : Option Placed) (found : Option PlacedEntry) → row_line n rs ≡ Some q →
-    flow ≡ row_flow (length (cut_text c)) q.row (behind_row (k + q.before) c) → found ≡ entry_within left flow → Some (n, left) ≡ reached steps (lines_of_rows rs) → false ≡ eqb (length left) 0 → found ≡ flow_entry_of k c rs steps
+    flow ≡ row_flow (length (cut_text c)) q.row (after_row (k + q.before) c) → found ≡ entry_within left flow → Some (n, left) ≡ reached steps (lines_of_rows rs) → false ≡ eqb (length left) 0 → found ≡ flow_entry_of k c rs steps
 flow_left k c rs steps left n q flow found h1 h2 h3 h4 h5 = search (rules, false≢true, eq-eqb, flow_agrees)
 
 pub no_flow_left : (k : ℕ) (c : Cut) (rs : List Row) (steps left : List Step) (n : ℕ) → Some (n, left) ≡ reached steps (lines_of_rows rs) → true ≡ eqb (length left) 0 → None ≡ flow_entry_of k c rs steps

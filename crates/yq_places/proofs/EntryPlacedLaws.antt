@@ -7,7 +7,7 @@ use Rattle.yq_core.{specs.Answers.◌>>=◌, specs.Paths.Step, proofs.Bools.bind
 use Rattle.yq_core.specs.Spans.{IsSpan}
 use Rattle.yq_row_table.{specs.Grammar.IsCut, specs.Rows.{Row, Cut, cut_text}, specs.View.rows_of}
 use Rattle.yq_documents.{specs.declared.path.Path.Path, specs.Documents.document_parts, specs.Located.steps_of}
-use Rattle.yq_documents.{specs.LinesInRows.{RowLine, behind_one, row_line, document_row}, proofs.PartRows.part_begins}
+use Rattle.yq_documents.{specs.LinesInRows.{RowLine, one_row_later, row_line, document_row}, proofs.PartRows.part_begins}
 use Rattle.yq_places.specs.EntryReading.{lines_place, line_entry, line_head, lines_content, line_content, flow_entry, entry_from}
 use Rattle.yq_places.specs.EntryReading.{content_from, entry_of, node_place_of, entry_at, content_row_place}
 use Rattle.yq_places.{proofs.EntryPlaceLaws.row_there, proofs.FinishLaws.{row_boundary, lines_order}}
@@ -28,7 +28,7 @@ row_lines_order (r ∷ rs) from to s q h e f =
   where
     go : (a : Bool) → ltb (length r.dashes) from ≡ a → (b : Bool) → ltb (length r.dashes) to ≡ b → (o : Option RowLine) → row_line (from - suc (length r.dashes)) rs ≡ o → (p : Option RowLine) → row_line (to - suc (length r.dashes)) rs ≡ p →
         ((x y : RowLine) → from - suc (length r.dashes) ≤ to - suc (length r.dashes) → row_line (from - suc (length r.dashes)) rs ≡ Some x → row_line (to - suc (length r.dashes)) rs ≡ Some y → x.before ≤ y.before) →
-        cond a (option_map behind_one o) (Some (record { before = 0; row = r; line = from })) ≡ Some s → cond b (option_map behind_one p) (Some (record { before = 0; row = r; line = to })) ≡ Some q → s.before ≤ q.before
+        cond a (option_map one_row_later o) (Some (record { before = 0; row = r; line = from })) ≡ Some s → cond b (option_map one_row_later p) (Some (record { before = 0; row = r; line = to })) ≡ Some q → s.before ≤ q.before
     go a h1 b h2 o h3 p h4 h5 h6 h7 = search (rules, same_Some, ltb-true, ltb-false, none-some)
 
 -- the places among the rows of a document

@@ -3,13 +3,13 @@ use Rattle.std.proofs.Common.{rules, ◌≡◌, inr, ℕ, suc, ◌+◌, ◌-◌,
 use Rattle.std.{proofs.Common.{option_map, true, refl, sym, ap, ◌∙◌, subst, arith, append_assoc}, proofs.Math.Seq.take-append_seam}
 use Rattle.std.{proofs.lemmas.Option.{slice_get-map, slice_get_within}, specs.List.slice_get, specs.Str.{IsUtf8, IsCharBoundary}}
 use Rattle.yq_text.specs.Limit.{text_limit}
-use Rattle.yq_row_table.{specs.Exchange.{before_content, behind_row, row_front, rows_behind}, specs.Offsets.row_length}
+use Rattle.yq_row_table.{specs.Exchange.{before_content, after_row, row_front, following_rows}, specs.Offsets.row_length}
 use Rattle.yq_row_table.specs.Rows.{Row, parent_indent, print_row, rows_text, part_text, Cut}
 use Rattle.yq_row_table.{specs.View.{Slices, slices, rows_of, RowsView, rows_view}, proofs.PlaceLaws.{RowIn, row_in}}
 use Rattle.yq_row_table.{proofs.seams.SeamLaws.rows_text-append, proofs.splices.SpliceTexts.first_text}
 use Rattle.yq_documents.{specs.Reading.cut_of, specs.LinesInRows.document_row}
 use Rattle.yq_places.{specs.CommentPlaces.text_to_line_end, specs.CommentReading.before_row, specs.RemovalPlaces.{OwnRows, rows_out}}
-use Rattle.yq_places.{specs.Standings.{RowsOfEntry, before_entry, behind_entry}, specs.StandingReading.AreRowsOf}
+use Rattle.yq_places.{specs.Placements.{RowsOfEntry, before_entry, after_entry}, specs.PlacementReading.AreRowsOf}
 use Rattle.yq_places.{proofs.CommentEndLaws.row_text_parts, proofs.CommentPieceLaws.{Ended, content_end, row_place}}
 use Rattle.yq_places.{proofs.PlacedRowLaws.{IsAt, part_at}, proofs.RemovalLines.{LineSeam, lies_in, rows_seam, seam_join}}
 use Rattle.yq_places.{proofs.RemovalTexts.texts_then, proofs.RemovalViewLaws.{OutAgrees, line_boundary, out_agrees, slice_seam}}
@@ -28,7 +28,7 @@ module _ (t : List ℕ) (s : RowsView) (e : RowsOfEntry) (row end : ℕ) (h : Ar
   abbrev through : List ℕ
   through = before_entry e ++ print_row e.row (rows_text e.under [])
 
-  pub first_at : IsAt (cut_of t) row (before_entry e) e.row (rows_text e.under (behind_entry e))
+  pub first_at : IsAt (cut_of t) row (before_entry e) e.row (rows_text e.under (after_entry e))
   first_at =
       let j : ℕ = length e.front in
       let there : slice_get h.part.part.rows j ≡ Some e.row = ap (λ (z : List Row). slice_get z j) h.rows_are ∙ slice_seam e.front e.row (e.under ++ e.back) in
@@ -36,12 +36,12 @@ module _ (t : List ℕ) (s : RowsView) (e : RowsOfEntry) (row end : ℕ) (h : Ar
       let front : take j h.part.part.rows ≡ e.front = ap (take j) h.rows_are ∙ take-append_seam e.front (e.row ∷ (e.under ++ e.back)) in
       let rest : drop (suc j) h.part.part.rows ≡ e.under ++ e.back = ap (drop (suc j)) h.rows_are ∙ drop_seam e.front e.row (e.under ++ e.back) in
       let before : h.part.before ++ rows_text (take j h.part.part.rows) [] ≡ before_entry e = (λ i. sym h.start_is i ++ rows_text (front i) []) in
-      let behind : rows_text (drop (suc j) h.part.part.rows) (h.part.part.end ++ h.part.behind) ≡ rows_text e.under (behind_entry e) =
-      (λ i. rows_text (rest i) (sym h.end_is i ++ sym h.behind_is i)) ∙ rows_text-append e.under e.back (e.end ++ e.behind) in
+      let after : rows_text (drop (suc j) h.part.part.rows) (h.part.part.end ++ h.part.after) ≡ rows_text e.under (after_entry e) =
+      (λ i. rows_text (rest i) (sym h.end_is i ++ sym h.following_is i)) ∙ rows_text-append e.under e.back (e.end ++ e.after) in
       record {
         there = ap (slice_get (rows_of c)) h.row_is ∙ at.there;
         before_is = ap (λ (k : ℕ). before_row k c) h.row_is ∙ (at.before_is ∙ before);
-        behind_is = ap (λ (k : ℕ). behind_row k c) h.row_is ∙ (at.behind_is ∙ behind);
+        following_is = ap (λ (k : ℕ). after_row k c) h.row_is ∙ (at.following_is ∙ after);
       }
 
   pub pieces_at : slice_get s.rows row ≡ Some (slices e.row)
@@ -56,19 +56,19 @@ module _ (t : List ℕ) (s : RowsView) (e : RowsOfEntry) (row end : ℕ) (h : Ar
   pub column_fits : (y : Slices) → slice_get s.rows row ≡ Some y → y.column + length y.dashes ≤ text_limit
   column_fits y there = omega (arith, row_fits s row y there, view_small s is_view)
 
-  pub text : t ≡ before_entry e ++ print_row e.row (rows_text e.under (behind_entry e))
-  text = h.cut.text ∙ (row_place c row e.row first_at.there ∙ (λ i. first_at.before_is i ++ print_row e.row (first_at.behind_is i)))
+  pub text : t ≡ before_entry e ++ print_row e.row (rows_text e.under (after_entry e))
+  text = h.cut.text ∙ (row_place c row e.row first_at.there ∙ (λ i. first_at.before_is i ++ print_row e.row (first_at.following_is i)))
 
-  pub row_valid : RowIn e.row (rows_text e.under (behind_entry e)) (rows_behind row (cut_of t))
-  row_valid = subst (λ (x : List ℕ). RowIn e.row x (rows_behind row c)) first_at.behind_is (row_in c row true e.row h.cut.parts first_at.there)
+  pub row_valid : RowIn e.row (rows_text e.under (after_entry e)) (following_rows row (cut_of t))
+  row_valid = subst (λ (x : List ℕ). RowIn e.row x (following_rows row c)) first_at.following_is (row_in c row true e.row h.cut.parts first_at.there)
 
   -- ---- where the rows end
 
-  pub cut_in_two : t ≡ through ++ behind_entry e
+  pub cut_in_two : t ≡ through ++ after_entry e
   cut_in_two =
       text
-      ∙ (ap (λ (x : List ℕ). before_entry e ++ x) (texts_then (e.row ∷ e.under) [] (behind_entry e))
-      ∙ sym (append_assoc (before_entry e) (print_row e.row (rows_text e.under [])) (behind_entry e)))
+      ∙ (ap (λ (x : List ℕ). before_entry e ++ x) (texts_then (e.row ∷ e.under) [] (after_entry e))
+      ∙ sym (append_assoc (before_entry e) (print_row e.row (rows_text e.under [])) (after_entry e)))
 
   own : OutAgrees t s h.part (record { front = e.front; own = e.row ∷ e.under; back = e.back }) (document_row h.document (cut_of t)) row end
   own = out_agrees t s h.part (record { front = e.front; own = e.row ∷ e.under; back = e.back }) (document_row h.document c, row, end) (record {
@@ -91,7 +91,7 @@ module _ (t : List ℕ) (s : RowsView) (e : RowsOfEntry) (row end : ℕ) (h : Ar
   stop_is stop agrees =
       let x : OwnRows = record { front = e.front; own = e.row ∷ e.under; back = e.back } in
       let out = rows_out h.part x in
-      let rest : behind_entry e ≡ out.gap ++ out.behind = (λ i. rows_text e.back (h.end_is i ++ h.behind_is i)) ∙ first_text e.back h.part.part.end h.part.behind in
+      let rest : after_entry e ≡ out.gap ++ out.after = (λ i. rows_text e.back (h.end_is i ++ h.following_is i)) ∙ first_text e.back h.part.part.end h.part.after in
       omega (
         arith,
         agrees own.final own.final_is,
@@ -99,27 +99,27 @@ module _ (t : List ℕ) (s : RowsView) (e : RowsOfEntry) (row end : ℕ) (h : Ar
         ap length own.text,
         ap length cut_in_two,
         ap length rest,
-        length-append through (behind_entry e),
-        length-append out.before (out.gone ++ (out.gap ++ out.behind)),
-        length-append out.gone (out.gap ++ out.behind),
+        length-append through (after_entry e),
+        length-append out.before (out.gone ++ (out.gap ++ out.after)),
+        length-append out.gone (out.gap ++ out.after),
       )
 
-  stop_seam : LineSeam through (behind_entry e)
+  stop_seam : LineSeam through (after_entry e)
   stop_seam =
       let lies = lies_in h.document c h.part h.cut.parts h.placed in
       let rows : List Row = e.front ++ (e.row ∷ e.under) in
       let whole : h.part.part.rows ≡ rows ++ e.back = h.rows_are ∙ sym (append_assoc e.front (e.row ∷ e.under) e.back) in
-      let inner : LineSeam (rows_text rows []) (behind_entry e) = search (rules, rows_seam) in
-      let text_is : part_text h.part.part h.part.behind ≡ rows_text rows [] ++ behind_entry e =
-      (λ i. rows_text (whole i) (sym h.end_is i ++ sym h.behind_is i)) ∙ (rows_text-append rows e.back (e.end ++ e.behind) ∙ texts_then rows [] (behind_entry e)) in
-      let outer = seam_join h.part.before (rows_text rows []) (behind_entry e) (subst (LineSeam h.part.before) text_is lies.seam) inner in
+      let inner : LineSeam (rows_text rows []) (after_entry e) = search (rules, rows_seam) in
+      let text_is : part_text h.part.part h.part.after ≡ rows_text rows [] ++ after_entry e =
+      (λ i. rows_text (whole i) (sym h.end_is i ++ sym h.following_is i)) ∙ (rows_text-append rows e.back (e.end ++ e.after) ∙ texts_then rows [] (after_entry e)) in
+      let outer = seam_join h.part.before (rows_text rows []) (after_entry e) (subst (LineSeam h.part.before) text_is lies.seam) inner in
       let same : h.part.before ++ rows_text rows [] ≡ through =
       (λ i. sym h.start_is i ++ (rows_text-append e.front (e.row ∷ e.under) [] ∙ texts_then e.front [] (print_row e.row (rows_text e.under []))) i)
       ∙ sym (append_assoc e.start (rows_text e.front []) (print_row e.row (rows_text e.under []))) in
-      subst (λ (x : List ℕ). LineSeam x (behind_entry e)) same outer
+      subst (λ (x : List ℕ). LineSeam x (after_entry e)) same outer
 
   pub stop_boundary : IsUtf8 t → IsCharBoundary t (length through)
-  stop_boundary u = subst (λ (x : List ℕ). IsCharBoundary x (length through)) (sym cut_in_two) (line_boundary through (behind_entry e) stop_seam (subst IsUtf8 cut_in_two u))
+  stop_boundary u = subst (λ (x : List ℕ). IsCharBoundary x (length through)) (sym cut_in_two) (line_boundary through (after_entry e) stop_seam (subst IsUtf8 cut_in_two u))
 
   -- ---- the line of the first row's mark
 
@@ -149,13 +149,13 @@ module _ (t : List ℕ) (s : RowsView) (e : RowsOfEntry) (row end : ℕ) (h : Ar
   abbrev lower : List ℕ
   lower = (slices e.row).raw ++ rows_text e.under []
 
-  pub line_cut : t ≡ line ++ (lower ++ behind_entry e)
+  pub line_cut : t ≡ line ++ (lower ++ after_entry e)
   line_cut =
       let x : Slices = slices e.row in
-      let parts : before_entry e ++ (text_to_line_end e.row ++ (x.tail ++ (x.raw ++ (rows_text e.under [] ++ behind_entry e)))) ≡ line ++ (lower ++ behind_entry e) = simp append_assoc refl in
+      let parts : before_entry e ++ (text_to_line_end e.row ++ (x.tail ++ (x.raw ++ (rows_text e.under [] ++ after_entry e)))) ≡ line ++ (lower ++ after_entry e) = simp append_assoc refl in
       text
-      ∙ (ap (λ (u : List ℕ). before_entry e ++ print_row e.row u) (texts_then e.under [] (behind_entry e))
-      ∙ (ap (λ (u : List ℕ). before_entry e ++ u) (row_text_parts e.row (rows_text e.under [] ++ behind_entry e)) ∙ parts))
+      ∙ (ap (λ (u : List ℕ). before_entry e ++ print_row e.row u) (texts_then e.under [] (after_entry e))
+      ∙ (ap (λ (u : List ℕ). before_entry e ++ u) (row_text_parts e.row (rows_text e.under [] ++ after_entry e)) ∙ parts))
 
   pub through_is : through ≡ line ++ lower
   through_is =
@@ -166,7 +166,7 @@ module _ (t : List ℕ) (s : RowsView) (e : RowsOfEntry) (row end : ℕ) (h : Ar
   pub line_boundary_at : IsUtf8 t → IsCharBoundary t (length line)
   line_boundary_at u =
       let x : Slices = slices e.row in
-      let ended = content_end (parent_indent e.row) e.row.content (rows_text e.under (behind_entry e)) row_valid.row.content in
-      let rest : x.raw ++ rows_text e.under (behind_entry e) ≡ lower ++ behind_entry e = ap (λ (y : List ℕ). x.raw ++ y) (texts_then e.under [] (behind_entry e)) ∙ sym (append_assoc x.raw (rows_text e.under []) (behind_entry e)) in
-      let seam : LineSeam line (lower ++ behind_entry e) = inr (ended_after (before_entry e ++ text_to_line_end e.row) x.tail (lower ++ behind_entry e) (subst (Ended x.tail) rest ended)) in
-      subst (λ (y : List ℕ). IsCharBoundary y (length line)) (sym line_cut) (line_boundary line (lower ++ behind_entry e) seam (subst IsUtf8 line_cut u))
+      let ended = content_end (parent_indent e.row) e.row.content (rows_text e.under (after_entry e)) row_valid.row.content in
+      let rest : x.raw ++ rows_text e.under (after_entry e) ≡ lower ++ after_entry e = ap (λ (y : List ℕ). x.raw ++ y) (texts_then e.under [] (after_entry e)) ∙ sym (append_assoc x.raw (rows_text e.under []) (after_entry e)) in
+      let seam : LineSeam line (lower ++ after_entry e) = inr (ended_after (before_entry e ++ text_to_line_end e.row) x.tail (lower ++ after_entry e) (subst (Ended x.tail) rest ended)) in
+      subst (λ (y : List ℕ). IsCharBoundary y (length line)) (sym line_cut) (line_boundary line (lower ++ after_entry e) seam (subst IsUtf8 line_cut u))

@@ -4,7 +4,7 @@ use Rattle.std.proofs.Common.{refl, sym, ap, ◌∙◌, subst, arith, eqb-true, 
 use Rattle.std.{proofs.lemmas.Bool.{cases_lt, lt-ltb, le-ltb, cond-true, cond-false, false≢true, and_parts}, specs.List.slice_get}
 use Rattle.std.specs.Str.{IsCharBoundary}
 use Rattle.yq_core.{specs.Text.is_empty, proofs.BlockPieceLaws.IsLf}
-use Rattle.yq_row_table.{specs.Exchange.{row_front, before_at, before_content, behind_row}, specs.Grammar.AreParts}
+use Rattle.yq_row_table.{specs.Exchange.{row_front, before_at, before_content, after_row}, specs.Grammar.AreParts}
 use Rattle.yq_row_table.specs.Rows.{mark_text, content_text, Row, rows_text, parent_indent, part_text, Cut, last, marked, cut_text}
 use Rattle.yq_row_table.{specs.View.{Slices, slices, rows_of}, proofs.ExchangeLaws.{slice_front, slice_back}}
 use Rattle.yq_row_table.{proofs.NodePieces.{BeginsAscii, before_ascii}, proofs.PlaceLaws.{row_front-append, row_in}}
@@ -24,8 +24,8 @@ record IsSplit (x less : List ℕ) : Type 0 where
 break_ascii : (b : ℕ) (bs : List ℕ) → is_last_break (b ∷ bs) ≡ true → b < 128
 break_ascii b bs h1 = search (rules, eqb-true, and_parts, false≢true)
 
-pub lf_behind : (b : ℕ) (bs : List ℕ) → is_last_break (b ∷ bs) ≡ false → IsLf (b ∷ bs) → IsLf bs
-lf_behind b bs e lf = go lf.0 lf.1
+pub lf_after : (b : ℕ) (bs : List ℕ) → is_last_break (b ∷ bs) ≡ false → IsLf (b ∷ bs) → IsLf bs
+lf_after b bs e lf = go lf.0 lf.1
   where
     go : (f : List ℕ) → b ∷ bs ≡ f ++ 10 ∷ [] → IsLf bs
     go [] is = absurd (false≢true (sym e ∙ ap is_last_break is))
@@ -41,41 +41,41 @@ split (b ∷ bs) = go (is_last_break (b ∷ bs)) refl (split bs)
   where
     go : (l : Bool) → is_last_break (b ∷ bs) ≡ l → IsSplit bs (less_break bs) → IsSplit (b ∷ bs) (cond l [] (b ∷ less_break bs))
     go true e again = record { break = b ∷ bs; is = refl; ascii = break_ascii b bs e; some = λ lf. omega arith }
-    go false e again = record { break = again.break; is = ap (λ (l : List ℕ). b ∷ l) again.is; ascii = again.ascii; some = λ lf. again.some (lf_behind b bs e lf) }
+    go false e again = record { break = again.break; is = ap (λ (l : List ℕ). b ∷ l) again.is; ascii = again.ascii; some = λ lf. again.some (lf_after b bs e lf) }
 
 -- a text is cut there between characters
 pub break_boundary : (x : List ℕ) → IsCharBoundary x (length (less_break x))
 break_boundary x = let s = split x in subst (λ (q : List ℕ). IsCharBoundary q (length (less_break x))) (sym s.is) (before_ascii (less_break x) s.break s.ascii)
 
-break_behind : (break behind : List ℕ) → BeginsAscii break → (0 < length break) ⊎ (behind ≡ []) → BeginsAscii (break ++ behind)
-break_behind break behind h1 h2 = search rules
+break_after : (break after : List ℕ) → BeginsAscii break → (0 < length break) ⊎ (after ≡ []) → BeginsAscii (break ++ after)
+break_after break after h1 h2 = search rules
 
-less_boundary : (before x behind : List ℕ) → Ended x behind → IsCharBoundary (before ++ (x ++ behind)) (length (before ++ less_break x))
-less_boundary before x behind ended =
+less_boundary : (before x after : List ℕ) → Ended x after → IsCharBoundary (before ++ (x ++ after)) (length (before ++ less_break x))
+less_boundary before x after ended =
     let s = split x in
-    let whole : before ++ (x ++ behind) ≡ (before ++ less_break x) ++ (s.break ++ behind) = search (rules, append_assoc, s) in
-    subst (λ (q : List ℕ). IsCharBoundary q (length (before ++ less_break x))) (sym whole) (before_ascii (before ++ less_break x) (s.break ++ behind) (break_behind s.break behind s.ascii (some ended)))
+    let whole : before ++ (x ++ after) ≡ (before ++ less_break x) ++ (s.break ++ after) = search (rules, append_assoc, s) in
+    subst (λ (q : List ℕ). IsCharBoundary q (length (before ++ less_break x))) (sym whole) (before_ascii (before ++ less_break x) (s.break ++ after) (break_after s.break after s.ascii (some ended)))
   where
-    some : Ended x behind → (0 < length (split x).break) ⊎ (behind ≡ [])
+    some : Ended x after → (0 < length (split x).break) ⊎ (after ≡ [])
     some (inl lf) = inl ((split x).some lf)
     some (inr none) = inr none
 
 -- the end of a row's last line
-end_boundary : (before tail raw behind : List ℕ) → Ended tail (raw ++ behind) → (raw ≡ []) ⊎ IsLf raw →
-    IsCharBoundary (before ++ (tail ++ (raw ++ behind))) (length (before ++ cond (is_empty raw) (less_break tail) (tail ++ less_break raw)))
-end_boundary before tail [] behind ended h = less_boundary before tail behind ended
-end_boundary before tail (b ∷ bs) behind ended (inl none) = absurd (cc)
-end_boundary before tail (b ∷ bs) behind ended (inr lf) =
+end_boundary : (before tail raw after : List ℕ) → Ended tail (raw ++ after) → (raw ≡ []) ⊎ IsLf raw →
+    IsCharBoundary (before ++ (tail ++ (raw ++ after))) (length (before ++ cond (is_empty raw) (less_break tail) (tail ++ less_break raw)))
+end_boundary before tail [] after ended h = less_boundary before tail after ended
+end_boundary before tail (b ∷ bs) after ended (inl none) = absurd (cc)
+end_boundary before tail (b ∷ bs) after ended (inr lf) =
     let raw : List ℕ = b ∷ bs in
-    subst (λ (q : List ℕ). IsCharBoundary q (length (before ++ (tail ++ less_break raw)))) (append_assoc before tail (raw ++ behind))
-    (subst (λ (q : List ℕ). IsCharBoundary ((before ++ tail) ++ (raw ++ behind)) (length q)) (append_assoc before tail (less_break raw)) (less_boundary (before ++ tail) raw behind (inl lf)))
+    subst (λ (q : List ℕ). IsCharBoundary q (length (before ++ (tail ++ less_break raw)))) (append_assoc before tail (raw ++ after))
+    (subst (λ (q : List ℕ). IsCharBoundary ((before ++ tail) ++ (raw ++ after)) (length q)) (append_assoc before tail (less_break raw)) (less_boundary (before ++ tail) raw after (inl lf)))
 
 pub row_boundary : (c : Cut) (i : ℕ) (r : Row) → AreParts true c → slice_get (rows_of c) i ≡ Some r → IsCharBoundary (cut_text c) (length (through_row i r c))
 row_boundary c i r h is =
     let s : Slices = slices r in
     let content = (row_in c i true r h is).row.content in
     subst (λ (q : List ℕ). IsCharBoundary q (length (through_row i r c))) (sym (tail_place c i r is))
-    (end_boundary (before_tail i r c) s.tail s.raw (behind_row i c) (content_end (parent_indent r) r.content (behind_row i c) content) (raw_end (parent_indent r) r.content (behind_row i c) content))
+    (end_boundary (before_tail i r c) s.tail s.raw (after_row i c) (content_end (parent_indent r) r.content (after_row i c) content) (raw_end (parent_indent r) r.content (after_row i c) content))
 
 -- rows in order
 at_order : (rows : List Row) (i j : ℕ) (q : Row) → i ≤ j → slice_get rows j ≡ Some q → length (before_at i rows) ≤ length (before_at j rows)

@@ -21,7 +21,7 @@ near = last (record { rows = entry [] 0 (2 ∷ []) (codes "a") (codes "1") ∷ e
 
 -- up to the next entry
 moved : first_removal 0 (Nth 0 ∷ To (codes "a") ∷ []) near
-    ≡ Some (record { before = codes "-  "; text = codes "a: 1" ++ (break ++ codes "   "); behind = codes "b: 2" ++ break })
+    ≡ Some (record { before = codes "-  "; text = codes "a: 1" ++ (break ++ codes "   "); after = codes "b: 2" ++ break })
 unfolding level inline.node_text less_break upto line_len text_lines scalars.scalar_content reading.content_on
 moved = refl
 
@@ -31,7 +31,7 @@ apart = last (record { rows = entry [] 0 (2 ∷ []) (codes "a") (codes "1") ∷ 
 
 -- from after the dash to the end of the entry's line
 dropped : first_removal 0 (Nth 0 ∷ To (codes "a") ∷ []) apart
-    ≡ Some (record { before = codes "-"; text = codes "  a: 1"; behind = break ++ (break ++ (codes "   b: 2" ++ break)) })
+    ≡ Some (record { before = codes "-"; text = codes "  a: 1"; after = break ++ (break ++ (codes "   b: 2" ++ break)) })
 unfolding level inline.node_text less_break less_spaces upto line_len text_lines scalars.scalar_content reading.content_on
 dropped = refl
 

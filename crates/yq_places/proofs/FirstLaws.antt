@@ -89,7 +89,7 @@ front_less t n e = (λ i. take (e i) (spaces_parts t i)) ∙ take-append_seam (l
 -- ---- the text around an item or entry
 
 -- An item or entry at a path is between two places of a text.
-pub record EntryStands (t : List ℕ) (c : Cut) (path : Path) (start end : ℕ) : Type 0 where
+pub record EntryIsThere (t : List ℕ) (c : Cut) (path : Path) (start end : ℕ) : Type 0 where
   pub piece : TextPiece
   pub is : path_piece path parts.Entry c ≡ Some piece
   pub order : start ≤ end
@@ -97,39 +97,39 @@ pub record EntryStands (t : List ℕ) (c : Cut) (path : Path) (start end : ℕ) 
   pub ends : IsCharBoundary (drop start t) (end - start)
   pub before_is : take start t ≡ piece.before
   pub text_is : take (end - start) (drop start t) ≡ piece.text
-  pub behind_is : drop (end - start) (drop start t) ≡ piece.behind
+  pub following_is : drop (end - start) (drop start t) ≡ piece.after
 
 -- the place of a line's entry or item is that of the piece
 entry_is : (t : List ℕ) (c : Cut) (path : Path) (k : ℕ) (n : Position) → IsCut t c → all_documents c ≡ true →
     Some n ≡ option_map (position_in k) (row_line_at path c) → line_entry_at path c ≡ option_map piece_span (path_piece path parts.Entry c)
 entry_is t c path k n cut sound there = row_line_entry path c k n there ∙ sym (spans_are t c path cut sound).1
 
-pub entry_stands : (t : List ℕ) (c : Cut) (path : Path) (start end : ℕ) → IsUtf8 t → IsCut t c → all_documents c ≡ true → (k : ℕ) (n : Position) →
+pub entry_is_there : (t : List ℕ) (c : Cut) (path : Path) (start end : ℕ) → IsUtf8 t → IsCut t c → all_documents c ≡ true → (k : ℕ) (n : Position) →
     Some n ≡ option_map (position_in k) (row_line_at path c) → Some (start, end) ≡ line_entry_at path c →
-    EntryStands t c path start end
-entry_stands t c path start end u cut sound k n there at =
+    EntryIsThere t c path start end
+entry_is_there t c path start end u cut sound k n there at =
     let e : Some (start, end) ≡ option_map piece_span (path_piece path parts.Entry c) = at ∙ entry_is t c path k n cut sound there in
     let w = map_some (path_piece path parts.Entry c) (sym e) in
     let x : TextPiece = w.0 in
     let s = bind_some (printed_document path.doc c) w.1 in
-    let text : t ≡ x.before ++ (x.text ++ x.behind) = cut.text ∙ sym (piece_whole parts.Entry (steps_of path) s.0 x s.2 ∙ document_whole path.doc c s.0 s.1) in
+    let text : t ≡ x.before ++ (x.text ++ x.after) = cut.text ∙ sym (piece_whole parts.Entry (steps_of path) s.0 x s.2 ∙ document_whole path.doc c s.0 s.1) in
     let span : IsSpan t start end = entries_placed t c path (start, end) cut u (inl (sym (spans_are t c path cut sound).1 ∙ sym e)) in
     let from : start ≡ length x.before = ap (λ (y : ℕ × ℕ). y.0) (sym w.2) in
     let to : end ≡ length x.before + length x.text = ap (λ (y : ℕ × ℕ). y.1) (sym w.2) in
     let size : end - start ≡ length x.text = omega (arith, from, to) in
-    let whole : t ≡ (x.before ++ x.text) ++ x.behind = text ∙ sym (append_assoc x.before x.text x.behind) in
+    let whole : t ≡ (x.before ++ x.text) ++ x.after = text ∙ sym (append_assoc x.before x.text x.after) in
     let stop : end ≡ length (x.before ++ x.text) = omega (arith, to, length-append x.before x.text) in
-    let tail : drop end t ≡ x.behind = (λ i. drop (stop i) (whole i)) ∙ drop-append_seam (x.before ++ x.text) x.behind in
-    let rest : drop start t ≡ x.text ++ x.behind = (λ i. drop (from i) (text i)) ∙ drop-append_seam x.before (x.text ++ x.behind) in
+    let tail : drop end t ≡ x.after = (λ i. drop (stop i) (whole i)) ∙ drop-append_seam (x.before ++ x.text) x.after in
+    let rest : drop start t ≡ x.text ++ x.after = (λ i. drop (from i) (text i)) ∙ drop-append_seam x.before (x.text ++ x.after) in
     record {
       piece = x;
       is = w.1;
       order = span.ordered;
       begins = span.begins;
-      ends = subst (IsCharBoundary (drop start t)) (sym size) (IsCharBoundary-at_seam (drop start t) x.text x.behind rest (subst IsUtf8 tail (IsUtf8-drop t end u span.ends)));
-      before_is = (λ i. take (from i) (text i)) ∙ take-append_seam x.before (x.text ++ x.behind);
-      text_is = (λ i. take (size i) (rest i)) ∙ take-append_seam x.text x.behind;
-      behind_is = (λ i. drop (size i) (rest i)) ∙ drop-append_seam x.text x.behind;
+      ends = subst (IsCharBoundary (drop start t)) (sym size) (IsCharBoundary-at_seam (drop start t) x.text x.after rest (subst IsUtf8 tail (IsUtf8-drop t end u span.ends)));
+      before_is = (λ i. take (from i) (text i)) ∙ take-append_seam x.before (x.text ++ x.after);
+      text_is = (λ i. take (size i) (rest i)) ∙ take-append_seam x.text x.after;
+      following_is = (λ i. drop (size i) (rest i)) ∙ drop-append_seam x.text x.after;
     }
 
 -- ---- what the code tells of it

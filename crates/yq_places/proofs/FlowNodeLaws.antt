@@ -8,7 +8,7 @@ use Rattle.yq_core.specs.Nodes.{Items, none, item, Key, FlowNode, empty, alias, 
 use Rattle.yq_core.{specs.Nodes.{IsFlowNode, without_anchor}, specs.Inline.depth_limit}
 use Rattle.yq_core.{specs.Places.{Placed, placed, nothing, name, text, sequence, mapping, anchored_node, locate}, specs.View.inline_view}
 use Rattle.yq_core.proofs.NodesWrittenLaws.{items_append, node_then, sep_append}
-use Rattle.yq_row_table.{specs.Exchange.behind_row, specs.Grammar.{IsContent, IsCut}}
+use Rattle.yq_row_table.{specs.Exchange.after_row, specs.Grammar.{IsContent, IsCut}}
 use Rattle.yq_row_table.specs.Rows.{Content, Nothing, Inline, Row, Part, Cut, parent_indent}
 use Rattle.yq_row_table.{specs.View.{RowsView, anchor_cut, content_cut, rows_view, slices}, proofs.PlaceLaws.row_in}
 use Rattle.yq_outline.{specs.Outline.Line, specs.Places.{lines_before, FoundLine}, specs.Lines.{tail_of, lines_of_rows}}
@@ -115,12 +115,12 @@ no_collection k c rs steps e = ap (λ (o : Option (ℕ × List Step)). o >>= λ 
 
 -- the collection in the head of a line, by its row
 beside_agrees : (s : RowsView) (d : Stretch) (c : Cut) (k : InCut s d c) (q : Position) (at : IsLine s d q) (steps left : List Step) →
-    head_line_of steps (lines_of_rows k.document.stand.rows) ≡ Some (line_number d k.document.stand.rows q, left) →
-    rows_collection d.first c k.document.stand.rows steps ≡ content_flow left (row_is s d c k q at).content (behind_row q.row c)
+    head_line_of steps (lines_of_rows k.document.are_there.rows) ≡ Some (line_number d k.document.are_there.rows q, left) →
+    rows_collection d.first c k.document.are_there.rows steps ≡ content_flow left (row_is s d c k q at).content (after_row q.row c)
 beside_agrees s d c k q at steps left e =
-    ap (λ (o : Option (ℕ × List Step)). o >>= λ x. line_collection d.first c k.document.stand.rows x.0 x.1) e
-    ∙ (ap (λ (o : Option RowLine). o >>= λ x. content_flow left x.row.content (behind_row (d.first + x.before) c)) (row_line_is s d c k q at)
-    ∙ ap (λ (i : ℕ). content_flow left (row_is s d c k q at).content (behind_row i c)) (before_is s d c k q at))
+    ap (λ (o : Option (ℕ × List Step)). o >>= λ x. line_collection d.first c k.document.are_there.rows x.0 x.1) e
+    ∙ (ap (λ (o : Option RowLine). o >>= λ x. content_flow left x.row.content (after_row (d.first + x.before) c)) (row_line_is s d c k q at)
+    ∙ ap (λ (i : ℕ). content_flow left (row_is s d c k q at).content (after_row i c)) (before_is s d c k q at))
 
 -- the line in whose head it is
 pub head_line_at : (ls : List Line) (steps left : List Step) (p : NodePlace) (o : Option ℕ) → Some (p, left) ≡ node_place steps ls → o ≡ place_line ls p → with_steps left o ≡ head_line_of steps ls
@@ -179,7 +179,7 @@ core_text node = search rules
 -- Steps lead to a collection in a text that is an inline node and what follows it.
 record HasColl (t : List ℕ) (ss : List Step) (w : CollPieces) : Type 0 where
   pub at : CollAt
-  pub stands : IsCollAt at
+  pub is_located : IsCollAt at
   pub node_is : t ≡ node_text at.node at.rest
   pub coll_is : at.coll ≡ w
 
@@ -189,7 +189,7 @@ content_coll n (Inline space node tail) ss w h e =
     let found : coll_along ss (without_anchor node) (tail ++ []) ≡ Some w = sym (core_coll ss node (tail ++ [])) ∙ e in
     record {
       at = record { place = Block; indent = n; around = 0; node = without_anchor node; rest = tail ++ []; steps = ss; coll = w };
-      stands = record { inline = record { valid = core_valid (Some (deeper n)) node (tail ++ []) h.1.valid; something = some_bare ss (without_anchor node) (tail ++ []) w found }; found = found };
+      is_located = record { inline = record { valid = core_valid (Some (deeper n)) node (tail ++ []) h.1.valid; something = some_bare ss (without_anchor node) (tail ++ []) w found }; found = found };
       node_is = ap (λ (l : List ℕ). l ++ (tail ++ [])) (core_text node) ∙ sym (node_then (without_anchor node) (tail ++ []));
       coll_is = refl;
     }
@@ -198,7 +198,7 @@ content_coll n (rows.Block space anchor block) ss w h e = absurd (cc)
 -- ---- the head that the code has read
 
 module _ (t : List ℕ) (s : RowsView) (c : Cut) (n : ℕ) (d : Stretch) (cut : IsCut t c) (is : s ≡ rows_view c) (f : documents.Found s c n d) (q : Position) (at : IsLine s d q) (steps left : List Step)
-    (leads : head_line_of steps (lines_of_rows (found_in_cut t s c n d cut is f).0.document.stand.rows) ≡ Some (line_number d (found_in_cut t s c n d cut is f).0.document.stand.rows q, left)) where
+    (leads : head_line_of steps (lines_of_rows (found_in_cut t s c n d cut is f).0.document.are_there.rows) ≡ Some (line_number d (found_in_cut t s c n d cut is f).0.document.are_there.rows q, left)) where
   abbrev k : InCut s d c
   k = (found_in_cut t s c n d cut is f).0
 
@@ -208,60 +208,60 @@ module _ (t : List ℕ) (s : RowsView) (c : Cut) (n : ℕ) (d : Stretch) (cut : 
   abbrev alone : Option CollPieces
   alone = content_flow left row.content []
 
-  pub collection_at : flow_collection n steps c ≡ content_flow left row.content (behind_row q.row c)
+  pub collection_at : flow_collection n steps c ≡ content_flow left row.content (after_row q.row c)
   collection_at =
       sym (collection_is c n steps)
       ∙ (ap (λ (o : Option Part). o >>= λ p. rows_collection (document_row n c) c p.rows steps) f.there
       ∙ ((λ i. rows_collection (sym f.first i) c (sym (found_in_cut t s c n d cut is f).1 i) steps) ∙ beside_agrees s d c k q at steps left leads))
 
-  all_is : flow_collection n steps c ≡ option_map (with_more (behind_row q.row c)) alone
-  all_is = collection_at ∙ content_more left row.content (behind_row q.row c)
+  all_is : flow_collection n steps c ≡ option_map (with_more (after_row q.row c)) alone
+  all_is = collection_at ∙ content_more left row.content (after_row q.row c)
 
   pub other_head : (total : ℕ) → None ≡ row_flow total row [] → FlowAgrees t (flow_collection n steps c) None
   other_head total e = no_flow_agrees t (flow_collection n steps c) (go alone (ap (λ (o : Option Placed). o >>= collection_along left) e ∙ row_along total row [] left) ∙ sym all_is)
     where
-      go : (o : Option CollPieces) → None ≡ option_map (placed_collection total) o → None ≡ option_map (with_more (behind_row q.row c)) o
+      go : (o : Option CollPieces) → None ≡ option_map (placed_collection total) o → None ≡ option_map (with_more (after_row q.row c)) o
       go o e = search rules
 
-  pub head_agrees_at : (x : FlowHead) → left ≡ map tree_step x.left.now → t ≡ take x.before t ++ (x.text.now ++ behind_row q.row c) → x.before ≡ length (take x.before t) → x.text.now ≡ from_head (slices row) [] →
+  pub head_agrees_at : (x : FlowHead) → left ≡ map tree_step x.left.now → t ≡ take x.before t ++ (x.text.now ++ after_row q.row c) → x.before ≡ length (take x.before t) → x.text.now ≡ from_head (slices row) [] →
       Some (inline_view x.node.value) ≡ row_flow (length x.text.now) row [] → FlowAgrees t (flow_collection n steps c) (Some x)
-  head_agrees_at x own stands begins ends e =
+  head_agrees_at x own is_located begins ends e =
       subst (λ (o : Option CollPieces). FlowAgrees t o (Some x)) (sym all_is)
       (go alone refl (ap (λ (ss : List Step). collection_along ss (inline_view x.node.value)) (sym own) ∙ (ap (λ (o : Option Placed). o >>= collection_along left) e ∙ row_along (length x.text.now) row [] left)))
     where
-      go : (o : Option CollPieces) → alone ≡ o → views.collection_view x ≡ option_map (placed_collection (length x.text.now)) o → FlowAgrees t (option_map (with_more (behind_row q.row c)) o) (Some x)
+      go : (o : Option CollPieces) → alone ≡ o → views.collection_view x ≡ option_map (placed_collection (length x.text.now)) o → FlowAgrees t (option_map (with_more (after_row q.row c)) o) (Some x)
       go None there e = e
       go (Some w) there e =
           let valid = row_in c q.row true row cut.parts (row_in_cut s d c k q at) in
-          let h = content_coll (parent_indent row) row.content left w (row_alone valid.limit row (behind_row q.row c) valid.row).content there in
+          let h = content_coll (parent_indent row) row.content left w (row_alone valid.limit row (after_row q.row c) valid.row).content there in
           search rules
 
 -- ---- all collections of the head
 
 module _ (t : List ℕ) (s : RowsView) (c : Cut) (n : ℕ) (d : Stretch) (cut : IsCut t c) (is : s ≡ rows_view c) (f : documents.Found s c n d) (q : Position) (at : IsLine s d q) (steps left : List Step)
-    (leads : head_line_of steps (lines_of_rows (found_in_cut t s c n d cut is f).0.document.stand.rows) ≡ Some (line_number d (found_in_cut t s c n d cut is f).0.document.stand.rows q, left)) where
+    (leads : head_line_of steps (lines_of_rows (found_in_cut t s c n d cut is f).0.document.are_there.rows) ≡ Some (line_number d (found_in_cut t s c n d cut is f).0.document.are_there.rows q, left)) where
   abbrev there : InCut s d c
   there = (found_in_cut t s c n d cut is f).0
 
-  stem : HasStemAt steps (lines_of_rows there.document.stand.rows) (line_number d there.document.stand.rows q, left)
-  stem = stem_at steps (lines_of_rows there.document.stand.rows) (line_number d there.document.stand.rows q, left) leads
+  stem : HasStemAt steps (lines_of_rows there.document.are_there.rows) (line_number d there.document.are_there.rows q, left)
+  stem = stem_at steps (lines_of_rows there.document.are_there.rows) (line_number d there.document.are_there.rows q, left) leads
 
-  pub head_for : (x : FlowHead) → left ≡ map tree_step x.left.now → t ≡ take x.before t ++ (x.text.now ++ behind_row q.row c) → x.before ≡ length (take x.before t) → x.text.now ≡ from_head (slices (row_is s d c there q at)) [] →
+  pub head_for : (x : FlowHead) → left ≡ map tree_step x.left.now → t ≡ take x.before t ++ (x.text.now ++ after_row q.row c) → x.before ≡ length (take x.before t) → x.text.now ≡ from_head (slices (row_is s d c there q at)) [] →
       Some (inline_view x.node.value) ≡ row_flow (length x.text.now) (row_is s d c there q at) [] → IsHeadFor t c n steps x
-  head_for x own stands begins ends e = (
+  head_for x own is_located begins ends e = (
     stem.stem,
     stem.steps_are ∙ ap (λ (ss : List Step). stem.stem ++ ss) own,
     record {
       leads = record {
         part = f.part;
         there = f.there;
-        number = line_number d there.document.stand.rows q;
+        number = line_number d there.document.are_there.rows q;
         leads = λ ss. ap (λ (rs : List Row). head_line_of (stem.stem ++ ss) (lines_of_rows rs)) (sym (found_in_cut t s c n d cut is f).1) ∙ stem.leads ss;
       };
       reports = λ y node text before.
           let is_text : y.text.now ≡ x.text.now = λ i. (text i).now in
           head_agrees_at t s c n d cut is f q at (stem.stem ++ map tree_step y.left.now) (map tree_step y.left.now) (stem.leads (map tree_step y.left.now)) y refl
-          (stands ∙ λ i. take (sym before i) t ++ (sym is_text i ++ behind_row q.row c))
+          (is_located ∙ λ i. take (sym before i) t ++ (sym is_text i ++ after_row q.row c))
           (before ∙ (begins ∙ λ i. length (take (sym before i) t)))
           (is_text ∙ ends)
           ((λ i. Some (inline_view (node i).value)) ∙ (e ∙ λ i. row_flow (length (sym is_text i)) (row_is s d c there q at) []));

@@ -29,43 +29,43 @@ twice a b n = search (rules, first_first)
 
 -- items by their pieces
 abbrev pub pieces : FlowEntry → EntryPieces
-pieces x = record { key = x.key; node = x.node; rest = x.behind }
+pieces x = record { key = x.key; node = x.node; rest = x.after }
 
 pub then_same : {A B C D : Type 0} (f : A → Option B) (g : C → Option D) (u : A → C) (v : B → D) → ((x : A) → option_map v (f x) ≡ g (u x)) → (o : Option A) → option_map v (option_and_then f o) ≡ option_and_then g (option_map u o)
 then_same f g u v h1 o = search rules
 
-pub in_pieces : (k : ℕ) (s : Step) (before : List ℕ) (is : Items) (behind : List ℕ) → option_map pieces (flow_in k s before is behind) ≡ entries.item_at k s is behind
-in_pieces k s before none behind = refl
-in_pieces k s before (item key n sep is) behind = go (is_here s (key_label (key_content key))) (in_pieces k (further s) (before ++ key_text key (node_text n (sep_text sep []))) is behind)
+pub in_pieces : (k : ℕ) (s : Step) (before : List ℕ) (is : Items) (after : List ℕ) → option_map pieces (flow_in k s before is after) ≡ entries.item_at k s is after
+in_pieces k s before none after = refl
+in_pieces k s before (item key n sep is) after = go (is_here s (key_label (key_content key))) (in_pieces k (further s) (before ++ key_text key (node_text n (sep_text sep []))) is after)
   where
-    go : (b : Bool) → option_map pieces (flow_in k (further s) (before ++ key_text key (node_text n (sep_text sep []))) is behind) ≡ entries.item_at k (further s) is behind →
-        option_map pieces (cond b (Some (record { before = before; key = key; node = n; behind = sep_text sep (flow_items_text k is behind) })) (flow_in k (further s) (before ++ key_text key (node_text n (sep_text sep []))) is behind)) ≡
-        cond b (Some (record { key = key; node = n; rest = sep_text sep (flow_items_text k is behind) })) (entries.item_at k (further s) is behind)
+    go : (b : Bool) → option_map pieces (flow_in k (further s) (before ++ key_text key (node_text n (sep_text sep []))) is after) ≡ entries.item_at k (further s) is after →
+        option_map pieces (cond b (Some (record { before = before; key = key; node = n; after = sep_text sep (flow_items_text k is after) })) (flow_in k (further s) (before ++ key_text key (node_text n (sep_text sep []))) is after)) ≡
+        cond b (Some (record { key = key; node = n; rest = sep_text sep (flow_items_text k is after) })) (entries.item_at k (further s) is after)
     go b h1 = search rules
 
-pub under_pieces : (s : Step) (before : List ℕ) (node : FlowNode) (behind : List ℕ) → option_map pieces (flow_under s before node behind) ≡ path_inside s node behind
-under_pieces s before (coll k gap is) behind = in_pieces k s (before ++ opening_bracket k ∷ gap) is behind
-under_pieces s before (anchored n gap node) behind = under_pieces s (before ++ 38 ∷ (n ++ gap)) node behind
-under_pieces s before x behind = refl
+pub under_pieces : (s : Step) (before : List ℕ) (node : FlowNode) (after : List ℕ) → option_map pieces (flow_under s before node after) ≡ path_inside s node after
+under_pieces s before (coll k gap is) after = in_pieces k s (before ++ opening_bracket k ∷ gap) is after
+under_pieces s before (anchored n gap node) after = under_pieces s (before ++ 38 ∷ (n ++ gap)) node after
+under_pieces s before x after = refl
 
 pub at_pieces : (ss : List Step) (x : FlowEntry) → option_map pieces (flow_at ss x) ≡ entry_pieces_at ss (pieces x)
 at_pieces [] x = refl
 at_pieces (s ∷ ss) x =
-    then_same (flow_at ss) (entry_pieces_at ss) pieces pieces (at_pieces ss) (flow_under s (x.before ++ key_text x.key []) x.node x.behind)
-    ∙ ap (option_and_then (entry_pieces_at ss)) (under_pieces s (x.before ++ key_text x.key []) x.node x.behind)
+    then_same (flow_at ss) (entry_pieces_at ss) pieces pieces (at_pieces ss) (flow_under s (x.before ++ key_text x.key []) x.node x.after)
+    ∙ ap (option_and_then (entry_pieces_at ss)) (under_pieces s (x.before ++ key_text x.key []) x.node x.after)
 
 -- the item or entry at a path in another, by its key and node
 abbrev pub flow_label : FlowEntry → Labelled
 flow_label x = (key_label (key_content x.key), tree_of x.node)
 
-in_labels : (k : ℕ) (s : Step) (before : List ℕ) (is : Items) (behind : List ℕ) → labelled_at s (items_tree is) ≡ option_map flow_label (flow_in k s before is behind)
+in_labels : (k : ℕ) (s : Step) (before : List ℕ) (is : Items) (after : List ℕ) → labelled_at s (items_tree is) ≡ option_map flow_label (flow_in k s before is after)
 unfolding items_tree
-in_labels k s before none behind = refl
-in_labels k s before (item key n sep is) behind = go (is_here s (key_label (key_content key))) (in_labels k (further s) (before ++ key_text key (node_text n (sep_text sep []))) is behind)
+in_labels k s before none after = refl
+in_labels k s before (item key n sep is) after = go (is_here s (key_label (key_content key))) (in_labels k (further s) (before ++ key_text key (node_text n (sep_text sep []))) is after)
   where
-    go : (b : Bool) → labelled_at (further s) (items_tree is) ≡ option_map flow_label (flow_in k (further s) (before ++ key_text key (node_text n (sep_text sep []))) is behind) →
+    go : (b : Bool) → labelled_at (further s) (items_tree is) ≡ option_map flow_label (flow_in k (further s) (before ++ key_text key (node_text n (sep_text sep []))) is after) →
         cond b (Some (key_label (key_content key), tree_of n)) (labelled_at (further s) (items_tree is)) ≡
-        option_map flow_label (cond b (Some (record { before = before; key = key; node = n; behind = sep_text sep (flow_items_text k is behind) })) (flow_in k (further s) (before ++ key_text key (node_text n (sep_text sep []))) is behind))
+        option_map flow_label (cond b (Some (record { before = before; key = key; node = n; after = sep_text sep (flow_items_text k is after) })) (flow_in k (further s) (before ++ key_text key (node_text n (sep_text sep []))) is after))
     go b h1 = search rules
 
 collection_children : (k : ℕ) (cs : tree.Children) → tree.children_of (tree_collection k cs) ≡ cs
@@ -74,23 +74,23 @@ collection_children k cs = search rules
 named_children : (a : List ℕ) (n : tree.Node) → tree.children_of (with_name a n) ≡ tree.children_of n
 named_children a n = search rules
 
-under_labels : (s : Step) (before : List ℕ) (node : FlowNode) (behind : List ℕ) → labelled_at s (tree.children_of (tree_of node)) ≡ option_map flow_label (flow_under s before node behind)
+under_labels : (s : Step) (before : List ℕ) (node : FlowNode) (after : List ℕ) → labelled_at s (tree.children_of (tree_of node)) ≡ option_map flow_label (flow_under s before node after)
 unfolding tree_of
-under_labels s before empty behind = refl
-under_labels s before (alias n) behind = refl
-under_labels s before (scalar p) behind = refl
-under_labels s before (coll k gap is) behind = ap (labelled_at s) (collection_children k (items_tree is)) ∙ in_labels k s (before ++ opening_bracket k ∷ gap) is behind
-under_labels s before (anchored n gap node) behind = ap (labelled_at s) (named_children n (tree_of node)) ∙ under_labels s (before ++ 38 ∷ (n ++ gap)) node behind
+under_labels s before empty after = refl
+under_labels s before (alias n) after = refl
+under_labels s before (scalar p) after = refl
+under_labels s before (coll k gap is) after = ap (labelled_at s) (collection_children k (items_tree is)) ∙ in_labels k s (before ++ opening_bracket k ∷ gap) is after
+under_labels s before (anchored n gap node) after = ap (labelled_at s) (named_children n (tree_of node)) ∙ under_labels s (before ++ 38 ∷ (n ++ gap)) node after
 
 pub at_labels : (ss : List Step) (x : FlowEntry) → labelled_from ss (flow_label x) ≡ option_map flow_label (flow_at ss x)
 at_labels [] x = refl
-at_labels (s ∷ ss) x = ap (option_and_then (labelled_from ss)) (under_labels s (x.before ++ key_text x.key []) x.node x.behind) ∙ go (λ y. at_labels ss y) (flow_under s (x.before ++ key_text x.key []) x.node x.behind)
+at_labels (s ∷ ss) x = ap (option_and_then (labelled_from ss)) (under_labels s (x.before ++ key_text x.key []) x.node x.after) ∙ go (λ y. at_labels ss y) (flow_under s (x.before ++ key_text x.key []) x.node x.after)
   where
     go : ((y : FlowEntry) → labelled_from ss (flow_label y) ≡ option_map flow_label (flow_at ss y)) → (o : Option FlowEntry) →
         option_and_then (labelled_from ss) (option_map flow_label o) ≡ option_map flow_label (option_and_then (flow_at ss) o)
     go h1 o = search rules
 
-pub item_valid : (s : Step) (ss : List Step) (x y : FlowEntry) → flow_at (s ∷ ss) x ≡ Some y → IsValid x.node x.behind → (depth : ℕ) × IsFlowNode true (Some 0) depth y.node y.behind
+pub item_valid : (s : Step) (ss : List Step) (x y : FlowEntry) → flow_at (s ∷ ss) x ≡ Some y → IsValid x.node x.after → (depth : ℕ) × IsFlowNode true (Some 0) depth y.node y.after
 item_valid s ss x y e v = let k = path_holds v.0 v.1 v.2 s ss (pieces x) (pieces y) v.3 (sym (at_pieces (s ∷ ss) x) ∙ ap (option_map pieces) e) in (k.0, k.2)
 
 -- the tree of a node by its head
@@ -118,7 +118,7 @@ head_labels t ts before (Inline space node tail) rest f h head e =
     ap (λ o. reach t ts (outlines.anchored f.line.anchor (head_or o (value f.under)))) head
     ∙ (reach_anchored f.line.anchor t ts h
     ∙ (sym (reach_anchored a.0 t ts h)
-    ∙ (ap (reach t ts) (sym a.1) ∙ at_labels (t ∷ ts) (record { before = before ++ space; key = bare; node = node; behind = tail ++ rest }))))
+    ∙ (ap (reach t ts) (sym a.1) ∙ at_labels (t ∷ ts) (record { before = before ++ space; key = bare; node = node; after = tail ++ rest }))))
 
 pub line_labels : (s : PrintedDocument) (t : Step) (ts : List Step) (e : BlockEntry) (f : FoundLine) (h : tree.Node) → IsFound s e f → f.line.head ≡ Some h →
     labelled_from (t ∷ ts) (entry_of f.line f.under) ≡ option_map flow_label (line_inline e >>= flow_at (t ∷ ts))
@@ -132,15 +132,15 @@ head_there ls y ys t ts f is fine =
 -- An item in a line's head is at its path, and is valid.
 pub record IsItemAt (ss : List Step) (f : FoundLine) (y : FlowEntry) : Type 0 where
   pub labelled : labelled_from ss (entry_of f.line f.under) ≡ Some (flow_label y)
-  pub valid : (depth : ℕ) × IsFlowNode true (Some 0) depth y.node y.behind
+  pub valid : (depth : ℕ) × IsFlowNode true (Some 0) depth y.node y.after
 
 content_valid : (t : Step) (ts : List Step) (before : List ℕ) (c : Content) (rest : List ℕ) (x y : FlowEntry) → content_inline before c rest ≡ Some x → flow_at (t ∷ ts) x ≡ Some y → IsWritten c rest →
-    (depth : ℕ) × IsFlowNode true (Some 0) depth y.node y.behind
+    (depth : ℕ) × IsFlowNode true (Some 0) depth y.node y.after
 content_valid t ts before c rest x y h1 h2 h3 = search (rules, at, none-some, item_valid, same_Some)
 
 pub head_item_at : (s : PrintedDocument) (t : Step) (ts : List Step) (e : BlockEntry) (f : FoundLine) (h : tree.Node) (x y : FlowEntry) → IsFound s e f → f.line.head ≡ Some h → line_inline e ≡ Some x →
     flow_at (t ∷ ts) x ≡ Some y → IsItemAt (t ∷ ts) f y
 head_item_at s t ts e f h x y found head is at = record {
   labelled = line_labels s t ts e f h found head ∙ ap (option_map flow_label) (ap (λ o. o >>= flow_at (t ∷ ts)) is ∙ at);
-  valid = content_valid t ts (e.before ++ (line_front e.line ++ e.line.mark)) e.line.content (print_lines e.under e.behind) x y is at found.as_printed.0.written;
+  valid = content_valid t ts (e.before ++ (line_front e.line ++ e.line.mark)) e.line.content (print_lines e.under e.after) x y is at found.as_printed.0.written;
 }

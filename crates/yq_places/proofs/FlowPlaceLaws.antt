@@ -3,7 +3,7 @@ use Rattle.std.proofs.Common.{◌≡◌, ◌⊎◌, ℕ, ◌+◌, List, [], ◌�
 use Rattle.std.{proofs.Common.rules, proofs.lemmas.Bool.cases_lt, specs.List.slice_get, specs.Prelude.is_some}
 use Rattle.yq_core.{specs.Paths.Step, specs.Entries.{parts_of, placed_entry_at}, specs.Nodes.{FlowNode, without_anchor}}
 use Rattle.yq_core.specs.Places.{Placed, locate}
-use Rattle.yq_row_table.{specs.Exchange.behind_row, specs.Rows.{Content, Row, Cut, cut_text}}
+use Rattle.yq_row_table.{specs.Exchange.after_row, specs.Rows.{Content, Row, Cut, cut_text}}
 use Rattle.yq_places.{specs.EntryReading.{inline_node, flow_entry, entry_within}, proofs.DashLineLaws.row_line_found}
 use Rattle.yq_documents.{specs.FlowReading.{alias_or_collection, content_core, row_flow}, specs.LinesInRows.{RowLine, row_line}}
 use Rattle.yq_outline.{specs.Lines.{tail_of, lines_of_rows}, specs.Outline.{LineMark, Line, Outline, end, row}}
@@ -64,5 +64,5 @@ row_entry total r rest t ts = simp (core_is, kept_entry, option_and_then, core_p
 
 -- what is known of a row's alias or flow collection tells where steps lead in it
 pub flow_agrees : (k : ℕ) (c : Cut) (rs : List Row) (n : ℕ) (t : Step) (ts : List Step) (q : RowLine) → row_line n rs ≡ Some q →
-    entry_within (t ∷ ts) (row_flow (length (cut_text c)) q.row (behind_row (k + q.before) c)) ≡ flow_entry k c rs n (t ∷ ts)
-flow_agrees k c rs n t ts q is = cc (row_entry (length (cut_text c)) q.row (behind_row (k + q.before) c) t ts)
+    entry_within (t ∷ ts) (row_flow (length (cut_text c)) q.row (after_row (k + q.before) c)) ≡ flow_entry k c rs n (t ∷ ts)
+flow_agrees k c rs n t ts q is = cc (row_entry (length (cut_text c)) q.row (after_row (k + q.before) c) t ts)

@@ -8,7 +8,7 @@ use Rattle.yq_core.{specs.Entries.{entry_place, locate_entry, entry_pieces_at}, 
 use Rattle.yq_core.{specs.Places.{Placed, Parts, end, part, key_placed, locate}, specs.Spans.{IsSpan, HasKeySpan, HasSpans, PartsHaveSpans}}
 use Rattle.yq_core.{specs.Trees.unplaced_key, specs.Tree.key_label, proofs.NodeAgain.node_longer, proofs.PathLaws.path_places}
 use Rattle.yq_core.proofs.EditPlaces.{start_placed, end_placed}
-use Rattle.yq_row_table.{specs.Exchange.behind_row, specs.Grammar.IsCut, specs.Rows.{Content, Nothing, Inline, Block, Row, Cut, cut_text}}
+use Rattle.yq_row_table.{specs.Exchange.after_row, specs.Grammar.IsCut, specs.Rows.{Content, Nothing, Inline, Block, Row, Cut, cut_text}}
 use Rattle.yq_row_table.specs.View.{rows_of}
 use Rattle.yq_places.{specs.EntryReading.{inline_node, placed_inline}, proofs.HeadSpanLaws.node_spans}
 use Rattle.yq_outline.specs.Lines.{tail_of}
@@ -57,12 +57,12 @@ pub flow_spans : (c : Cut) (i : ℕ) (r : Row) → IsUtf8 (cut_text c) → IsCut
     (s : Step) (ss : List Step) (e : PlacedEntry) → placed_entry_at (s ∷ ss) (None, placed_inline i r c) ≡ Some e → AreSpans (cut_text c) e
 flow_spans c i r u cut is s ss e found = go r.content refl found
   where
-    go : (x : Content) → r.content ≡ x → placed_entry_at (s ∷ ss) (None, locate (length (cut_text c)) (inline_node x) (tail_of x ++ behind_row i c)) ≡ Some e → AreSpans (cut_text c) e
-    go (Nothing tail) content found = absurd (none_within (length (cut_text c)) (tail ++ behind_row i c) s ss e found)
-    go (Block space anchor block) content found = absurd (none_within (length (cut_text c)) (block.tail ++ behind_row i c) s ss e found)
+    go : (x : Content) → r.content ≡ x → placed_entry_at (s ∷ ss) (None, locate (length (cut_text c)) (inline_node x) (tail_of x ++ after_row i c)) ≡ Some e → AreSpans (cut_text c) e
+    go (Nothing tail) content found = absurd (none_within (length (cut_text c)) (tail ++ after_row i c) s ss e found)
+    go (Block space anchor block) content found = absurd (none_within (length (cut_text c)) (block.tail ++ after_row i c) s ss e found)
     go (Inline space node tail) content found =
         let total : ℕ = length (cut_text c) in
-        let slot : EntryPieces = record { key = bare; node = node; rest = tail ++ behind_row i c } in
+        let slot : EntryPieces = record { key = bare; node = node; rest = tail ++ after_row i c } in
         let y = mapped (locate_entry total) (entry_pieces_at (s ∷ ss) slot) e (sym (path_places total (s ∷ ss) slot) ∙ found) in
-        let spans = entry_spans (cut_text c) (s ∷ ss) (None, locate total node (tail ++ behind_row i c)) e (tt, node_spans c i r u cut is space node tail content) found in
+        let spans = entry_spans (cut_text c) (s ∷ ss) (None, locate total node (tail ++ after_row i c)) e (tt, node_spans c i r u cut is space node tail content) found in
         search (rules, entry_order, content_span, total, y, spans)

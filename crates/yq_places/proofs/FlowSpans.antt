@@ -12,18 +12,18 @@ use Rattle.yq_places.{specs.PathPieces.{FlowEntry, flow_piece, flow_content}, pr
 pub item_place : (y : FlowEntry) (total : ℕ) → total ≡ length (item_text y) → entry_place (locate_entry total (pieces y)) ≡ piece_span (flow_piece y)
 item_place y total e = (λ i. (start y.key refl i, stop i))
   where
-    text : length (item_text y) ≡ length y.before + length (key_text y.key (node_text y.node y.behind))
-    text = length-append y.before (key_text y.key (node_text y.node y.behind))
+    text : length (item_text y) ≡ length y.before + length (key_text y.key (node_text y.node y.after))
+    text = length-append y.before (key_text y.key (node_text y.node y.after))
 
-    split : length (key_text y.key (node_text y.node y.behind)) ≡ length (key_text y.key (node_text y.node [])) + length y.behind
-    split = ap length (ap (key_text y.key) (node_then y.node y.behind) ∙ key_append y.key (node_text y.node []) y.behind) ∙ length-append (key_text y.key (node_text y.node [])) y.behind
+    split : length (key_text y.key (node_text y.node y.after)) ≡ length (key_text y.key (node_text y.node [])) + length y.after
+    split = ap length (ap (key_text y.key) (node_then y.node y.after) ∙ key_append y.key (node_text y.node []) y.after) ∙ length-append (key_text y.key (node_text y.node [])) y.after
 
-    start : (k : Key) → y.key ≡ k → (entry_place (locate_entry total (record { key = k; node = y.node; rest = y.behind }))).0 ≡ length y.before
-    start bare is = start_placed total y.node y.behind ∙ omega (arith, e, text, ap (λ j. length (key_text j (node_text y.node y.behind))) is)
-    start (keyed t b g) is = omega (arith, e, text, ap (λ j. length (key_text j (node_text y.node y.behind))) is)
+    start : (k : Key) → y.key ≡ k → (entry_place (locate_entry total (record { key = k; node = y.node; rest = y.after }))).0 ≡ length y.before
+    start bare is = start_placed total y.node y.after ∙ omega (arith, e, text, ap (λ j. length (key_text j (node_text y.node y.after))) is)
+    start (keyed t b g) is = omega (arith, e, text, ap (λ j. length (key_text j (node_text y.node y.after))) is)
 
     stop : (entry_place (locate_entry total (pieces y))).1 ≡ length y.before + length (key_text y.key (node_text y.node []))
-    stop = end_placed total y.node y.behind ∙ omega (arith, e, text, split)
+    stop = end_placed total y.node y.after ∙ omega (arith, e, text, split)
 
 pub anchor_place : (n : List ℕ) (start : ℕ) (p : Placed) → content_place (anchored_node n start p) ≡ content_place p
 anchor_place n start (placed a s c e f) = refl
@@ -41,5 +41,5 @@ node_place total before (anchored n g node) rest e =
     anchor_place n (total - length (node_text (anchored n g node) rest)) (locate total node rest)
     ∙ node_place total (before ++ 38 ∷ (n ++ g)) node rest (e ∙ ap length (ap (λ l. before ++ (38 ∷ l)) (sym (append_assoc n g (node_text node rest))) ∙ sym (append_assoc before (38 ∷ (n ++ g)) (node_text node rest))))
 
-pub value_place : (y : FlowEntry) (total : ℕ) → total ≡ length (item_text y) → content_place (locate total y.node y.behind) ≡ option_map piece_span (flow_content y)
+pub value_place : (y : FlowEntry) (total : ℕ) → total ≡ length (item_text y) → content_place (locate total y.node y.after) ≡ option_map piece_span (flow_content y)
 value_place y total e = search (rules, node_place, key_append, append_assoc)

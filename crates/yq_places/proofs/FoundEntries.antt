@@ -22,25 +22,25 @@ some_head t ts m h after h1 h2 = search rules
 -- ---- the entries of lines that were found
 
 -- Lines between two texts are some of a document.
-pub record IsIn (s : PrintedDocument) (before : List ℕ) (ls : List PrintedLine) (behind : List ℕ) : Type 0 where
+pub record IsIn (s : PrintedDocument) (before : List ℕ) (ls : List PrintedLine) (after : List ℕ) : Type 0 where
   pub above : List PrintedLine
   pub below : List PrintedLine
   pub lines : s.lines ≡ above ++ (ls ++ below)
   pub start : before ≡ s.before ++ print_lines above []
-  pub stop : behind ≡ print_lines below s.behind
+  pub stop : after ≡ print_lines below s.after
 
 -- An entry of a document is that of the line which was found.
 pub record IsFound (s : PrintedDocument) (e : BlockEntry) (f : FoundLine) : Type 0 where
-  pub inside : IsIn s e.before (e.line ∷ e.under) e.behind
+  pub inside : IsIn s e.before (e.line ∷ e.under) e.after
   pub line : e.line.line ≡ f.line
   pub lines : map line_in e.under ≡ flatten f.under
-  pub as_printed : ArePrinted (e.line ∷ e.under) e.behind
+  pub as_printed : ArePrinted (e.line ∷ e.under) e.after
 
 pub drop_line : (xs ys : List Line) (l : Line) → drop (suc (length xs)) (xs ++ (l ∷ ys)) ≡ ys
 drop_line [] ys l = refl
 drop_line (x ∷ xs) ys l = drop_line xs ys l
 
-pub entry_found : (s : PrintedDocument) (y : Step) (ys rest : List Step) (f : FoundLine) (e : BlockEntry) → find y ys (group (map line_in s.lines)) ≡ Some (f, rest) → ArePrinted s.lines s.behind → found_entry s f ≡ Some e → IsFound s e f
+pub entry_found : (s : PrintedDocument) (y : Step) (ys rest : List Step) (f : FoundLine) (e : BlockEntry) → find y ys (group (map line_in s.lines)) ≡ Some (f, rest) → ArePrinted s.lines s.after → found_entry s f ≡ Some e → IsFound s e f
 entry_found s y ys rest f e is as_printed at =
     let n : ℕ = length (lines_before f.place) in
     let m : ℕ = length (flatten f.under) in
@@ -53,12 +53,12 @@ entry_found s y ys rest f e is as_printed at =
     sym (take-map line_in m more)
     ∙ (ap (take m) (sym (drop-map line_in (suc n) s.lines) ∙ (ap (drop (suc n)) found ∙ drop_line (lines_before f.place) (flatten f.under ++ back) f.line)) ∙ take-append_seam (flatten f.under) back) in
     let split : s.lines ≡ take n s.lines ++ (l.0 ∷ (take m more ++ drop m more)) = line_split s.lines n l.0 l.1 ∙ ap (λ x. take n s.lines ++ (l.0 ∷ x)) (sym (take-append-drop m more)) in
-    let all = (printed_split (take n s.lines) (l.0 ∷ (take m more ++ drop m more)) s.behind (subst (λ x. ArePrinted x s.behind) split as_printed)).1 in
+    let all = (printed_split (take n s.lines) (l.0 ∷ (take m more ++ drop m more)) s.after (subst (λ x. ArePrinted x s.after) split as_printed)).1 in
     subst (λ (z : BlockEntry). IsFound s z f) (same_Some _ _ l.2) (record {
       inside = record { above = take n s.lines; below = drop m more; lines = split; start = refl; stop = refl };
       line = same_Some _ _ there;
       lines = under;
-      as_printed = (printed_split (l.0 ∷ take m more) (drop m more) s.behind all).0;
+      as_printed = (printed_split (l.0 ∷ take m more) (drop m more) s.after all).0;
     })
 
 -- a line that was found is there
@@ -81,7 +81,7 @@ abbrev pub entry_on : PrintedDocument → FoundLine → PrintedLine → BlockEnt
 entry_on s f l =
     let n = length (lines_before f.place) in
     let m = length (flatten f.under) in
-    record { before = s.before ++ print_lines (take n s.lines) []; line = l; under = take m (drop (suc n) s.lines); behind = print_lines (drop m (drop (suc n) s.lines)) s.behind }
+    record { before = s.before ++ print_lines (take n s.lines) []; line = l; under = take m (drop (suc n) s.lines); after = print_lines (drop m (drop (suc n) s.lines)) s.after }
 
 pub entry_is : (s : PrintedDocument) (f : FoundLine) (l : PrintedLine) → slice_get s.lines (length (lines_before f.place)) ≡ Some l → found_entry s f ≡ Some (entry_on s f l)
 entry_is s f l e = ap (λ (o : Option PrintedLine). o >>= λ x. Some (entry_on s f x)) e

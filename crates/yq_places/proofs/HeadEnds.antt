@@ -6,7 +6,7 @@ use Rattle.std.specs.List.{slice_get}
 use Rattle.yq_text.specs.Limit.{text_limit}
 use Rattle.yq_core.{specs.Piece.deeper, specs.Inline.depth_limit, specs.Nodes.{FlowNode, node_text, IsFlowNode}, specs.Scalars.IsScalarAt}
 use Rattle.yq_core.proofs.NodesPieceLaws.{front_not, scalar_begins}
-use Rattle.yq_row_table.{specs.Exchange.behind_row, specs.Grammar.{IsContent, IsCut}, specs.Rows.{Content, Row, parent_indent, Cut}}
+use Rattle.yq_row_table.{specs.Exchange.after_row, specs.Grammar.{IsContent, IsCut}, specs.Rows.{Content, Row, parent_indent, Cut}}
 use Rattle.yq_row_table.{specs.View.{Slices, slices, anchor_cut, content_cut, rows_of, RowsView, rows_view}, proofs.PlaceLaws.row_in}
 use Rattle.yq_outline.{specs.Extents.{row_start, front_length, head_place, IsRowsView}, proofs.LengthLaws.{row_fits, view_small}}
 use Rattle.yq_places.specs.EntryReading.{row_ending, head_end, head_extent, through_row, head_finish}
@@ -31,7 +31,7 @@ content_ends : (n : ℤ) (end : ℕ) (x : Content) (rest : List ℕ) → IsConte
 content_ends n end x rest h1 = search (rules, cond-false, node_begins, block_marks)
 
 head_ends : (t : List ℕ) (c : Cut) (i : ℕ) (r : Row) (end : ℕ) → IsCut t c → slice_get (rows_of c) i ≡ Some r → head_finish end (slices r) ≡ head_end end r.content
-head_ends t c i r end cut is = content_ends (parent_indent r) end r.content (behind_row i c) (row_in c i true r cut.parts is).row.content
+head_ends t c i r end cut is = content_ends (parent_indent r) end r.content (after_row i c) (row_in c i true r cut.parts is).row.content
 
 -- what comes after a head is within the text
 pub head_fits : (s : RowsView) (i : ℕ) (x : Slices) (place : ℕ × ℕ) → IsRowsView s → slice_get s.rows i ≡ Some x → ((c : Cut) → s ≡ rows_view c → (r : Row) → slice_get (rows_of c) i ≡ Some r → place ≡ head_place i c r) →

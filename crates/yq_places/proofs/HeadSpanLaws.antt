@@ -7,7 +7,7 @@ use Rattle.yq_core.{specs.Entries.end_of, specs.Inline.IsInlineAt, specs.Nodes.{
 use Rattle.yq_core.{specs.Places.{Placed, placed, anchored_node, locate}, specs.Spans.{IsSpan, HasSpans}}
 use Rattle.yq_core.{proofs.NodeAgain.{is_anchored, takes_unanchored}, proofs.SpanLaws.inline_spans, proofs.NodesWrittenLaws.node_then}
 use Rattle.yq_core.{proofs.EditPlaces.end_placed, specs.Piece.deeper}
-use Rattle.yq_row_table.specs.Exchange.{before_content, behind_row, with_content, allows_first}
+use Rattle.yq_row_table.specs.Exchange.{before_content, after_row, with_content, allows_first}
 use Rattle.yq_row_table.specs.Grammar.{IsContent, AreDashes, is_entry, IsCut, unlimited, limit_after}
 use Rattle.yq_row_table.specs.Rows.{RowMark, Content, Inline, Block, mark_text, dashes_text, Row, parent_indent, Cut, cut_text}
 use Rattle.yq_row_table.specs.View.{Slices, anchor_cut, content_cut, slices, rows_of}
@@ -51,15 +51,15 @@ regroup : (a b c d e x : List ℕ) → (a ++ (b ++ (c ++ (d ++ e)))) ++ x ≡ (a
 regroup a b c d e x = simp append_assoc refl
 
 -- the text of a cut round the head of a row
-pub head_text : (c : Cut) (i : ℕ) (r : Row) → slice_get (rows_of c) i ≡ Some r → cut_text c ≡ (before_content i c ++ ((slices r).space ++ ((slices r).anchor ++ (slices r).apart))) ++ from_head (slices r) (behind_row i c)
-head_text c i r is = tail_place c i r is ∙ regroup (before_content i c) (slices r).space (slices r).anchor (slices r).apart (slices r).head ((slices r).tail ++ ((slices r).raw ++ behind_row i c))
+pub head_text : (c : Cut) (i : ℕ) (r : Row) → slice_get (rows_of c) i ≡ Some r → cut_text c ≡ (before_content i c ++ ((slices r).space ++ ((slices r).anchor ++ (slices r).apart))) ++ from_head (slices r) (after_row i c)
+head_text c i r is = tail_place c i r is ∙ regroup (before_content i c) (slices r).space (slices r).anchor (slices r).apart (slices r).head ((slices r).tail ++ ((slices r).raw ++ after_row i c))
 
 grouped : (a b c d : List ℕ) → a ++ (b ++ (c ++ d)) ≡ (a ++ (b ++ (c ++ []))) ++ d
 grouped a b c d = simp append_assoc refl
 
 -- a row and its content
 module _ (c : Cut) (i : ℕ) (r : Row) (u : IsUtf8 (cut_text c)) (cut : IsCut (cut_text c) c) (is : slice_get (rows_of c) i ≡ Some r) where
-  holds : IsContent (parent_indent r) r.content (behind_row i c)
+  holds : IsContent (parent_indent r) r.content (after_row i c)
   holds = (row_in c i true r cut.parts is).row.content
 
   node_boundary : (space : List ℕ) (node : FlowNode) (tail : List ℕ) → r.content ≡ Inline space node tail → (b : Bool) → is_entry r.mark ≡ b → IsCharBoundary (cut_text c) (length (before_content i c ++ space))
@@ -71,16 +71,16 @@ module _ (c : Cut) (i : ℕ) (r : Row) (u : IsUtf8 (cut_text c)) (cut : IsCut (c
       omega (arith, front_in i c r is, length-append {A = ℕ}, ap length none, ap length (bare_front r.dashes r.mark alone row.dashes)) in
       subst (IsCharBoundary (cut_text c)) same (line_boundary c i 0 r u cut.parts is)
 
-  pub node_spans : (space : List ℕ) (node : FlowNode) (tail : List ℕ) → r.content ≡ Inline space node tail → HasSpans (cut_text c) (locate (length (cut_text c)) node (tail ++ behind_row i c))
+  pub node_spans : (space : List ℕ) (node : FlowNode) (tail : List ℕ) → r.content ≡ Inline space node tail → HasSpans (cut_text c) (locate (length (cut_text c)) node (tail ++ after_row i c))
   node_spans space node tail content =
       let before : List ℕ = before_content i c ++ space in
-      let rest : List ℕ = tail ++ behind_row i c in
+      let rest : List ℕ = tail ++ after_row i c in
       let whole : cut_text c ≡ before ++ node_text node rest = cc (place c i r is, append_assoc (before_content i c) space (node_text node rest)) in
       let at : IsInlineAt places.Block (parent_indent r) 0 (length before) (cut_text c) (locate (length (cut_text c)) node rest) = record {
         node = node;
         rest = rest;
-        stands = ap (drop (length before)) whole ∙ drop-append_seam before (node_text node rest);
-        inline = (subst (λ (x : Content). IsContent (parent_indent r) x (behind_row i c)) content holds).1;
+        is_located = ap (drop (length before)) whole ∙ drop-append_seam before (node_text node rest);
+        inline = (subst (λ (x : Content). IsContent (parent_indent r) x (after_row i c)) content holds).1;
         places = refl;
       } in
       inline_spans places.Block (parent_indent r) 0 (length before) (cut_text c) (locate (length (cut_text c)) node rest) at u (node_boundary space node tail content (is_entry r.mark) refl)
@@ -89,10 +89,10 @@ module _ (c : Cut) (i : ℕ) (r : Row) (u : IsUtf8 (cut_text c)) (cut : IsCut (c
   abbrev start : ℕ
   start = length (before_content i c ++ ((slices r).space ++ ((slices r).anchor ++ (slices r).apart)))
 
-  start_text : cut_text c ≡ (before_content i c ++ ((slices r).space ++ ((slices r).anchor ++ (slices r).apart))) ++ from_head (slices r) (behind_row i c)
+  start_text : cut_text c ≡ (before_content i c ++ ((slices r).space ++ ((slices r).anchor ++ (slices r).apart))) ++ from_head (slices r) (after_row i c)
   start_text = head_text c i r is
 
-  start_ascii : BeginsAscii ((slices r).head ++ ((slices r).tail ++ ((slices r).raw ++ behind_row i c))) → IsCharBoundary (cut_text c) start
+  start_ascii : BeginsAscii ((slices r).head ++ ((slices r).tail ++ ((slices r).raw ++ after_row i c))) → IsCharBoundary (cut_text c) start
   start_ascii h = search (rules, start_text, before_ascii)
 
   tail_length : length (before_tail i r c) ≡ start + length (slices r).head
@@ -103,28 +103,28 @@ module _ (c : Cut) (i : ℕ) (r : Row) (u : IsUtf8 (cut_text c)) (cut : IsCut (c
       let s : Slices = slices r in
       let before : List ℕ = before_tail i r c in
       let last : List ℕ = s.tail ++ (s.raw ++ []) in
-      let ended : Ended last (behind_row i c) = last_ended s.tail s.raw (behind_row i c) (content_end (parent_indent r) r.content (behind_row i c) holds) (raw_end (parent_indent r) r.content (behind_row i c) holds) in
-      let whole : cut_text c ≡ (before ++ last) ++ behind_row i c = tail_place c i r is ∙ grouped before s.tail s.raw (behind_row i c) in
+      let ended : Ended last (after_row i c) = last_ended s.tail s.raw (after_row i c) (content_end (parent_indent r) r.content (after_row i c) holds) (raw_end (parent_indent r) r.content (after_row i c) holds) in
+      let whole : cut_text c ≡ (before ++ last) ++ after_row i c = tail_place c i r is ∙ grouped before s.tail s.raw (after_row i c) in
       subst (IsCharBoundary (cut_text c)) (omega (arith, tail_length, length-append before last, length-append s.tail (s.raw ++ []), length-append s.raw []))
       (subst (λ (q : List ℕ). IsCharBoundary q (length (before ++ last))) (sym whole)
-      (seam_boundary (before ++ last) (behind_row i c) (subst IsUtf8 whole u)
-      (ended_seam (before ++ last) (behind_row i c) (ended_after before last (behind_row i c) ended))))
+      (seam_boundary (before ++ last) (after_row i c) (subst IsUtf8 whole u)
+      (ended_seam (before ++ last) (after_row i c) (ended_after before last (after_row i c) ended))))
 
   inline_span : (space : List ℕ) (node : FlowNode) (tail : List ℕ) → r.content ≡ Inline space node tail → IsSpan (cut_text c) start (start + length (slices r).head)
   inline_span space node tail content =
       let s : Slices = slices r in
       let total : ℕ = length (cut_text c) in
-      let rest : List ℕ = tail ++ behind_row i c in
+      let rest : List ℕ = tail ++ after_row i c in
       let p : Placed = locate total node rest in
-      let valid = (subst (λ (x : Content). IsContent (parent_indent r) x (behind_row i c)) content holds).1.valid in
+      let valid = (subst (λ (x : Content). IsContent (parent_indent r) x (after_row i c)) content holds).1.valid in
       let head : length s.head ≡ length (anchor_cut node).2 = ap (λ (x : Content). length (content_cut x).3) content in
       let size : total ≡ start + length s.head + length rest =
       omega (
         arith,
         tail_length,
         ap length (tail_place c i r is),
-        length-append (before_tail i r c) (s.tail ++ (s.raw ++ behind_row i c)),
-        ap (λ (x : Content). length ((content_cut x).4 ++ ((content_cut x).5 ++ behind_row i c))) content,
+        length-append (before_tail i r c) (s.tail ++ (s.raw ++ after_row i c)),
+        ap (λ (x : Content). length ((content_cut x).4 ++ ((content_cut x).5 ++ after_row i c))) content,
       ) in
       let from : core_of p ≡ start = omega (arith, size, head, node_core _ _ _ total node rest valid, length-append (anchor_cut node).2 rest) in
       let to : end_of p ≡ start + length s.head = omega (arith, size, end_placed total node rest) in

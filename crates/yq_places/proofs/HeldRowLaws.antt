@@ -14,8 +14,8 @@ use Rattle.yq_documents.{specs.LinesInRows.row_line_of, specs.Reading.{all_docum
 use Rattle.yq_documents.proofs.HeadLaws.{block_marks}
 use Rattle.yq_places.{specs.CommentPlaces.text_to_line_end, specs.PlacedRows.{PlacedPart, placed_document}}
 use Rattle.yq_places.{specs.RowPieces.{anchor_before, space_before}, specs.RowWalk.document_row_range}
-use Rattle.yq_places.specs.Standings.{RowsOfEntry, before_entry, entry_rows_at, held, rows_of_entry}
-use Rattle.yq_places.{specs.StandingReading.{AreRowsOf, numbers_of_entry}, specs.StandingViews.{IsHeldRow, IsLastOf}}
+use Rattle.yq_places.specs.Placements.{RowsOfEntry, before_entry, entry_rows_at, held, rows_of_entry}
+use Rattle.yq_places.{specs.PlacementReading.{AreRowsOf, numbers_of_entry}, specs.PlacementViews.{IsHeldRow, IsLastOf}}
 use Rattle.yq_places.{specs.declared.places.held_row.HeldRow.HeldRow, proofs.EntryNumbers.{FoundEntry, entry_found, entry_row_agrees}}
 use Rattle.yq_places.{proofs.EntryRowLaws.{first_at, head_ends, pieces_at}, proofs.HeldTexts.line_is, proofs.RowHeads.slices_are}
 use Rattle.yq_places.{proofs.RowStarts.head_is, proofs.WalkDocuments.place_found}
@@ -62,9 +62,9 @@ line_found t s n d steps q y cut is known sound at there =
     let end : ℕ = (q.row + 1) + deeper_rows level (take (d.end - (q.row + 1)) (drop (q.row + 1) s.rows)) in
     entry_found t s n steps (record { row = q.row; line = q.line; dashes = lines_before_mark y; end = end }) cut is
     (place_found t s (cut_of t) n d (Some (q.row, q.line, lines_before_mark y, end)) (λ k cut rows. option_map (numbers_of_entry k rows) (row_line_of steps rows)) cut is known sound
-    (λ k. entry_row_agrees s d k.document.stand q at.line steps level (lines_before_mark y) end
+    (λ k. entry_row_agrees s d k.document.are_there q at.line steps level (lines_before_mark y) end
     (λ z e. ap (line_level q.line) (same_Some _ _ (sym there ∙ e))) (λ z e. ap lines_before_mark (same_Some _ _ (sym there ∙ e))) refl
-    (last_line steps [] (lines_of_rows k.document.stand.rows) (line_number d k.document.stand.rows q) (sym (at.leads k.document)) refl)))
+    (last_line steps [] (lines_of_rows k.document.are_there.rows) (line_number d k.document.are_there.rows q) (sym (at.leads k.document)) refl)))
 
 -- where what the key or dash of rows holds begins
 module _ (t : List ℕ) (s : RowsView) (e : RowsOfEntry) (row end : ℕ) (h : AreRowsOf t s e row end) where

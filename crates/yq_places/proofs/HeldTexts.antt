@@ -6,25 +6,25 @@ use Rattle.std.{proofs.lemmas.Str.{IsCharBoundary-at_seam, IsUtf8-append}, specs
 use Rattle.yq_text.specs.Limit.{text_limit}
 use Rattle.yq_core.{specs.Text.is_empty, specs.Nodes.{empty, alias, scalar, coll, anchored}}
 use Rattle.yq_row_table.specs.Exchange.{row_front}
-use Rattle.yq_row_table.specs.Rows.{Content, Nothing, Inline, Block, Row, behind_columns, dashes_text, mark_column, rows_text, Cut}
+use Rattle.yq_row_table.specs.Rows.{Content, Nothing, Inline, Block, Row, after_columns, dashes_text, mark_column, rows_text, Cut}
 use Rattle.yq_row_table.specs.View.{Slices, slices, content_cut, last_dash, rows_of, RowsView, rows_view}
 use Rattle.yq_places.{specs.CommentPlaces.{LineEnd, end_in_line, text_to_line_end}, specs.PrintedLines.last_break}
 use Rattle.yq_places.specs.RowPieces.{anchor_before, space_before}
-use Rattle.yq_places.specs.Standings.{Held, LinesIn, RowsOfEntry, before_entry, behind_entry, held, lines_between}
-use Rattle.yq_places.{specs.StandingReading.{AreRowsOf, EndsRows}, proofs.PrintedTexts.less_is}
+use Rattle.yq_places.specs.Placements.{Held, LinesIn, RowsOfEntry, before_entry, after_entry, held, lines_between}
+use Rattle.yq_places.{specs.PlacementReading.{AreRowsOf, EndsRows}, proofs.PrintedTexts.less_is}
 use Rattle.yq_places.proofs.EntryRowLaws.{head_ends, line_boundary_at, line_cut, pieces_at, through_is}
 use Rattle.yq_outline.{specs.Extents.head_place, specs.RowWalk.line_column, proofs.WalkLevels.{last_is, to_dash}}
 
 -- the column after dashes
-columns : (c : ℕ) (ns : List ℕ) → behind_columns c ns ≡ c + length (dashes_text ns [])
+columns : (c : ℕ) (ns : List ℕ) → after_columns c ns ≡ c + length (dashes_text ns [])
 columns c [] = omega arith
 columns c (n ∷ ns) = omega (arith, columns (suc (c + n)) ns, length-append (replicate n 32) (dashes_text ns []), length-replicate {A = ℕ} n 32)
 
-pub column_is : (r : Row) (k : ℕ) → k ≤ length r.dashes → line_column k (slices r) ≡ behind_columns r.column (take k r.dashes)
+pub column_is : (r : Row) (k : ℕ) → k ≤ length r.dashes → line_column k (slices r) ≡ after_columns r.column (take k r.dashes)
 column_is r k h = omega (arith, columns r.column (take k r.dashes), to_dash k r.dashes (last_dash r.mark) h (last_is r.mark))
 
 mark_column_is : (r : Row) (k : ℕ) → k ≡ length r.dashes → line_column k (slices r) ≡ mark_column r
-mark_column_is r k e = column_is r k (omega (arith, e)) ∙ ap (behind_columns r.column) (take_all k r.dashes (omega (arith, e)))
+mark_column_is r k e = column_is r k (omega (arith, e)) ∙ ap (after_columns r.column) (take_all k r.dashes (omega (arith, e)))
 
 -- the pieces after a mark before what is there
 head_front : (x : Content) (s : Slices) (u : List ℕ) → s.space ≡ (content_cut x).0 → s.anchor ≡ (content_cut x).1 → s.apart ≡ (content_cut x).2 → s.space ++ (s.anchor ++ (s.apart ++ u)) ≡ anchor_before s ++ (space_before s ++ u)
@@ -89,7 +89,7 @@ module _ (t : List ℕ) (s : RowsView) (e : RowsOfEntry) (row end : ℕ) (h : Ar
   tail_fits tail tail_is =
       let l : List ℕ = (before_entry e ++ text_to_line_end e.row) ++ (slices e.row).tail in
       let lower : List ℕ = (slices e.row).raw ++ rows_text e.under [] in
-      omega (arith, from_is, ap length tail_is, ap length (line_cut t s e row end h), length-append l (lower ++ behind_entry e), h.cut.size)
+      omega (arith, from_is, ap length tail_is, ap length (line_cut t s e row end h), length-append l (lower ++ after_entry e), h.cut.size)
 
   sized : (space head : List ℕ) → space ≡ space_before y → head ≡ y.head → length front + (length space + length head) ≡ place.1
   sized space head a b =
@@ -129,9 +129,9 @@ module _ (t : List ℕ) (s : RowsView) (e : RowsOfEntry) (row end : ℕ) (h : Ar
 
   pub held_is : (column dashes : ℕ) (keyed noted none : Bool) (before space head break last : List ℕ) (tail : LineEnd) (lower : LinesIn) →
       column ≡ line_column dashes y → dashes ≡ length e.row.dashes → keyed ≡ not (is_empty y.colon) → tail ≡ end_in_line [] y.tail →
-      noted ≡ (not (is_empty y.anchor) || not (is_empty tail.comment)) → lower ≡ lines_between ((before_entry e ++ text_to_line_end e.row) ++ (slices e.row).tail) ((slices e.row).raw ++ rows_text e.under []) (behind_entry e) →
+      noted ≡ (not (is_empty y.anchor) || not (is_empty tail.comment)) → lower ≡ lines_between ((before_entry e ++ text_to_line_end e.row) ++ (slices e.row).tail) ((slices e.row).raw ++ rows_text e.under []) (after_entry e) →
       space ≡ space_before y → head ≡ y.head → before ≡ take (place.1 - (length space + length head)) lower.before → none ≡ is_empty (lower.lines ++ lower.last) →
-      break ≡ cond none [] tail.behind → last ≡ cond none tail.behind lower.last →
+      break ≡ cond none [] tail.after → last ≡ cond none tail.after lower.last →
       ◌≡◌ {A = Held} (record {
         mark = record { column = column; keyed = keyed; noted = noted };
         before = before;
@@ -143,7 +143,7 @@ module _ (t : List ℕ) (s : RowsView) (e : RowsOfEntry) (row end : ℕ) (h : Ar
         break = break;
         lines = lower.lines;
         last = last;
-        behind = lower.behind;
+        after = lower.after;
       }) (held e)
   held_is column dashes keyed noted none before space head break last tail lower columns_are dashes_are keyed_is tail_is noted_is lower_is space_is head_is before_cut none_is break_is last_is_it =
       let r : Row = e.row in
@@ -155,9 +155,9 @@ module _ (t : List ℕ) (s : RowsView) (e : RowsOfEntry) (row end : ℕ) (h : Ar
       let g : space ≡ space_before (slices r) = space_is ∙ ap space_before (sym same) in
       let k : head ≡ (slices r).head = head_is ∙ ap (λ (z : Slices). z.head) (sym same) in
       let nothing : none ≡ is_empty ((slices r).raw ++ rows_text e.under []) = none_is ∙ (ap (λ (z : LinesIn). is_empty (z.lines ++ z.last)) lower_is ∙ ap is_empty (less_is ((slices r).raw ++ rows_text e.under []))) in
-      let m : break ≡ cond (is_empty ((slices r).raw ++ rows_text e.under [])) [] (end_in_line [] (slices r).tail).behind = break_is ∙ (λ i. cond (nothing i) [] (end i).behind) in
-      let n : last ≡ cond (is_empty ((slices r).raw ++ rows_text e.under [])) (end_in_line [] (slices r).tail).behind
-      (last_break ((slices r).raw ++ rows_text e.under [])) = last_is_it ∙ (λ i. cond (nothing i) (end i).behind (lower_is i).last) in
+      let m : break ≡ cond (is_empty ((slices r).raw ++ rows_text e.under [])) [] (end_in_line [] (slices r).tail).after = break_is ∙ (λ i. cond (nothing i) [] (end i).after) in
+      let n : last ≡ cond (is_empty ((slices r).raw ++ rows_text e.under [])) (end_in_line [] (slices r).tail).after
+      (last_break ((slices r).raw ++ rows_text e.under [])) = last_is_it ∙ (λ i. cond (nothing i) (end i).after (lower_is i).last) in
       λ i. record {
         mark = record { column = a i; keyed = b i; noted = d i };
         before = f i;
@@ -168,5 +168,5 @@ module _ (t : List ℕ) (s : RowsView) (e : RowsOfEntry) (row end : ℕ) (h : Ar
         break = m i;
         lines = (lower_is i).lines;
         last = n i;
-        behind = (lower_is i).behind;
+        after = (lower_is i).after;
       }

@@ -14,8 +14,8 @@ module _ (s : RowsView) (d : Stretch) (h : HasRows s d) (row : ℕ) (under : Pos
       let later = row_later s d h under floor k among in
       search (rules, get_taken, same_Some)
 
-  end_behind : under.row ≡ row + 1 → under.line ≡ 0 → rows_end s d floor k.row ≡ rows_end s d floor (row + 1)
-  end_behind next first =
+  following_end : under.row ≡ row + 1 → under.line ≡ 0 → rows_end s d floor k.row ≡ rows_end s d floor (row + 1)
+  following_end next first =
       let later = row_later s d h under floor k among in
       let x = one_there s.rows under.row (omega (arith, later, among.within, h.within)) in
       end_later s d h under floor k among
@@ -23,7 +23,7 @@ module _ (s : RowsView) (d : Stretch) (h : HasRows s d) (row : ℕ) (under : Pos
       ∙ ap (rows_end s d floor) next)
 
   pub end_from : (under.row ≡ row) ⊎ ((under.row ≡ row + 1) × (under.line ≡ 0)) → rows_end s d floor k.row ≡ rows_end s d floor (row + 1)
-  end_from same = search (rules, end_later, end_behind)
+  end_from same = search (rules, end_later, following_end)
 
   pub later_from : (under.row ≡ row) ⊎ ((under.row ≡ row + 1) × (under.line ≡ 0)) → row < k.row
   later_from (inl same) = omega (arith, row_later s d h under floor k among, same)

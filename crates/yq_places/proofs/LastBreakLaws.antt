@@ -9,14 +9,14 @@ abbrev pub HasNoFeed : List ℕ → Type 0
 HasNoFeed [] = Unit {0}
 HasNoFeed (b ∷ bs) = (is_feed b ≡ false) × HasNoFeed bs
 
-last_behind : (f : List ℕ) → is_line (last_break (f ++ (10 ∷ []))) ≡ true
+following_last : (f : List ℕ) → is_line (last_break (f ++ (10 ∷ []))) ≡ true
 unfolding less_break is_line
-last_behind (b ∷ (d ∷ [])) = last_behind (d ∷ [])
-last_behind (b ∷ (d ∷ (e ∷ f))) = last_behind (d ∷ (e ∷ f))
-last_behind f = search rules
+following_last (b ∷ (d ∷ [])) = following_last (d ∷ [])
+following_last (b ∷ (d ∷ (e ∷ f))) = following_last (d ∷ (e ∷ f))
+following_last f = search rules
 
 pub lf_last : (t : List ℕ) → IsLf t → is_line (last_break t) ≡ true
-lf_last t h = ap (λ x. is_line (last_break x)) h.1 ∙ last_behind h.0
+lf_last t h = ap (λ x. is_line (last_break x)) h.1 ∙ following_last h.0
 
 pub line_last : (t : List ℕ) → is_line t ≡ true → is_line (last_break t) ≡ true
 line_last t h = lf_last t (line_lf t h)

@@ -1,6 +1,6 @@
 pub mod RootPlaceLaws
 pub mod CommentPlaceLaws
-pub mod CommentStandLaws
+pub mod CommentLocationLaws
 pub mod RowStarts
 pub mod EntryPlaceLaws
 pub mod FlowPlaceLaws
@@ -71,7 +71,7 @@ mod LinesCutLaws
 mod EntryRowLaws
 mod HeldTexts
 pub mod HeldRowLaws
-pub mod StandingViewLaws
+pub mod PlacementViewLaws
 mod CutLaws
 mod LoneLaws
-pub mod RootStandingLaws
+pub mod RootPlacementLaws

@@ -6,7 +6,7 @@ use Rattle.yq_core.specs.Text.{front, is_white, is_feed, is_return, is_break, is
 use Rattle.yq_core.proofs.Upto.{upto_ends, none_in_cut, cut-append, cut_takes}
 use Rattle.yq_row_table.{specs.Gap.{IsWhite, IsBreak, IsComment}, specs.Grammar.{IsTail, IsContent}, specs.Rows.Content}
 use Rattle.yq_row_table.specs.View.{content_cut}
-use Rattle.yq_row_table.proofs.LineEnds.{white_cut, white_again, white_none, text_line, behind_comment, comment_none}
+use Rattle.yq_row_table.proofs.LineEnds.{white_cut, white_again, white_none, text_line, after_comment, comment_none}
 use Rattle.yq_places.specs.CommentPlaces.{LineEnd, end_in_line}
 use Rattle.yq_core.specs.Text as text
 
@@ -24,14 +24,14 @@ comment_more c break more h1 h2 = search (rules, none_more, false≢true, commen
 
 -- the end of a line that a tail is
 abbrev pub end_of_tail : (before tail more : List ℕ) → IsTail tail more → LineEnd
-end_of_tail before tail more h = record { before = before; white = h.white; comment = h.comment; behind = h.line.break ++ more }
+end_of_tail before tail more h = record { before = before; white = h.white; comment = h.comment; after = h.line.break ++ more }
 
 pub tail_is_end : (before tail more : List ℕ) (h : IsTail tail more) → end_in_line before (tail ++ more) ≡ end_of_tail before tail more h
 tail_is_end before tail more h =
     let rest : List ℕ = h.line.break ++ more in
     let whole : tail ++ more ≡ h.white ++ (h.comment ++ rest) = ap (λ x. x ++ more) h.line.spelled ∙ (append_assoc h.white (h.comment ++ h.line.break) more ∙ ap (λ x. h.white ++ x) (append_assoc h.comment h.line.break more)) in
-    let white : text.cut no_white (h.white ++ (h.comment ++ rest)) ≡ (h.white, h.comment ++ rest) = white_again h.white (h.comment ++ rest) h.line.blank (behind_comment h.comment h.line.break more h.line.as_comment h.line.ends).0 in
-    let break : ends_line rest ≡ true = (behind_comment [] h.line.break more tt h.line.ends).2 in
+    let white : text.cut no_white (h.white ++ (h.comment ++ rest)) ≡ (h.white, h.comment ++ rest) = white_again h.white (h.comment ++ rest) h.line.blank (after_comment h.comment h.line.break more h.line.as_comment h.line.ends).0 in
+    let break : ends_line rest ≡ true = (after_comment [] h.line.break more tt h.line.ends).2 in
     search (rules, cut-append, comment_more, rest, whole, white, break)
 
 -- the rest of a header's line is a tail

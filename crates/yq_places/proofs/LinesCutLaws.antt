@@ -5,7 +5,7 @@ use Rattle.std.{proofs.lemmas.Bool.{and_parts, eqb-true, false≢true, ne_eqb}, 
 use Rattle.yq_core.specs.Text.{is_empty}
 use Rattle.yq_outline.specs.Extents.{row_start}
 use Rattle.yq_row_table.{specs.Offsets.row_length, specs.Rows.{print_row, rows_text}, specs.View.{RowsView, Slices}}
-use Rattle.yq_places.{specs.StandingReading.EndsRows, specs.Standings.{before_entry, behind_entry, LinesIn}}
+use Rattle.yq_places.{specs.PlacementReading.EndsRows, specs.Placements.{before_entry, after_entry, LinesIn}}
 use Rattle.yq_places.{proofs.EntryRowLaws.{cut_in_two, stop_boundary, stop_is}, specs.LineReading.{CutsLines, IsLastBreak, line_list}}
 use Rattle.yq_places.specs.PrintedLines.{is_last_break, last_break, less_break}
 
@@ -28,13 +28,13 @@ module _ (t : List ℕ) (from stop : ℕ) (h : CutsLines t from stop) where
   size : stop - from ≡ length h.own
   size = omega (arith, h.from_is, h.stop_is, length-append h.before h.own)
 
-  rest : drop from t ≡ h.own ++ h.behind
-  rest = (λ i. drop (h.from_is i) (h.text i)) ∙ drop-append_seam h.before (h.own ++ h.behind)
+  rest : drop from t ≡ h.own ++ h.after
+  rest = (λ i. drop (h.from_is i) (h.text i)) ∙ drop-append_seam h.before (h.own ++ h.after)
 
-  pub lines_are : (before own lines last behind : List ℕ) → before ≡ take from t → own ≡ take (stop - from) (drop from t) →
-      behind ≡ drop (stop - from) (drop from t) → lines ≡ less_break own → last ≡ last_break own →
-      ◌≡◌ {A = LinesIn} (record { before = before; lines = lines; last = last; behind = behind }) (line_list h)
-  lines_are before own lines last behind a b d e f = search (rules, take-append_seam, size, rest, drop-append_seam)
+  pub lines_are : (before own lines last after : List ℕ) → before ≡ take from t → own ≡ take (stop - from) (drop from t) →
+      after ≡ drop (stop - from) (drop from t) → lines ≡ less_break own → last ≡ last_break own →
+      ◌≡◌ {A = LinesIn} (record { before = before; lines = lines; last = last; after = after }) (line_list h)
+  lines_are before own lines last after a b d e f = search (rules, take-append_seam, size, rest, drop-append_seam)
 
 -- the end of the rows of an item or entry
 module _ (t : List ℕ) (s : RowsView) (from end : ℕ) (h : EndsRows t s from end) (u : IsUtf8 t) (stop : ℕ)
@@ -46,8 +46,8 @@ module _ (t : List ℕ) (s : RowsView) (from end : ℕ) (h : EndsRows t s from e
   rows_cut = record {
     before = h.front;
     own = h.own;
-    behind = behind_entry h.entry;
-    text = cut_in_two t s h.entry h.row end h.rows ∙ (ap (λ (z : List ℕ). z ++ behind_entry h.entry) h.text ∙ append_assoc h.front h.own (behind_entry h.entry));
+    after = after_entry h.entry;
+    text = cut_in_two t s h.entry h.row end h.rows ∙ (ap (λ (z : List ℕ). z ++ after_entry h.entry) h.text ∙ append_assoc h.front h.own (after_entry h.entry));
     from_is = h.from_is;
     stop_is = stops ∙ ap length h.text;
     starts = h.starts;

@@ -9,11 +9,11 @@ use Rattle.yq_outline.{specs.Positions.has_no_mark, specs.Lines.line_mark, specs
 use Rattle.yq_row_table.{specs.Exchange.row_front, specs.Grammar.IsMark}
 use Rattle.yq_row_table.specs.Rows.{Content, Nothing, Inline, Block, Row, dashes_text, parent_indent, print_row, rows_text, Cut}
 use Rattle.yq_row_table.specs.View.{Slices, slices, content_cut, rows_of, RowsView, rows_view}
-use Rattle.yq_row_table.proofs.NodePieces.{before_ascii, behind_ascii, tail_ascii}
+use Rattle.yq_row_table.proofs.NodePieces.{before_ascii, following_ascii, tail_ascii}
 use Rattle.yq_documents.{specs.Pieces.TextPiece, specs.Reading.cut_of}
 use Rattle.yq_places.{specs.CommentPlaces.text_to_line_end, specs.RowPieces.upto_dash, specs.EntryReading.line_begin}
-use Rattle.yq_places.specs.Standings.{RowsOfEntry, before_entry, behind_entry, dash_text, is_alone, lone}
-use Rattle.yq_places.{specs.StandingReading.{AreRowsOf, EndsRows}, proofs.CommentEndLaws.row_text_parts}
+use Rattle.yq_places.specs.Placements.{RowsOfEntry, before_entry, after_entry, dash_text, is_alone, lone}
+use Rattle.yq_places.{specs.PlacementReading.{AreRowsOf, EndsRows}, proofs.CommentEndLaws.row_text_parts}
 use Rattle.yq_places.proofs.DashLaws.{front_is, row_cut}
 use Rattle.yq_places.{proofs.EntryRowLaws.{cut_in_two, first_at, head_ends, pieces_at, row_valid, text}, proofs.LineEndLaws.line_tail}
 use Rattle.yq_places.proofs.RowStarts.{line_begins}
@@ -36,17 +36,17 @@ module _ (t : List ℕ) (s : RowsView) (e : RowsOfEntry) (row end : ℕ) (h : Ar
   abbrev before : List ℕ
   before = before_entry e ++ (row_front e.row ++ ((slices e.row).space ++ ((slices e.row).anchor ++ (slices e.row).apart)))
 
-  abbrev behind : List ℕ
-  behind = (slices e.row).tail ++ ((slices e.row).raw ++ rows_text e.under (behind_entry e))
+  abbrev after : List ℕ
+  after = (slices e.row).tail ++ ((slices e.row).raw ++ rows_text e.under (after_entry e))
 
   line : before_entry e ++ text_to_line_end e.row ≡ before ++ (slices e.row).head
   line = let x : Slices = slices e.row in let parts : before_entry e ++ (row_front e.row ++ (x.space ++ (x.anchor ++ (x.apart ++ x.head)))) ≡ before ++ x.head = simp append_assoc refl in parts
 
-  whole : t ≡ (before ++ (slices e.row).head) ++ behind
+  whole : t ≡ (before ++ (slices e.row).head) ++ after
   whole =
       text t s e row end h
-      ∙ (ap (λ (u : List ℕ). before_entry e ++ u) (row_text_parts e.row (rows_text e.under (behind_entry e)))
-      ∙ (sym (append_assoc (before_entry e) (text_to_line_end e.row) behind) ∙ ap (λ (u : List ℕ). u ++ behind) line))
+      ∙ (ap (λ (u : List ℕ). before_entry e ++ u) (row_text_parts e.row (rows_text e.under (after_entry e)))
+      ∙ (sym (append_assoc (before_entry e) (text_to_line_end e.row) after) ∙ ap (λ (u : List ℕ). u ++ after) line))
 
   stop : place.1 ≡ length (before ++ (slices e.row).head)
   stop = head_ends t s e row end h place agrees ∙ ap length line
@@ -59,12 +59,12 @@ module _ (t : List ℕ) (s : RowsView) (e : RowsOfEntry) (row end : ℕ) (h : Ar
   pub end_boundary : (u : List ℕ) → u ≡ t → IsCharBoundary u place.1
   end_boundary u is =
       let x : Slices = slices e.row in
-      let tail = line_tail (parent_indent e.row) e.row.content (rows_text e.under (behind_entry e)) (row_valid t s e row end h).row.content in
+      let tail = line_tail (parent_indent e.row) e.row.content (rows_text e.under (after_entry e)) (row_valid t s e row end h).row.content in
       subst (λ (z : List ℕ). IsCharBoundary z place.1) (sym (is ∙ whole))
-      (subst (IsCharBoundary ((before ++ x.head) ++ behind)) (sym stop) (before_ascii (before ++ x.head) behind (tail_ascii x.tail (x.raw ++ rows_text e.under (behind_entry e)) tail)))
+      (subst (IsCharBoundary ((before ++ x.head) ++ after)) (sym stop) (before_ascii (before ++ x.head) after (tail_ascii x.tail (x.raw ++ rows_text e.under (after_entry e)) tail)))
 
   front_is_text : (u front : List ℕ) → u ≡ t → front ≡ take place.1 u → front ≡ before ++ (slices e.row).head
-  front_is_text u front is cut = cut ∙ ((λ i. take (stop i) ((is ∙ whole) i)) ∙ take-append_seam (before ++ (slices e.row).head) behind)
+  front_is_text u front is cut = cut ∙ ((λ i. take (stop i) ((is ∙ whole) i)) ∙ take-append_seam (before ++ (slices e.row).head) after)
 
   pub start_boundary : (u front : List ℕ) → u ≡ t → front ≡ take place.1 u → (head : List ℕ) → head ≡ y.head → IsUtf8 head → IsCharBoundary front place.0
   start_boundary u front is cut head head_is utf8 =
@@ -72,15 +72,15 @@ module _ (t : List ℕ) (s : RowsView) (e : RowsOfEntry) (row end : ℕ) (h : Ar
       subst (IsCharBoundary front) (sym start) (IsCharBoundary-at_seam front before head (front_is_text u front is cut ∙ ap (λ (z : List ℕ). before ++ z) own) utf8)
 
   pub lone_is : (u front first last head : List ℕ) → u ≡ t → front ≡ take place.1 u → last ≡ drop place.1 u → first ≡ take place.0 front → head ≡ y.head → is_alone e.row ≡ true →
-      ◌≡◌ {A = TextPiece} (record { before = first; text = head; behind = last }) (lone (before_entry e) e.row (rows_text e.under (behind_entry e)))
+      ◌≡◌ {A = TextPiece} (record { before = first; text = head; after = last }) (lone (before_entry e) e.row (rows_text e.under (after_entry e)))
   lone_is u front first last head is cut rest before_cut head_is a =
       let x : Slices = slices e.row in
       let b : first ≡ before = before_cut ∙ ((λ i. take (start i) (front_is_text u front is cut i)) ∙ take-append_seam before x.head) in
-      let none : x.raw ≡ [] = raw_none e.row.mark e.row.content (rows_text e.under (behind_entry e)) (row_valid t s e row end h).row.mark (and_parts (is_empty e.row.dashes) (has_no_mark (line_mark e.row.mark)) a).1 in
-      let l : last ≡ x.tail ++ rows_text e.under (behind_entry e) =
-      rest ∙ (((λ i. drop (stop i) ((is ∙ whole) i)) ∙ drop-append_seam (before ++ x.head) behind) ∙ ap (λ (z : List ℕ). x.tail ++ (z ++ rows_text e.under (behind_entry e))) none) in
+      let none : x.raw ≡ [] = raw_none e.row.mark e.row.content (rows_text e.under (after_entry e)) (row_valid t s e row end h).row.mark (and_parts (is_empty e.row.dashes) (has_no_mark (line_mark e.row.mark)) a).1 in
+      let l : last ≡ x.tail ++ rows_text e.under (after_entry e) =
+      rest ∙ (((λ i. drop (stop i) ((is ∙ whole) i)) ∙ drop-append_seam (before ++ x.head) after) ∙ ap (λ (z : List ℕ). x.tail ++ (z ++ rows_text e.under (after_entry e))) none) in
       let own : head ≡ x.head = head_is ∙ ap (λ (z : Slices). z.head) (sym same) in
-      λ i. record { before = b i; text = own i; behind = l i }
+      λ i. record { before = b i; text = own i; after = l i }
 
 -- ---- a collection after a dash
 
@@ -93,8 +93,8 @@ module _ (t : List ℕ) (s : RowsView) (e : RowsOfEntry) (row end : ℕ) (h : Ar
   pub through : before_entry e ++ print_row e.row (rows_text e.under []) ≡ front ++ dash_text e
   through = ap (λ (z : List ℕ). before_entry e ++ z) (row_cut e.line e.row (rows_text e.under []) less) ∙ sym (append_assoc (before_entry e) (row_front (upto_dash e.line e.row)) (dash_text e))
 
-  pub cut : t ≡ front ++ (dash_text e ++ behind_entry e)
-  cut = cut_in_two t s e row end h ∙ (ap (λ (z : List ℕ). z ++ behind_entry e) through ∙ append_assoc front (dash_text e) (behind_entry e))
+  pub cut : t ≡ front ++ (dash_text e ++ after_entry e)
+  cut = cut_in_two t s e row end h ∙ (ap (λ (z : List ℕ). z ++ after_entry e) through ∙ append_assoc front (dash_text e) (after_entry e))
 
   abbrev upto : List ℕ
   upto = before_entry e ++ (e.row.gap ++ (replicate e.row.column 32 ++ dashes_text (take e.line e.row.dashes) []))
@@ -114,7 +114,7 @@ module _ (t : List ℕ) (s : RowsView) (e : RowsOfEntry) (row end : ℕ) (h : Ar
       omega (arith, begins, ap length dash_is, length-append upto (45 ∷ []))
 
   pub dash_fits : start + 1 ≤ text_limit
-  dash_fits = omega (arith, size, ap length cut, length-append front (dash_text e ++ behind_entry e), h.cut.size)
+  dash_fits = omega (arith, size, ap length cut, length-append front (dash_text e ++ after_entry e), h.cut.size)
 
   abbrev pub dash_ends : EndsRows t s (start + 1) end
   dash_ends = record {
@@ -126,6 +126,6 @@ module _ (t : List ℕ) (s : RowsView) (e : RowsOfEntry) (row end : ℕ) (h : Ar
     text = through;
     from_is = size;
     starts = subst (λ (z : List ℕ). IsCharBoundary z (start + 1)) (sym cut)
-        (subst (IsCharBoundary (front ++ (dash_text e ++ behind_entry e))) (sym size)
-        (behind_ascii front (dash_text e ++ behind_entry e) (subst IsUtf8 cut u) (record { front = upto; last = 45; is = dash_is; ascii = omega arith })));
+        (subst (IsCharBoundary (front ++ (dash_text e ++ after_entry e))) (sym size)
+        (following_ascii front (dash_text e ++ after_entry e) (subst IsUtf8 cut u) (record { front = upto; last = 45; is = dash_is; ascii = omega arith })));
   }

@@ -153,12 +153,12 @@ block_numbers_of ls steps left p e none = ap (λ (o : Option ℕ). line_or o (su
 
 -- in the head of a line, by its row
 pub head_agrees : (s : RowsView) (d : Stretch) (c : Cut) (k : InCut s d c) (q : Position) (w : IsLine s d q) (steps left : List Step) (p : NodePlace)
-    (h : Option Node) → Some (p, left) ≡ node_place steps (lines_of_rows k.document.stand.rows) →
-    Some (line_number d k.document.stand.rows q) ≡ place_line (lines_of_rows k.document.stand.rows) p → h ≡ head_of (row_is s d c k q w).content → summary_in_head left h ≡ node_among steps d.first c k.document.stand.rows
+    (h : Option Node) → Some (p, left) ≡ node_place steps (lines_of_rows k.document.are_there.rows) →
+    Some (line_number d k.document.are_there.rows q) ≡ place_line (lines_of_rows k.document.are_there.rows) p → h ≡ head_of (row_is s d c k q w).content → summary_in_head left h ≡ node_among steps d.first c k.document.are_there.rows
 head_agrees s d c k q w steps left p h e found head =
-    let ls : List Line = lines_of_rows k.document.stand.rows in
-    let l = located s d k.document.stand q w in
-    let same : h ≡ l.line.head = head ∙ sym (row_takes s d k.document.stand q l (head_takes ls steps left p (line_number d k.document.stand.rows q) l.line e found l.is)) in
+    let ls : List Line = lines_of_rows k.document.are_there.rows in
+    let l = located s d k.document.are_there q w in
+    let same : h ≡ l.line.head = head ∙ sym (row_takes s d k.document.are_there q l (head_takes ls steps left p (line_number d k.document.are_there.rows q) l.line e found l.is)) in
     search rules
 
 -- in a document of a text

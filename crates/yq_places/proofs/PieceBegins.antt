@@ -43,15 +43,15 @@ moved a b more x h = (more ++ h.0, h.1 ∙ (ap (λ l. l ++ h.0) (sym (append_ass
 content_begins : (e : BlockEntry) (x : TextPiece) → content_piece e ≡ Some x → From (e.before ++ line_front e.line) x
 content_begins e x is = go (is_some e.line.line.head) is
   where
-    go : (b : Bool) → cond b (head_piece (e.before ++ (line_front e.line ++ e.line.mark)) e.line.content (print_lines e.under e.behind))
-        (lines_piece (e.before ++ print_line e.line []) e.under e.behind) ≡ Some x → From (e.before ++ line_front e.line) x
-    go true is = moved e.before (line_front e.line) e.line.mark x (head_begins (e.before ++ (line_front e.line ++ e.line.mark)) e.line.content (print_lines e.under e.behind) x is)
-    go false is = moved e.before (line_front e.line) (line_rest e.line []) x (block_begins (e.before ++ print_line e.line []) e.under e.behind x is)
+    go : (b : Bool) → cond b (head_piece (e.before ++ (line_front e.line ++ e.line.mark)) e.line.content (print_lines e.under e.after))
+        (lines_piece (e.before ++ print_line e.line []) e.under e.after) ≡ Some x → From (e.before ++ line_front e.line) x
+    go true is = moved e.before (line_front e.line) e.line.mark x (head_begins (e.before ++ (line_front e.line ++ e.line.mark)) e.line.content (print_lines e.under e.after) x is)
+    go false is = moved e.before (line_front e.line) (line_rest e.line []) x (block_begins (e.before ++ print_line e.line []) e.under e.after x is)
 
 item_begins : (o : Option FlowEntry) (e x : TextPiece) → option_map flow_piece o ≡ Some e → (o >>= flow_content) ≡ Some x → From e.before x
 item_begins None e x h k = absurd (none-some _ h)
 item_begins (Some y) e x h k =
-    search (rules, further y.before (key_text y.key []) x (node_begins (y.before ++ key_text y.key []) y.node y.behind x k), same_Some)
+    search (rules, further y.before (key_text y.key []) x (node_begins (y.before ++ key_text y.key []) y.node y.after x k), same_Some)
 
 part_begins : (ss : List Step) (o : Option BlockEntry) (e x : TextPiece) → (o >>= piece_in_entry parts.Entry ss) ≡ Some e → (o >>= piece_in_entry parts.Content ss) ≡ Some x → From e.before x
 part_begins ss o e x h k = search (rules, none-some, content_begins, same_Some, item_begins)

@@ -52,7 +52,7 @@ content_some : (s : PrintedDocument) (e : BlockEntry) (f : FoundLine) (m : ℕ) 
 content_some s e f m h even = go e.line.line.head refl
   where
     go : (o : Option tree.Node) → e.line.line.head ≡ o →
-        is_some (cond (is_some o) (head_piece (e.before ++ (line_front e.line ++ e.line.mark)) e.line.content (print_lines e.under e.behind)) (lines_piece (e.before ++ print_line e.line []) e.under e.behind)) ≡
+        is_some (cond (is_some o) (head_piece (e.before ++ (line_front e.line ++ e.line.mark)) e.line.content (print_lines e.under e.after)) (lines_piece (e.before ++ print_line e.line []) e.under e.after)) ≡
         (is_some o || some_lines e.under)
     go o h1 = search (rules, head_some, block_some)
 
@@ -63,9 +63,9 @@ entry_some : (s : PrintedDocument) (ss : List Step) (e : BlockEntry) (f : FoundL
 entry_some s [] e f m h even = content_some s e f m h even
 entry_some s (t ∷ ts) e f m h even = item_some (t ∷ ts) (line_inline e)
 
-document_some : (steps : List Step) (s : PrintedDocument) → ArePrinted s.lines s.behind → is_fine (group (map line_in s.lines)) ≡ true → is_some (piece_in parts.Content steps s) ≡ document_written steps s
+document_some : (steps : List Step) (s : PrintedDocument) → ArePrinted s.lines s.after → is_fine (group (map line_in s.lines)) ≡ true → is_some (piece_in parts.Content steps s) ≡ document_written steps s
 document_some [] s as_printed fine =
-    block_some s.before s.lines s.behind (group (map line_in s.lines)) (level_or 0 (group (map line_in s.lines))) as_printed (sym (flatten-group (map line_in s.lines)))
+    block_some s.before s.lines s.after (group (map line_in s.lines)) (level_or 0 (group (map line_in s.lines))) as_printed (sym (flatten-group (map line_in s.lines)))
     (even_from (level_or 0 (group (map line_in s.lines))) (group (map line_in s.lines)) fine)
 document_some (y ∷ ys) s as_printed fine = go (find y ys (group (map line_in s.lines))) refl
   where
@@ -103,7 +103,7 @@ entry_agrees s y ys (t ∷ ts) f e is fine found =
     let h = head_there (map line_in s.lines) y ys t ts f is fine in
     then_map (flow_at (t ∷ ts)) flow_piece (line_inline e) ∙ line_agrees s t ts e f h.0 found h.1
 
-steps_agree : (s : PrintedDocument) (y : Step) (ys : List Step) → ArePrinted s.lines s.behind → is_fine (group (map line_in s.lines)) ≡ true →
+steps_agree : (s : PrintedDocument) (y : Step) (ys : List Step) → ArePrinted s.lines s.after → is_fine (group (map line_in s.lines)) ≡ true →
     is_some (piece_in parts.Entry (y ∷ ys) s) ≡ is_some (node_at (y ∷ ys) (value (group (map line_in s.lines))))
 steps_agree s y ys as_printed fine = go (find y ys (group (map line_in s.lines))) refl ∙ ap is_some (sym (path_node y ys (group (map line_in s.lines))))
   where
@@ -150,7 +150,7 @@ entry_null s y ys (t ∷ ts) f e n is fine found at none =
     let h = head_there (map line_in s.lines) y ys t ts f is fine in
     in_null s t ts e f h.0 n (line_inline e) found h.1 refl (line_agrees s t ts e f h.0 found h.1 ∙ ap is_some at) at none
 
-document_null : (steps : List Step) (s : PrintedDocument) (n : tree.Node) → ArePrinted s.lines s.behind → is_fine (group (map line_in s.lines)) ≡ true →
+document_null : (steps : List Step) (s : PrintedDocument) (n : tree.Node) → ArePrinted s.lines s.after → is_fine (group (map line_in s.lines)) ≡ true →
     node_at steps (value (group (map line_in s.lines))) ≡ Some n → document_written steps s ≡ false → IsNull n
 document_null [] s n as_printed fine at none = (None, sym (same_Some _ _ at) ∙ ap value (no_lines (group (map line_in s.lines)) s.lines (sym (flatten-group (map line_in s.lines))) none))
 document_null (y ∷ ys) s n as_printed fine at none = go (find y ys (group (map line_in s.lines))) refl (sym (path_node y ys (group (map line_in s.lines))) ∙ at) none
@@ -163,7 +163,7 @@ document_null (y ∷ ys) s n as_printed fine at none = go (find y ys (group (map
 
 -- A document of a text: its lines, which are given by their texts and are even, and the node at a path, which is in its root.
 record IsRead (t : List ℕ) (p : Path) (s : PrintedDocument) : Type 0 where
-  pub as_printed : ArePrinted s.lines s.behind
+  pub as_printed : ArePrinted s.lines s.after
   pub fine : is_fine (group (map line_in s.lines)) ≡ true
   pub node : located p t ≡ node_at (steps_of p) (value (group (map line_in s.lines)))
 

@@ -38,12 +38,12 @@ spans_are t c path cut sound = go (printed_document path.doc c) refl
         let k : ℕ = document_row path.doc c in
         let b = part_begins c path.doc p q.1 in
         let fine : is_fine (group (map line_in (printed_lines p.rows))) ≡ true = subst (λ ls. is_fine (group ls) ≡ true) (sym (lines_are p.rows)) (document_fine p (each (document_parts c) sound path.doc p q.1)) in
-        let own : s ≡ record { before = s.before; lines = printed_lines p.rows; behind = s.behind } = (λ i. record { before = s.before; lines = q.2.lines i; behind = s.behind }) in
+        let own : s ≡ record { before = s.before; lines = printed_lines p.rows; after = s.after } = (λ i. record { before = s.before; lines = q.2.lines i; after = s.after }) in
         search (rules, document_placed, document_text, document_whole, contents_span, entries_span, q, p, k, b, fine, own)
 
 -- a text in three pieces, by the span of the second
-pieces_at : (t before old behind : List ℕ) → t ≡ before ++ (old ++ behind) → IsUtf8 t → IsSpan t (length before) (length before + length old) → HasPieces t before old behind
-pieces_at t before old behind text u span =
+pieces_at : (t before old after : List ℕ) → t ≡ before ++ (old ++ after) → IsUtf8 t → IsSpan t (length before) (length before + length old) → HasPieces t before old after
+pieces_at t before old after text u span =
     let front : IsUtf8 (take (length before) t) = IsUtf8-take t (length before) u span.begins in
     let within : IsUtf8 (take (length before + length old - length before) (drop (length before) t)) = IsUtf8-between t (length before) (length before + length old) u span.ordered span.begins span.ends in
     let size : length before + length old - length before ≡ length old = omega arith in
@@ -70,9 +70,9 @@ pieces_hold t c path part x read found = go part found
     go : (part : WhichPart) → path_piece path part c ≡ Some x → HoldsPiece t x
     go parts.Content e =
         let span = sym (spans_are t c path takes.0 takes.1).0 ∙ ap (option_map piece_span) e in
-        pieces_at t x.before x.text x.behind (whole_text t c path parts.Content x read e) u (entries_placed t c path (piece_span x) takes.0 u (inr span))
+        pieces_at t x.before x.text x.after (whole_text t c path parts.Content x read e) u (entries_placed t c path (piece_span x) takes.0 u (inr span))
     go parts.Entry e =
         let span = sym (spans_are t c path takes.0 takes.1).1 ∙ ap (option_map piece_span) e in
-        pieces_at t x.before x.text x.behind (whole_text t c path parts.Entry x read e) u (entries_placed t c path (piece_span x) takes.0 u (inl span))
+        pieces_at t x.before x.text x.after (whole_text t c path parts.Entry x read e) u (entries_placed t c path (piece_span x) takes.0 u (inl span))
     go parts.HeadComment e = comment (bind_some (printed_document path.doc c) e).0 (bind_some (printed_document path.doc c) e).1 (inr (bind_some (printed_document path.doc c) e).2)
     go parts.LineComment e = comment (bind_some (printed_document path.doc c) e).0 (bind_some (printed_document path.doc c) e).1 (inl (bind_some (printed_document path.doc c) e).2)

@@ -7,7 +7,7 @@ use Rattle.std.{proofs.lemmas.Option.{slice_get-map, slice_get_within, none-some
 use Rattle.yq_core.{specs.Answers.◌>>=◌, specs.Paths.Step}
 use Rattle.yq_core.{specs.Entries.{PlacedEntry, placed_entry_at, entry_place, content_place, locate_entry}, specs.Nodes.{bare, node_text}}
 use Rattle.yq_core.{specs.Places.locate, proofs.PathLaws.path_places}
-use Rattle.yq_row_table.specs.Exchange.{before_content, behind_row}
+use Rattle.yq_row_table.specs.Exchange.{before_content, after_row}
 use Rattle.yq_row_table.{specs.Rows.{Content, Nothing, Inline, Block, content_text, Row, Part, Cut, cut_text}, specs.View.rows_of}
 use Rattle.yq_row_table.proofs.PlaceLaws.{place, content_then}
 use Rattle.yq_outline.{proofs.KnownLaws.get_dropped, specs.Ends.{deeper_count, lines_end, reached}, specs.Group.{group, level_or, is_fine}}
@@ -49,10 +49,10 @@ bare_head e l us end even lines t = cc
 bare_head e l us (row x u a) even lines t = search (rules, bare_is, whole_head)
 
 -- the lines of a document among those of a cut
-module _ (c : Cut) (p : Part) (more : List Row) (k : ℕ) (before behind : List ℕ) (there : drop k (rows_of c) ≡ p.rows ++ more) (placed_in : IsPlaced c k p (record { before = before; lines = printed_lines p.rows; behind = behind }))
-    (as_printed : ArePrinted (printed_lines p.rows) behind) (text : before ++ print_lines (printed_lines p.rows) behind ≡ cut_text c) (fine : is_fine (group (map line_in (printed_lines p.rows))) ≡ true) where
+module _ (c : Cut) (p : Part) (more : List Row) (k : ℕ) (before following : List ℕ) (there : drop k (rows_of c) ≡ p.rows ++ more) (placed_in : IsPlaced c k p (record { before = before; lines = printed_lines p.rows; after = following }))
+    (as_printed : ArePrinted (printed_lines p.rows) following) (text : before ++ print_lines (printed_lines p.rows) following ≡ cut_text c) (fine : is_fine (group (map line_in (printed_lines p.rows))) ≡ true) where
   abbrev document : PrintedDocument
-  document = record { before = before; lines = printed_lines p.rows; behind = behind }
+  document = record { before = before; lines = printed_lines p.rows; after = following }
 
   line_at : (n : ℕ) (l : PrintedLine) → slice_get (printed_lines p.rows) n ≡ Some l → slice_get (lines_of_rows p.rows) n ≡ Some l.line
   line_at n l e = ap (λ x. slice_get x n) (sym (lines_are p.rows)) ∙ (slice_get-map line_in (printed_lines p.rows) n ∙ ap (option_map line_in) e)
@@ -160,8 +160,8 @@ module _ (c : Cut) (p : Part) (more : List Row) (k : ℕ) (before behind : List 
   entry_span f n m l e h =
       let z = within_some (printed_lines p.rows) (n + m) (omega (arith, h.fits)) in
       let b = last_line (n + m) z.0 z.1 (λ x ex. last_under n m l z.0 x h.line h.count z.1 ex) in
-      (λ i. Some (piece_span (run_piece (h.before_is i) (h.line_in_it i) (h.under_is i) e.behind)))
-      ∙ (run_span c p more k document there placed_in refl n m l z.0 e.behind b.0 h.line z.1 b.1 b.2 ∙ ap (lines_place k c p.rows n) (omega (arith, h.ends)))
+      (λ i. Some (piece_span (run_piece (h.before_is i) (h.line_in_it i) (h.under_is i) e.after)))
+      ∙ (run_span c p more k document there placed_in refl n m l z.0 e.after b.0 h.line z.1 b.1 b.2 ∙ ap (lines_place k c p.rows n) (omega (arith, h.ends)))
 
   content_span : (f : FoundLine) (n m : ℕ) (l : PrintedLine) (e : BlockEntry) → IsEntryAt f n m l e → option_map piece_span (content_piece e) ≡ line_content k c p.rows n
   content_span f n m l e h =
@@ -174,17 +174,17 @@ module _ (c : Cut) (p : Part) (more : List Row) (k : ℕ) (before behind : List 
       go : (o : Option tree.Node) → l.line.head ≡ o → option_map piece_span (content_piece e) ≡ cond (is_some l.line.head) (line_head k c p.rows n) (lines_content k c p.rows (suc n) (lines_end n (lines_of_rows p.rows)))
       go (Some x) head =
           ap (option_map piece_span) (cond-true _ _ _ (ap is_some (head_is ∙ head)))
-          ∙ ((λ i. option_map piece_span (head_piece (h.before_is i ++ (line_front (h.line_in_it i) ++ (h.line_in_it i).mark)) (h.line_in_it i).content (print_lines e.under e.behind)))
-          ∙ (head_span c p more k document there placed_in refl n l x (print_lines e.under e.behind) h.line head (subst (λ w. IsPrinted w (print_lines e.under e.behind)) h.line_in_it h.found.as_printed.0)
+          ∙ ((λ i. option_map piece_span (head_piece (h.before_is i ++ (line_front (h.line_in_it i) ++ (h.line_in_it i).mark)) (h.line_in_it i).content (print_lines e.under e.after)))
+          ∙ (head_span c p more k document there placed_in refl n l x (print_lines e.under e.after) h.line head (subst (λ w. IsPrinted w (print_lines e.under e.after)) h.line_in_it h.found.as_printed.0)
           ∙ sym (cond-true _ _ _ (ap is_some head))))
       go None head =
           let start : (before ++ print_lines (take n (printed_lines p.rows)) []) ++ print_line l [] ≡ before ++ print_lines (take (suc n) (printed_lines p.rows)) [] =
           append_assoc before (print_lines (take n (printed_lines p.rows)) []) (print_line l [])
           ∙ ap (λ x. before ++ x) (sym (lines_then (take n (printed_lines p.rows)) [] (print_line l [])) ∙ sym (line_more (printed_lines p.rows) n l h.line)) in
           ap (option_map piece_span) (cond-false _ _ _ (ap is_some (head_is ∙ head)))
-          ∙ ((λ i. option_map piece_span (lines_piece (h.before_is i ++ print_line (h.line_in_it i) []) (h.under_is i) e.behind))
-          ∙ (ap (λ x. option_map piece_span (lines_piece x (take m (drop (suc n) (printed_lines p.rows))) e.behind)) start
-          ∙ (block_span (suc n) m f.under h.even.0 e.behind h.fits h.even.1 (ap (map line_in) (sym h.under_is) ∙ h.found.lines) (subst (λ x. ArePrinted x e.behind) h.under_is h.found.as_printed.1)
+          ∙ ((λ i. option_map piece_span (lines_piece (h.before_is i ++ print_line (h.line_in_it i) []) (h.under_is i) e.after))
+          ∙ (ap (λ x. option_map piece_span (lines_piece x (take m (drop (suc n) (printed_lines p.rows))) e.after)) start
+          ∙ (block_span (suc n) m f.under h.even.0 e.after h.fits h.even.1 (ap (map line_in) (sym h.under_is) ∙ h.found.lines) (subst (λ x. ArePrinted x e.after) h.under_is h.found.as_printed.1)
           (λ j is w x ew ex.
           let here_is : suc n + j ≡ n + m = omega (arith, is) in
           let next_is : suc (suc n + j) ≡ suc (n + m) = omega (arith, is) in
@@ -209,7 +209,7 @@ module _ (c : Cut) (p : Part) (more : List Row) (k : ℕ) (before behind : List 
   in_content t ts x start (Nothing tail) rest some all = absurd (none-some _ (sym some))
   in_content t ts x start (Block space anchor block) rest some all = (refl, refl)
   in_content t ts x start (Inline space node tail) rest some all =
-      let z : FlowEntry = record { before = start ++ space; key = bare; node = node; behind = tail ++ rest } in
+      let z : FlowEntry = record { before = start ++ space; key = bare; node = node; after = tail ++ rest } in
       let own_text : cut_text c ≡ item_text z = all ∙ sym (append_assoc start space (node_text node (tail ++ rest))) in
       let places_are : placed_entry_at (t ∷ ts) (locate_entry (length (cut_text c)) (pieces z)) ≡ option_map (locate_entry (length (cut_text c))) (option_map pieces (flow_at (t ∷ ts) z)) =
       path_places (length (cut_text c)) (t ∷ ts) (pieces z) ∙ ap (option_map (locate_entry (length (cut_text c)))) (sym (at_pieces (t ∷ ts) z)) in
@@ -236,9 +236,9 @@ module _ (c : Cut) (p : Part) (more : List Row) (k : ℕ) (before behind : List 
           (option_map piece_span (line_inline e >>= λ w. flow_at (t ∷ ts) w >>= flow_content) ≡ option_and_then (λ (z : PlacedEntry). content_place z.1) (placed_entry_at (t ∷ ts) (None, placed_inline (k + q.before) q.row c)))
       go q is d line_is last y content =
           let own : e.line.content ≡ y = ap (λ (w : PrintedLine). w.content) h.line_in_it ∙ (sym (ap (λ (w : PrintedLine). w.content) line_is) ∙ ((d.last last).0 ∙ content)) in
-          let item : line_inline e ≡ content_inline (e.before ++ (line_front e.line ++ e.line.mark)) y (print_lines e.under e.behind) = cc in
-          let code : placed_entry_at (t ∷ ts) (None, placed_inline (k + q.before) q.row c) ≡ placed_entry_at (t ∷ ts) (None, locate (length (cut_text c)) (inline_node y) (tail_of y ++ behind_row (k + q.before) c)) =
-          ap (λ w. placed_entry_at (t ∷ ts) (None, locate (length (cut_text c)) (inline_node w) (tail_of w ++ behind_row (k + q.before) c))) content in
+          let item : line_inline e ≡ content_inline (e.before ++ (line_front e.line ++ e.line.mark)) y (print_lines e.under e.after) = cc in
+          let code : placed_entry_at (t ∷ ts) (None, placed_inline (k + q.before) q.row c) ≡ placed_entry_at (t ∷ ts) (None, locate (length (cut_text c)) (inline_node y) (tail_of y ++ after_row (k + q.before) c)) =
+          ap (λ w. placed_entry_at (t ∷ ts) (None, locate (length (cut_text c)) (inline_node w) (tail_of w ++ after_row (k + q.before) c))) content in
           let size : length (before_content (k + q.before) c) ≡ length (e.before ++ (line_front e.line ++ e.line.mark)) =
           omega (
             arith,
@@ -248,20 +248,20 @@ module _ (c : Cut) (p : Part) (more : List Row) (k : ℕ) (before behind : List 
             ap (λ (w : PrintedLine). length w.mark) (line_is ∙ sym h.line_in_it),
             length-append {A = ℕ},
           ) in
-          let split : before_content (k + q.before) c ++ content_text y (behind_row (k + q.before) c) ≡ (e.before ++ (line_front e.line ++ e.line.mark)) ++ content_text y (print_lines e.under e.behind) =
-          ap (λ w. before_content (k + q.before) c ++ content_text w (behind_row (k + q.before) c)) (sym content)
+          let split : before_content (k + q.before) c ++ content_text y (after_row (k + q.before) c) ≡ (e.before ++ (line_front e.line ++ e.line.mark)) ++ content_text y (print_lines e.under e.after) =
+          ap (λ w. before_content (k + q.before) c ++ content_text w (after_row (k + q.before) c)) (sym content)
           ∙ (sym (place c (k + q.before) q.row (row_there c p.rows more k n q there is))
           ∙ (sym h.all
-          ∙ (ap (λ w. e.before ++ (line_front e.line ++ (e.line.mark ++ content_text w (print_lines e.under e.behind)))) own
-          ∙ (ap (λ w. e.before ++ w) (sym (append_assoc (line_front e.line) e.line.mark (content_text y (print_lines e.under e.behind))))
-          ∙ sym (append_assoc e.before (line_front e.line ++ e.line.mark) (content_text y (print_lines e.under e.behind))))))) in
-          let after : behind_row (k + q.before) c ≡ print_lines e.under e.behind =
-          append_cancel_left (content_text y []) (behind_row (k + q.before) c) (print_lines e.under e.behind)
-          (sym (content_then y [] (behind_row (k + q.before) c)) ∙ (cancel (before_content (k + q.before) c) (e.before ++ (line_front e.line ++ e.line.mark)) _ _ split size ∙ content_then y [] (print_lines e.under e.behind))) in
-          let all : cut_text c ≡ (e.before ++ (line_front e.line ++ e.line.mark)) ++ content_text y (print_lines e.under e.behind) =
-          place c (k + q.before) q.row (row_there c p.rows more k n q there is) ∙ (ap (λ w. before_content (k + q.before) c ++ content_text w (behind_row (k + q.before) c)) content ∙ split) in
-          let r = in_content t ts x (e.before ++ (line_front e.line ++ e.line.mark)) y (print_lines e.under e.behind) (sym own_head ∙ ap head_of own) all in
-          let placed_is : placed_entry_at (t ∷ ts) (None, placed_inline (k + q.before) q.row c) ≡ placed_entry_at (t ∷ ts) (None, locate (length (cut_text c)) (inline_node y) (tail_of y ++ print_lines e.under e.behind)) =
+          ∙ (ap (λ w. e.before ++ (line_front e.line ++ (e.line.mark ++ content_text w (print_lines e.under e.after)))) own
+          ∙ (ap (λ w. e.before ++ w) (sym (append_assoc (line_front e.line) e.line.mark (content_text y (print_lines e.under e.after))))
+          ∙ sym (append_assoc e.before (line_front e.line ++ e.line.mark) (content_text y (print_lines e.under e.after))))))) in
+          let after : after_row (k + q.before) c ≡ print_lines e.under e.after =
+          append_cancel_left (content_text y []) (after_row (k + q.before) c) (print_lines e.under e.after)
+          (sym (content_then y [] (after_row (k + q.before) c)) ∙ (cancel (before_content (k + q.before) c) (e.before ++ (line_front e.line ++ e.line.mark)) _ _ split size ∙ content_then y [] (print_lines e.under e.after))) in
+          let all : cut_text c ≡ (e.before ++ (line_front e.line ++ e.line.mark)) ++ content_text y (print_lines e.under e.after) =
+          place c (k + q.before) q.row (row_there c p.rows more k n q there is) ∙ (ap (λ w. before_content (k + q.before) c ++ content_text w (after_row (k + q.before) c)) content ∙ split) in
+          let r = in_content t ts x (e.before ++ (line_front e.line ++ e.line.mark)) y (print_lines e.under e.after) (sym own_head ∙ ap head_of own) all in
+          let placed_is : placed_entry_at (t ∷ ts) (None, placed_inline (k + q.before) q.row c) ≡ placed_entry_at (t ∷ ts) (None, locate (length (cut_text c)) (inline_node y) (tail_of y ++ print_lines e.under e.after)) =
           code ∙ ap (λ w. placed_entry_at (t ∷ ts) (None, locate (length (cut_text c)) (inline_node y) (tail_of y ++ w))) after in (
             ap (λ o. option_map piece_span (o >>= λ w. option_map flow_piece (flow_at (t ∷ ts) w))) item ∙ (r.0 ∙ ap (option_map entry_place) (sym placed_is)),
             ap (λ o. option_map piece_span (o >>= λ w. flow_at (t ∷ ts) w >>= flow_content)) item ∙ (r.1 ∙ ap (option_and_then (λ (z : PlacedEntry). content_place z.1)) (sym placed_is)),
@@ -294,11 +294,11 @@ module _ (c : Cut) (p : Part) (more : List Row) (k : ℕ) (before behind : List 
   pub contents_span : (steps : List Step) → option_map piece_span (piece_in parts.Content steps document) ≡ places.node_place_of k c p.rows steps
   contents_span [] =
       let whole_list : take (length (printed_lines p.rows)) (printed_lines p.rows) ≡ printed_lines p.rows = take_whole (printed_lines p.rows) in
-      ap (λ x. option_map piece_span (lines_piece x (printed_lines p.rows) behind)) (sym (append-nil before))
-      ∙ (ap (λ x. option_map piece_span (lines_piece (before ++ []) x behind)) (sym whole_list)
-      ∙ (block_span 0 (length (printed_lines p.rows)) (group (map line_in (printed_lines p.rows))) (level_or 0 (group (map line_in (printed_lines p.rows)))) behind (omega arith)
+      ap (λ x. option_map piece_span (lines_piece x (printed_lines p.rows) following)) (sym (append-nil before))
+      ∙ (ap (λ x. option_map piece_span (lines_piece (before ++ []) x following)) (sym whole_list)
+      ∙ (block_span 0 (length (printed_lines p.rows)) (group (map line_in (printed_lines p.rows))) (level_or 0 (group (map line_in (printed_lines p.rows)))) following (omega arith)
       (even_from (level_or 0 (group (map line_in (printed_lines p.rows)))) (group (map line_in (printed_lines p.rows))) fine)
-      (ap (map line_in) whole_list ∙ sym (flatten-group (map line_in (printed_lines p.rows)))) (subst (λ x. ArePrinted x behind) (sym whole_list) as_printed)
+      (ap (map line_in) whole_list ∙ sym (flatten-group (map line_in (printed_lines p.rows)))) (subst (λ x. ArePrinted x following) (sym whole_list) as_printed)
       (λ j is l x el ex. absurd (omega (arith, is, slice_get_within (printed_lines p.rows) (suc (0 + j)) x ex)))
       ∙ ap (lines_content k c p.rows 0) (sym (omega (arith, ap length (lines_are p.rows), lines_count (printed_lines p.rows))))))
     where

@@ -21,7 +21,7 @@ use Rattle.yq_places.specs.PrintedLines.{line_front, PrintedLine, print_line, pr
 use Rattle.yq_places.specs.PathPieces.{BlockEntry, content_piece, flow_at, line_inline, PrintedDocument, printed_document, found_entry}
 use Rattle.yq_places.specs.PathPieces.{piece_in_entry, piece_in}
 use Rattle.yq_places.specs.PieceLaws.{IsInlinePiece, IsLineRun, SpellsTree, SpellsNode, IsEntryRun, IsFlowPiece, ContentsSpell}
-use Rattle.yq_places.{specs.PieceLaws.{EntriesSpell, LinesStand}, proofs.PrintedTexts.{map_some, lines_then, lines_append}}
+use Rattle.yq_places.{specs.PieceLaws.{EntriesSpell, LinesAreIn}, proofs.PrintedTexts.{map_some, lines_then, lines_append}}
 use Rattle.yq_places.proofs.PieceTexts.{document_whole}
 use Rattle.yq_places.proofs.PrintedLaws.{IsValid, IsWritten, IsPrinted, ArePrinted, lines_are, document_is}
 use Rattle.yq_places.proofs.FoundEntries.{IsIn, IsFound, entry_found}
@@ -32,29 +32,29 @@ use Rattle.yq_outline.specs.Outline as outlines
 use Rattle.yq_outline.specs.Places as places
 
 -- an inline node
-piece_is : (node : FlowNode) (before behind : List ℕ) (x : TextPiece) → node_anchor node ≡ None → Some (record { before = before; text = node_text node []; behind = behind }) ≡ Some x → IsValid node behind → IsInlinePiece x (tree_of node)
-piece_is node before behind x none e v =
+piece_is : (node : FlowNode) (before after : List ℕ) (x : TextPiece) → node_anchor node ≡ None → Some (record { before = before; text = node_text node []; after = after }) ≡ Some x → IsValid node after → IsInlinePiece x (tree_of node)
+piece_is node before after x none e v =
     let same = same_Some _ _ e in
-    record { node = node; unnamed = none; text = ap (λ (p : TextPiece). p.text) (sym same); valid = subst (λ (p : TextPiece). IsValid node p.behind) same v; tree = refl }
+    record { node = node; unnamed = none; text = ap (λ (p : TextPiece). p.text) (sym same); valid = subst (λ (p : TextPiece). IsValid node p.after) same v; tree = refl }
 
-pub node_spells : (before : List ℕ) (node : FlowNode) (behind : List ℕ) (x : TextPiece) → node_piece before node behind ≡ Some x → IsValid node behind →
+pub node_spells : (before : List ℕ) (node : FlowNode) (after : List ℕ) (x : TextPiece) → node_piece before node after ≡ Some x → IsValid node after →
     (h : tree.Node) × (node_head node ≡ Some h) × IsInlinePiece x h
 unfolding IsFlowNode
-node_spells before empty behind x e v = absurd (none-some _ e)
-node_spells before (alias name) behind x e v = (tree_of (alias name), refl, piece_is (alias name) before behind x refl e v)
-node_spells before (scalar p) behind x e v = (tree_of (scalar p), refl, piece_is (scalar p) before behind x refl e v)
-node_spells before (coll close gap items) behind x e v = (tree_of (coll close gap items), refl, piece_is (coll close gap items) before behind x refl e v)
-node_spells before (anchored name gap node) behind x e v = node_spells (before ++ 38 ∷ (name ++ gap)) node behind x e (v.0, v.1, v.2, v.3.4)
+node_spells before empty after x e v = absurd (none-some _ e)
+node_spells before (alias name) after x e v = (tree_of (alias name), refl, piece_is (alias name) before after x refl e v)
+node_spells before (scalar p) after x e v = (tree_of (scalar p), refl, piece_is (scalar p) before after x refl e v)
+node_spells before (coll close gap items) after x e v = (tree_of (coll close gap items), refl, piece_is (coll close gap items) before after x refl e v)
+node_spells before (anchored name gap node) after x e v = node_spells (before ++ 38 ∷ (name ++ gap)) node after x e (v.0, v.1, v.2, v.3.4)
 
 -- what is written after a mark
-pub head_spells : (s : PrintedDocument) (before : List ℕ) (c : Content) (behind : List ℕ) (x : TextPiece) → head_piece before c behind ≡ Some x → IsWritten c behind → (h : tree.Node) × (head_of c ≡ Some h) × SpellsTree s x h
-head_spells s before (Nothing tail) behind x e w = absurd (none-some _ e)
-head_spells s before (Inline space node tail) behind x e w = let k = node_spells (before ++ space) node (tail ++ behind) x e w in (k.0, k.1, inl k.2)
-head_spells s before (Block space anchor block) behind x e w =
-    (_, refl, inr (inl (record { block = block; text = ap (λ (p : TextPiece). p.text) (sym (same_Some _ _ e)); valid = subst (λ (p : TextPiece). (least : ℕ) × IsBlock least block p.behind) (same_Some _ _ e) w; tree = refl })))
+pub head_spells : (s : PrintedDocument) (before : List ℕ) (c : Content) (after : List ℕ) (x : TextPiece) → head_piece before c after ≡ Some x → IsWritten c after → (h : tree.Node) × (head_of c ≡ Some h) × SpellsTree s x h
+head_spells s before (Nothing tail) after x e w = absurd (none-some _ e)
+head_spells s before (Inline space node tail) after x e w = let k = node_spells (before ++ space) node (tail ++ after) x e w in (k.0, k.1, inl k.2)
+head_spells s before (Block space anchor block) after x e w =
+    (_, refl, inr (inl (record { block = block; text = ap (λ (p : TextPiece). p.text) (sym (same_Some _ _ e)); valid = subst (λ (p : TextPiece). (least : ℕ) × IsBlock least block p.after) (same_Some _ _ e) w; tree = refl })))
 
-pub behind_anchor : (s : PrintedDocument) (a : Option (List ℕ)) (x : TextPiece) (n : tree.Node) → SpellsNode s x n → SpellsNode s x (outlines.anchored a n)
-behind_anchor s a x n h = record { anchor = first_anchor a h.anchor; tree = h.tree; node = ap (outlines.anchored a) h.node ∙ twice a h.anchor h.tree; spelled = h.spelled }
+pub following_anchor : (s : PrintedDocument) (a : Option (List ℕ)) (x : TextPiece) (n : tree.Node) → SpellsNode s x n → SpellsNode s x (outlines.anchored a n)
+following_anchor s a x n h = record { anchor = first_anchor a h.anchor; tree = h.tree; node = ap (outlines.anchored a) h.node ∙ twice a h.anchor h.tree; spelled = h.spelled }
 
 -- the node of a line's head
 pub line_spells : (s : PrintedDocument) (before : List ℕ) (l : PrintedLine) (rest : List ℕ) (x : TextPiece) → IsPrinted l rest → head_piece before l.content rest ≡ Some x → (n : tree.Node) →
@@ -66,29 +66,29 @@ line_spells s before l rest x as_printed e n =
 pub bare_is : (m : LineMark) → has_no_mark m ≡ true → m ≡ outlines.Bare
 bare_is m h1 = search rules
 
-run_of : (s : PrintedDocument) (before : List ℕ) (l : PrintedLine) (ls : List PrintedLine) (behind : List ℕ) (x : TextPiece) → IsIn s before (l ∷ ls) behind → run_piece before l ls behind ≡ x → IsLineRun s l ls x
-run_of s before l ls behind x h e = record { above = h.above; below = h.below; lines = h.lines; piece = sym e ∙ (λ i. run_piece (h.start i) l ls (h.stop i)) }
+run_of : (s : PrintedDocument) (before : List ℕ) (l : PrintedLine) (ls : List PrintedLine) (after : List ℕ) (x : TextPiece) → IsIn s before (l ∷ ls) after → run_piece before l ls after ≡ x → IsLineRun s l ls x
+run_of s before l ls after x h e = record { above = h.above; below = h.below; lines = h.lines; piece = sym e ∙ (λ i. run_piece (h.start i) l ls (h.stop i)) }
 
 -- the node that lines mean
-pub block_spells : (s : PrintedDocument) (before : List ℕ) (ls : List PrintedLine) (behind : List ℕ) (x : TextPiece) (o : Outline) (m : ℕ) → IsIn s before ls behind → lines_piece before ls behind ≡ Some x →
-    ArePrinted ls behind → map line_in ls ≡ flatten o → IsEven m o → SpellsNode s x (value o)
-block_spells s before [] behind x o m path_inside e as_printed lines even = absurd (none-some _ e)
-block_spells s before (l ∷ ls) behind x end m path_inside e as_printed lines even = cc
-block_spells s before (l ∷ ls) behind x (row k u a) m path_inside e as_printed lines even = go (has_no_mark l.line.mark) refl e
+pub block_spells : (s : PrintedDocument) (before : List ℕ) (ls : List PrintedLine) (after : List ℕ) (x : TextPiece) (o : Outline) (m : ℕ) → IsIn s before ls after → lines_piece before ls after ≡ Some x →
+    ArePrinted ls after → map line_in ls ≡ flatten o → IsEven m o → SpellsNode s x (value o)
+block_spells s before [] after x o m path_inside e as_printed lines even = absurd (none-some _ e)
+block_spells s before (l ∷ ls) after x end m path_inside e as_printed lines even = cc
+block_spells s before (l ∷ ls) after x (row k u a) m path_inside e as_printed lines even = go (has_no_mark l.line.mark) refl e
   where
     first : l.line ≡ k
     first = cc
 
-    go : (b : Bool) → has_no_mark l.line.mark ≡ b → cond b (head_piece (before ++ (line_front l ++ l.mark)) l.content (print_lines ls behind)) (Some (run_piece before l ls behind)) ≡ Some x → SpellsNode s x (value (row k u a))
+    go : (b : Bool) → has_no_mark l.line.mark ≡ b → cond b (head_piece (before ++ (line_front l ++ l.mark)) l.content (print_lines ls after)) (Some (run_piece before l ls after)) ≡ Some x → SpellsNode s x (value (row k u a))
     go true t e = search (rules, first, bare_is, line_spells)
     go false t e = record {
       anchor = None;
       tree = value (row k u a);
       node = none_anchored (value (row k u a));
-      spelled = inr (inr (record { first = l; others = ls; run = run_of s before l ls behind x path_inside (same_Some _ _ e); entry = t; outline = row k u a; even = (m, even); lines = lines; tree = refl }));
+      spelled = inr (inr (record { first = l; others = ls; run = run_of s before l ls after x path_inside (same_Some _ _ e); entry = t; outline = row k u a; even = (m, even); lines = lines; tree = refl }));
     }
 
-under_in : (s : PrintedDocument) (e : BlockEntry) → IsIn s e.before (e.line ∷ e.under) e.behind → IsIn s (e.before ++ print_line e.line []) e.under e.behind
+under_in : (s : PrintedDocument) (e : BlockEntry) → IsIn s e.before (e.line ∷ e.under) e.after → IsIn s (e.before ++ print_line e.line []) e.under e.after
 under_in s e h = record {
   above = h.above ++ (e.line ∷ []);
   below = h.below;
@@ -104,13 +104,13 @@ pub content_spells : (s : PrintedDocument) (e : BlockEntry) (f : FoundLine) (x :
 content_spells s e f x m h even is = go e.line.line.head refl is
   where
     go : (o : Option tree.Node) → e.line.line.head ≡ o →
-        cond (is_some o) (head_piece (e.before ++ (line_front e.line ++ e.line.mark)) e.line.content (print_lines e.under e.behind))
-        (lines_piece (e.before ++ print_line e.line []) e.under e.behind) ≡ Some x →
+        cond (is_some o) (head_piece (e.before ++ (line_front e.line ++ e.line.mark)) e.line.content (print_lines e.under e.after))
+        (lines_piece (e.before ++ print_line e.line []) e.under e.after) ≡ Some x →
         SpellsNode s x (places.content_under f.line f.under)
     go (Some k) head is = search (rules, line_spells)
     go None head is =
         subst (SpellsNode s x) (ap (λ j. outlines.anchored f.line.anchor (head_or j (value f.under))) (sym head ∙ ap (λ (j : Line). j.head) h.line))
-        (behind_anchor s f.line.anchor x (value f.under) (block_spells s (e.before ++ print_line e.line []) e.under e.behind x f.under m (under_in s e h.inside) is h.as_printed.1 h.lines even))
+        (following_anchor s f.line.anchor x (value f.under) (block_spells s (e.before ++ print_line e.line []) e.under e.after x f.under m (under_in s e h.inside) is h.as_printed.1 h.lines even))
 
 -- what a part says of a node with its label
 abbrev pub Says : PrintedDocument → WhichPart → TextPiece → Labelled → Type 0
@@ -149,7 +149,7 @@ part_spells s parts.LineComment [] e f x h head even is = (_, refl, tt)
 part_spells s parts.LineComment (t ∷ ts) e f x h head even is = absurd (none-some _ is)
 
 -- a document
-steps_spell : (part : WhichPart) (y : Step) (ys : List Step) (s : PrintedDocument) (x : TextPiece) → ArePrinted s.lines s.behind → is_fine (group (map line_in s.lines)) ≡ true →
+steps_spell : (part : WhichPart) (y : Step) (ys : List Step) (s : PrintedDocument) (x : TextPiece) → ArePrinted s.lines s.after → is_fine (group (map line_in s.lines)) ≡ true →
     (find y ys (group (map line_in s.lines)) >>= λ f. found_entry s f.0 >>= piece_in_entry part f.1) ≡ Some x → Spelled s part x (labelled_from (y ∷ ys) (plain_label, value (group (map line_in s.lines))))
 steps_spell part y ys s x as_printed fine is =
     let f = bind_some (find y ys (group (map line_in s.lines))) is in
@@ -161,12 +161,12 @@ steps_spell part y ys s x as_printed fine is =
     head : (rest : List Step) {f : FoundLine} → find y ys (group (map line_in s.lines)) ≡ Some (f, rest) → HasHead rest f
     head rest h1 = search (rules, head_there)
 
-pub document_spells : (part : WhichPart) (ss : List Step) (s : PrintedDocument) (x : TextPiece) → ArePrinted s.lines s.behind → is_fine (group (map line_in s.lines)) ≡ true → piece_in part ss s ≡ Some x →
+pub document_spells : (part : WhichPart) (ss : List Step) (s : PrintedDocument) (x : TextPiece) → ArePrinted s.lines s.after → is_fine (group (map line_in s.lines)) ≡ true → piece_in part ss s ≡ Some x →
     Spelled s part x (labelled_from ss (plain_label, value (group (map line_in s.lines))))
 document_spells parts.Content [] s x as_printed fine is =
-    let whole : IsIn s s.before s.lines s.behind = record { above = []; below = []; lines = sym (append-nil s.lines); start = sym (append-nil s.before); stop = refl } in
+    let whole : IsIn s s.before s.lines s.after = record { above = []; below = []; lines = sym (append-nil s.lines); start = sym (append-nil s.before); stop = refl } in
     let even = even_from (level_or 0 (group (map line_in s.lines))) (group (map line_in s.lines)) fine in
-    (_, refl, block_spells s s.before s.lines s.behind x (group (map line_in s.lines)) _ whole is as_printed (sym (flatten-group (map line_in s.lines))) even)
+    (_, refl, block_spells s s.before s.lines s.after x (group (map line_in s.lines)) _ whole is as_printed (sym (flatten-group (map line_in s.lines))) even)
 document_spells parts.Entry [] s x as_printed fine is = absurd (none-some _ is)
 document_spells parts.HeadComment [] s x as_printed fine is = absurd (none-some _ is)
 document_spells parts.LineComment [] s x as_printed fine is = absurd (none-some _ is)
@@ -196,8 +196,8 @@ contents_spell t c p s x read there is = let r = by_part parts.Content t c p s x
 pub entries_spell : EntriesSpell
 entries_spell t c p s x read there is = by_part parts.Entry t c p s x read there is
 
-pub lines_stand : LinesStand
+pub lines_are_in : LinesAreIn
 unfolding read_at
-lines_stand t c n s read there =
+lines_are_in t c n s read there =
     let cut = text_takes t c (guard_then (is_utf8 t) read).1 in
     search (rules, document_is, document_whole, lines_are, cut)

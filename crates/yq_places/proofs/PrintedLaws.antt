@@ -3,13 +3,13 @@ use Rattle.std.proofs.Common.{◌≡◌, ◌⊎◌, inl, ℕ, suc, ◌+◌, List
 use Rattle.std.{proofs.Common.{subst, replicate, ℤ, rules}, specs.List.slice_get}
 use Rattle.yq_core.{specs.Block.IsBlock, specs.Text.upto, specs.Nodes.{FlowNode, IsFlowNode}}
 use Rattle.yq_row_table.{specs.Grammar.{Limit, unlimited, limit_after, IsContent, AreRows, AreParts}, specs.View.content_cut}
-use Rattle.yq_row_table.specs.Rows.{Content, Nothing, Inline, Block, content_text, mark_text, dashes_text, behind_gap, Row, rows_text, Part}
-use Rattle.yq_row_table.specs.Rows.{Cut}
+use Rattle.yq_row_table.specs.Rows.{Content, Nothing, Inline, Block, content_text, mark_text, dashes_text, following_gap, Row, rows_text}
+use Rattle.yq_row_table.specs.Rows.{Part, Cut}
 use Rattle.yq_documents.specs.Documents.{document_parts}
 use Rattle.yq_outline.{specs.Lines.{head_of, tail_of, lines_from, lines_of_rows}, proofs.RowLaws.no_comments}
 use Rattle.yq_places.specs.PrintedLines.{line_rest, PrintedLine, print_lines, printed_from, printed_row, printed_lines, line_in}
 use Rattle.yq_places.{specs.PathPieces.{PrintedDocument, printed_document}, specs.PlacedRows.placed_document}
-use Rattle.yq_places.{proofs.CommentPieceLaws.{Ended, content_end, gap_end}, proofs.PlacedPartLaws.{part_rows, part_stands}}
+use Rattle.yq_places.{proofs.CommentPieceLaws.{Ended, content_end, gap_end}, proofs.PlacedPartLaws.{part_rows, part_is_there}}
 use Rattle.yq_places.proofs.PrintedTexts.{alone, from_is, map_some, lines_append, rows_are}
 use Rattle.yq_outline.specs.Comments as comments
 use Rattle.yq_row_table.specs.Rows as rows
@@ -68,7 +68,7 @@ rows_printed limit (r ∷ rs) gap rest h =
     printed_append (printed_row r) (printed_lines rs) (gap ++ rest)
     (from_printed r.gap (replicate r.column 32) r.column r.dashes r.mark r.content (print_lines (printed_lines rs) (gap ++ rest)) (subst (IsWritten r.content) text (content_written _ r.content _ h.0.content))
     (subst (λ x. Ended (content_cut r.content).4 ((content_cut r.content).5 ++ x)) text (content_end _ r.content _ h.0.content))
-    (subst (λ x. (r.gap ≡ []) ⊎ Ended r.gap (behind_gap r x)) text (gap_end r.gap _ h.0.gap)))
+    (subst (λ x. (r.gap ≡ []) ⊎ Ended r.gap (following_gap r x)) text (gap_end r.gap _ h.0.gap)))
     (rows_printed (limit_after r) rs gap rest h.1)
 
 pub map_append : (xs ys : List PrintedLine) → map line_in (xs ++ ys) ≡ map line_in xs ++ map line_in ys
@@ -86,10 +86,10 @@ lines_are (r ∷ rs) = map_append (printed_row r) (printed_lines rs) ∙ (λ i. 
 -- Lines are those of a document.
 pub record IsPrintedDocument (p : Part) (s : PrintedDocument) : Type 0 where
   pub lines : s.lines ≡ printed_lines p.rows
-  pub as_printed : ArePrinted s.lines s.behind
+  pub as_printed : ArePrinted s.lines s.after
 
 pub document_is : (n : ℕ) (c : Cut) (s : PrintedDocument) → AreParts true c → printed_document n c ≡ Some s → (p : Part) × (slice_get (document_parts c) n ≡ Some p) × IsPrintedDocument p s
 document_is n c s h e =
     let d = map_some (placed_document n c) e in
     let p : Part = d.0.part in
-    (p, (part_stands n c d.0 d.1).there, subst (IsPrintedDocument p) d.2 (record { lines = refl; as_printed = rows_printed unlimited p.rows p.end d.0.behind (part_rows n c d.0 h d.1) }))
+    (p, (part_is_there n c d.0 d.1).there, subst (IsPrintedDocument p) d.2 (record { lines = refl; as_printed = rows_printed unlimited p.rows p.end d.0.after (part_rows n c d.0 h d.1) }))

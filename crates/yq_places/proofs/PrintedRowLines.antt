@@ -5,8 +5,8 @@ use Rattle.std.{proofs.lemmas.Bool.{cases_lt, lt-ltb, le-ltb, cond-true, cond-fa
 use Rattle.std.{proofs.lemmas.Option.{none-some, same_Some}, specs.List.slice_get}
 use Rattle.yq_outline.{specs.Comments.head_comment, specs.Lines.{line_mark, dash_line}, specs.Outline.level, proofs.Values.rank_small}
 use Rattle.yq_row_table.specs.Rows.{Content, Nothing, Row, dashes_text, mark_text, rows_text, Part, Cut}
-use Rattle.yq_documents.{specs.Documents.document_parts, specs.LinesInRows.{RowLine, behind_one, row_line, document_row}}
-use Rattle.yq_places.{specs.CommentReading.before_row, specs.PlacedRows.placed_document, proofs.PlacedPartLaws.{part_stands, text_before}}
+use Rattle.yq_documents.{specs.Documents.document_parts, specs.LinesInRows.{RowLine, one_row_later, row_line, document_row}}
+use Rattle.yq_places.{specs.CommentReading.before_row, specs.PlacedRows.placed_document, proofs.PlacedPartLaws.{part_is_there, text_before}}
 use Rattle.yq_places.specs.PrintedLines.{PrintedLine, line_front, print_lines, printed_from, printed_row, printed_lines}
 use Rattle.yq_places.{specs.PathPieces.{PrintedDocument, printed_document}, proofs.PrintedTexts.{map_some, lines_append, row_is}}
 use Rattle.yq_row_table.specs.Rows as rows
@@ -68,9 +68,9 @@ get_front : {A : Type 0} (xs ys : List A) (n : ℕ) → n < length xs → slice_
 get_front (x ∷ xs) ys (suc n) h = get_front xs ys n (omega (arith, h))
 get_front xs ys n h = search (rules, arith)
 
-get_behind : {A : Type 0} (xs ys : List A) (n : ℕ) → slice_get (xs ++ ys) (length xs + n) ≡ slice_get ys n
-get_behind [] ys n = ap (slice_get ys) (omega arith)
-get_behind (x ∷ xs) ys n = let more : suc (length xs) + n ≡ suc (length xs + n) = omega arith in ap (slice_get (x ∷ (xs ++ ys))) more ∙ get_behind xs ys n
+get_after : {A : Type 0} (xs ys : List A) (n : ℕ) → slice_get (xs ++ ys) (length xs + n) ≡ slice_get ys n
+get_after [] ys n = ap (slice_get ys) (omega arith)
+get_after (x ∷ xs) ys n = let more : suc (length xs) + n ≡ suc (length xs + n) = omega arith in ap (slice_get (x ∷ (xs ++ ys))) more ∙ get_after xs ys n
 
 pub row_count : (gap spaces : List ℕ) (column : ℕ) (ns : List ℕ) (m : rows.RowMark) (c : Content) → length (printed_from gap spaces column ns m c) ≡ suc (length ns)
 row_count gap spaces column [] m c = refl
@@ -99,10 +99,10 @@ printed_line (r ∷ rs) n q e = go (cases_lt (length r.dashes) n) (λ p h. print
           deeper = λ p. let k = d.deeper p in (k.0, get_front (printed_row r) (printed_lines rs) (suc n) (omega (arith, p, count)) ∙ k.1, k.2, k.3);
         }
 
-    past : length r.dashes < n → (p : RowLine) → IsPrintedLine rs (n - suc (length r.dashes)) p → IsPrintedLine (r ∷ rs) n (behind_one p)
+    past : length r.dashes < n → (p : RowLine) → IsPrintedLine rs (n - suc (length r.dashes)) p → IsPrintedLine (r ∷ rs) n (one_row_later p)
     past h p d =
         let at : n ≡ length (printed_row r) + (n - suc (length r.dashes)) = omega (arith, h, count) in
-        search (rules, get_behind, take-append-add, lines_append, row_is, at)
+        search (rules, get_after, take-append-add, lines_append, row_is, at)
 
     go : (length r.dashes < n) ⊎ (n ≤ length r.dashes) → ((p : RowLine) → row_line (n - suc (length r.dashes)) rs ≡ Some p → IsPrintedLine rs (n - suc (length r.dashes)) p) → IsPrintedLine (r ∷ rs) n q
     go (inl h) again =
@@ -117,5 +117,5 @@ pub record IsPlaced (c : Cut) (k : ℕ) (p : Part) (s : PrintedDocument) : Type 
 pub document_placed : (n : ℕ) (c : Cut) (p : Part) (s : PrintedDocument) → slice_get (document_parts c) n ≡ Some p → printed_document n c ≡ Some s → IsPlaced c (document_row n c) p s
 document_placed n c p s at e =
     let d = map_some (placed_document n c) e in
-    let same : d.0.part ≡ p = same_Some _ _ (sym (part_stands n c d.0 d.1).there ∙ at) in
+    let same : d.0.part ≡ p = same_Some _ _ (sym (part_is_there n c d.0 d.1).there ∙ at) in
     record { row = λ i less. text_before n c d.0 d.1 i (omega (arith, less, ap (λ (x : Part). length x.rows) same)) ∙ (λ j. (d.2 j).before ++ rows_text (take i (same j).rows) []) }

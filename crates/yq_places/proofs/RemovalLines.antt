@@ -4,17 +4,17 @@ use Rattle.std.{proofs.Common.{Some, refl, sym, ap, ◌∙◌, subst, append-nil
 use Rattle.std.{proofs.lemmas.Bool.and_parts, proofs.lemmas.List.take-append-drop}
 use Rattle.yq_core.{specs.Block.RawLines, specs.Text.{is_empty, is_line, joined, text_lines}}
 use Rattle.yq_core.proofs.BlockPieceLaws.{IsLf, line_lf, append_lf, raw_lf}
-use Rattle.yq_row_table.{specs.Exchange.asked_behind, specs.Gap.{IsGap, AreGapLines}}
+use Rattle.yq_row_table.{specs.Exchange.asked_after, specs.Gap.{IsGap, AreGapLines}}
 use Rattle.yq_row_table.specs.Grammar.{begins_document, IsContent, Limit, unlimited, AreRows, no_rows, AreParts}
-use Rattle.yq_row_table.specs.Rows.{Content, Nothing, Inline, Block, Row, behind_gap, parent_indent, print_row, rows_text, Part, part_text}
-use Rattle.yq_row_table.{specs.Rows.{Cut, last, marked, cut_text}, specs.Splices.{behind_first, first_gap, with_row_gap}}
-use Rattle.yq_row_table.{specs.View.{Slices, content_cut, slices}, proofs.NothingLaws.some_behind, proofs.PlaceLaws.{part_then, row_then}}
+use Rattle.yq_row_table.specs.Rows.{Content, Nothing, Inline, Block, Row, following_gap, parent_indent, print_row, rows_text, Part}
+use Rattle.yq_row_table.{specs.Rows.{part_text, Cut, last, marked, cut_text}, specs.Splices.{after_first, first_gap, with_row_gap}}
+use Rattle.yq_row_table.{specs.View.{Slices, content_cut, slices}, proofs.NothingLaws.some_after, proofs.PlaceLaws.{part_then, row_then}}
 use Rattle.yq_row_table.{proofs.SliceLaws.slices_are, proofs.seams.BlockFronts.gap_front}
-use Rattle.yq_row_table.{proofs.seams.FrontSeams.{behind_row_some, rows_some}, proofs.seams.SeamLaws.{rows_drop, rows_text-append}}
+use Rattle.yq_row_table.{proofs.seams.FrontSeams.{after_row_some, rows_some}, proofs.seams.SeamLaws.{rows_drop, rows_text-append}}
 use Rattle.yq_row_table.{proofs.splices.SpliceTexts.{first_is, first_text}, proofs.EmptyTexts.none_is}
 use Rattle.yq_documents.{specs.PartNumbers.part_number, specs.Pieces.{before_run, last_run}}
 use Rattle.yq_places.{specs.PlacedRows.{PlacedPart, placed_at, placed_document}, specs.RemovalPlaces.{comment_above, rows_out}}
-use Rattle.yq_places.{proofs.CommentPieceLaws.{Ended, gap_end, tail_end}, proofs.PlacedPartLaws.{part_stands, text_at}}
+use Rattle.yq_places.{proofs.CommentPieceLaws.{Ended, gap_end, tail_end}, proofs.PlacedPartLaws.{part_is_there, text_at}}
 use Rattle.yq_places.proofs.RemovalTexts.{run_parts, texts_then}
 
 -- Between two lines of a text: nothing is in front, an LF, or nothing is after.
@@ -91,8 +91,8 @@ rows_seam (r ∷ a) b limit end rest h =
 
 -- A document comes after whole lines, and its rows are rows there.
 pub record LiesIn (d : PlacedPart) : Type 0 where
-  pub seam : LineSeam d.before (part_text d.part d.behind)
-  pub rows : AreRows unlimited d.part.rows d.part.end d.behind
+  pub seam : LineSeam d.before (part_text d.part d.after)
+  pub rows : AreRows unlimited d.part.rows d.part.end d.after
 
 marker_seam : (p : Part) (marker rest : List ℕ) → Ended (drop 3 marker) rest → LineSeam (part_text p marker) rest
 marker_seam p marker rest (inr e) = inr (inr e)
@@ -107,20 +107,20 @@ lies_at (suc i) started (marked p marker c) h =
     let lies = lies_at i (begins_document marker) c h.2 in
     let d : PlacedPart = placed_at i c in
     record {
-      seam = seam_join (part_text p marker) d.before (part_text d.part d.behind) (subst (LineSeam (part_text p marker)) (text_at i c) (marker_seam p marker (cut_text c) (tail_end (drop 3 marker) (cut_text c) h.1.tail))) lies.seam;
+      seam = seam_join (part_text p marker) d.before (part_text d.part d.after) (subst (LineSeam (part_text p marker)) (text_at i c) (marker_seam p marker (cut_text c) (tail_end (drop 3 marker) (cut_text c) h.1.tail))) lies.seam;
       rows = lies.rows;
     }
 
 pub lies_in : (k : ℕ) (c : Cut) (d : PlacedPart) → AreParts true c → placed_document k c ≡ Some d → LiesIn d
-lies_in k c d h e = subst LiesIn (part_stands k c d e).is (lies_at (part_number k c) true c h)
+lies_in k c d h e = subst LiesIn (part_is_there k c d e).is (lies_at (part_number k c) true c h)
 
 -- ---- what is taken out
 
 -- The text before what is taken out, what is taken out, and the gap after it, each of whole lines.
 pub record AreLines (d : PlacedPart) (front own back : List Row) : Type 0 where
   pub before : AtLine (rows_out d (record { front = front; own = own; back = back })).before
-  pub gone : Ended (comment_above own d.part.end ++ behind_first own [] []) (first_gap back d.part.end ++ behind_first back d.part.end d.behind)
-  pub gap : IsGap (first_gap back d.part.end) (behind_first back d.part.end d.behind)
+  pub gone : Ended (comment_above own d.part.end ++ after_first own [] []) (first_gap back d.part.end ++ after_first back d.part.end d.after)
+  pub gap : IsGap (first_gap back d.part.end) (after_first back d.part.end d.after)
 
 pub front_some : (front : List Row) (r : Row) (more : List Row) → no_rows (front ++ (r ∷ more)) ≡ false
 front_some [] r more = refl
@@ -129,30 +129,30 @@ front_some (q ∷ front) r more = refl
 pub are_lines : (d : PlacedPart) (front : List Row) (r : Row) (rs back : List Row) → LiesIn d → d.part.rows ≡ front ++ ((r ∷ rs) ++ back) → AreLines d front (r ∷ rs) back
 are_lines d front r rs back lies rows =
     let end : List ℕ = d.part.end in
-    let all : AreRows unlimited (front ++ (r ∷ (rs ++ back))) end d.behind = subst (λ (x : List Row). AreRows unlimited x end d.behind) rows lies.rows in
-    let some : is_empty (part_text d.part d.behind) ≡ false = rows_some unlimited d.part.rows end d.behind (ap no_rows rows ∙ front_some front r (rs ++ back)) lies.rows in
-    let asked : Limit = asked_behind unlimited (take (length front) (front ++ (r ∷ (rs ++ back)))) in
-    let own : AreRows asked (r ∷ (rs ++ back)) end d.behind =
-    subst (λ (x : List Row). AreRows asked x end d.behind) (drop-append_seam front (r ∷ (rs ++ back))) (rows_drop (length front) (front ++ (r ∷ (rs ++ back))) unlimited end d.behind all) in
-    let next : Limit = asked_behind asked (take (length (r ∷ rs)) ((r ∷ rs) ++ back)) in
-    let rest : AreRows next back end d.behind =
-    subst (λ (x : List Row). AreRows next x end d.behind) (drop-append_seam (r ∷ rs) back) (rows_drop (length (r ∷ rs)) ((r ∷ rs) ++ back) asked end d.behind own) in
+    let all : AreRows unlimited (front ++ (r ∷ (rs ++ back))) end d.after = subst (λ (x : List Row). AreRows unlimited x end d.after) rows lies.rows in
+    let some : is_empty (part_text d.part d.after) ≡ false = rows_some unlimited d.part.rows end d.after (ap no_rows rows ∙ front_some front r (rs ++ back)) lies.rows in
+    let asked : Limit = asked_after unlimited (take (length front) (front ++ (r ∷ (rs ++ back)))) in
+    let own : AreRows asked (r ∷ (rs ++ back)) end d.after =
+    subst (λ (x : List Row). AreRows asked x end d.after) (drop-append_seam front (r ∷ (rs ++ back))) (rows_drop (length front) (front ++ (r ∷ (rs ++ back))) unlimited end d.after all) in
+    let next : Limit = asked_after asked (take (length (r ∷ rs)) ((r ∷ rs) ++ back)) in
+    let rest : AreRows next back end d.after =
+    subst (λ (x : List Row). AreRows next x end d.after) (drop-append_seam (r ∷ rs) back) (rows_drop (length (r ∷ rs)) ((r ∷ rs) ++ back) asked end d.after own) in
     let ls : RawLines = text_lines r.gap in
-    let x : List ℕ = behind_gap r (rows_text (rs ++ back) (end ++ d.behind)) in
+    let x : List ℕ = following_gap r (rows_text (rs ++ back) (end ++ d.after)) in
     let kept : AreGapLines (before_run ls) (joined (last_run ls) ++ x) = gap_front r.gap x (before_run ls) (last_run ls) own.0.gap (run_parts ls) in
     let kept_line : AtLine (joined (before_run ls)) =
     at_line (joined (before_run ls)) (joined (last_run ls) ++ x) (gap_end (joined (before_run ls)) (joined (last_run ls) ++ x) (record { lines = before_run ls; spelled = refl; each = kept }))
-    (some_behind (joined (last_run ls)) x (behind_row_some asked r (rows_text (rs ++ back) (end ++ d.behind)) own.0)) in
+    (some_after (joined (last_run ls)) x (after_row_some asked r (rows_text (rs ++ back) (end ++ d.after)) own.0)) in
     let front_line : AtLine (rows_text front []) =
-    at_line (rows_text front []) (rows_text (r ∷ (rs ++ back)) (end ++ d.behind)) (rows_seam front (r ∷ (rs ++ back)) unlimited end d.behind all) (rows_some asked (r ∷ (rs ++ back)) end d.behind refl own) in
-    let start : AtLine d.before = at_line d.before (part_text d.part d.behind) lies.seam some in
-    let u : List ℕ = rows_text back (end ++ d.behind) in
-    let body : Ended (behind_gap r (rows_text rs [])) u =
-    row_step (with_row_gap [] r) rs u (subst (IsContent (parent_indent r) r.content) (rows_text-append rs back (end ++ d.behind)) own.0.content) (rows_seam rs back _ end d.behind own.1) in
+    at_line (rows_text front []) (rows_text (r ∷ (rs ++ back)) (end ++ d.after)) (rows_seam front (r ∷ (rs ++ back)) unlimited end d.after all) (rows_some asked (r ∷ (rs ++ back)) end d.after refl own) in
+    let start : AtLine d.before = at_line d.before (part_text d.part d.after) lies.seam some in
+    let u : List ℕ = rows_text back (end ++ d.after) in
+    let body : Ended (following_gap r (rows_text rs [])) u =
+    row_step (with_row_gap [] r) rs u (subst (IsContent (parent_indent r) r.content) (rows_text-append rs back (end ++ d.after)) own.0.content) (rows_seam rs back _ end d.after own.1) in
     record {
       before = lines_join d.before (rows_text front (joined (before_run ls))) start (subst AtLine (sym (texts_then front [] (joined (before_run ls)))) (lines_join (rows_text front []) (joined (before_run ls)) front_line kept_line));
-      gone = subst (Ended (joined (last_run ls) ++ behind_gap r (rows_text rs []))) (first_text back end d.behind) (ended_after (joined (last_run ls)) (behind_gap r (rows_text rs [])) u body);
-      gap = first_is next back end d.behind rest;
+      gone = subst (Ended (joined (last_run ls) ++ following_gap r (rows_text rs []))) (first_text back end d.after) (ended_after (joined (last_run ls)) (following_gap r (rows_text rs [])) u body);
+      gap = first_is next back end d.after rest;
     }
   where
     ended_after : (a b u : List ℕ) → Ended b u → Ended (a ++ b) u

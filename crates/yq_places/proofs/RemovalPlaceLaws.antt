@@ -10,7 +10,7 @@ use Rattle.yq_outline.{specs.Comments.head_comment, specs.Ends.{line_at_steps, l
 use Rattle.yq_outline.{specs.Lines.{lines_from, row_lines, lines_of_rows}, specs.RowWalk.line_number}
 use Rattle.yq_outline.{specs.declared.line_position.Position.Position, specs.declared.line_position.Stretch.Stretch}
 use Rattle.yq_row_table.{specs.Grammar.no_rows, specs.Removal.hold_comment, specs.Rows.{RowMark, Content, Row}}
-use Rattle.yq_documents.{specs.Pieces.{before_run, last_run}, specs.LinesInRows.{RowLine, behind_one, row_line}}
+use Rattle.yq_documents.{specs.Pieces.{before_run, last_run}, specs.LinesInRows.{RowLine, one_row_later, row_line}}
 use Rattle.yq_places.{proofs.CommentPlaceLaws.run_is, specs.RemovalPlaces.{OwnRows, row_count, in_three, own_rows}}
 use Rattle.yq_places.{specs.RemovalReading.marks, proofs.PlacedPartLaws.map_some, proofs.RemovalTexts.gap_parts}
 use Rattle.yq_places.proofs.WalkDocuments.{row_line_number}
@@ -51,11 +51,11 @@ row_line_in : (n : ℕ) (rs : List Row) (s : RowLine) → row_line n rs ≡ Some
 row_line_in n [] s e = absurd (cc)
 row_line_in n (r ∷ rs) s e = go (ltb (length r.dashes) n) refl e (λ q h. row_line_in (n - suc (length r.dashes)) rs q h)
   where
-    go : (b : Bool) → ltb (length r.dashes) n ≡ b → cond b (option_map behind_one (row_line (n - suc (length r.dashes)) rs)) (Some (record { before = 0; row = r; line = n })) ≡ Some s →
+    go : (b : Bool) → ltb (length r.dashes) n ≡ b → cond b (option_map one_row_later (row_line (n - suc (length r.dashes)) rs)) (Some (record { before = 0; row = r; line = n })) ≡ Some s →
         ((q : RowLine) → row_line (n - suc (length r.dashes)) rs ≡ Some q → RowLineIn (n - suc (length r.dashes)) rs q) → RowLineIn n (r ∷ rs) s
     go false less e again = subst (RowLineIn n (r ∷ rs)) (same_Some _ _ e) (omega arith, omega arith)
     go true less e again =
-        let x = map_some behind_one (row_line (n - suc (length r.dashes)) rs) s e in
+        let x = map_some one_row_later (row_line (n - suc (length r.dashes)) rs) s e in
         let h = again x.0 x.1 in
         subst (RowLineIn n (r ∷ rs)) x.2 (omega (arith, h.0), omega (arith, h.1, more_lines r rs, ltb-true (length r.dashes) n less))
 
@@ -102,15 +102,15 @@ own_is steps rs n q h =
     ∙ cond-true (eqb q.line 0) _ None (eq-eqb q.line 0 h.first))
 
 -- what is own is the rows, and there are some
-pub record OwnStand (rs : List Row) (x : OwnRows) : Type 0 where
+pub record OwnRowsAre (rs : List Row) (x : OwnRows) : Type 0 where
   pub rows_are : rs ≡ x.front ++ (x.own ++ x.back)
   pub some : no_rows x.own ≡ false
 
 own_line : (steps : List Step) (rs : List Row) (x : OwnRows) → own_rows steps rs ≡ Some x → (n : ℕ) × (q : RowLine) × OwnLine steps rs n q
 own_line steps rs x e = search (rules, bind_some, cond_some, eqb-true)
 
-pub own_stands : (steps : List Step) (rs : List Row) (x : OwnRows) → own_rows steps rs ≡ Some x → OwnStand rs x
-own_stands steps rs x e =
+pub own_is_there : (steps : List Step) (rs : List Row) (x : OwnRows) → own_rows steps rs ≡ Some x → OwnRowsAre rs x
+own_is_there steps rs x e =
     let l = own_line steps rs x e in
     let n : ℕ = l.0 in
     let q : RowLine = l.1 in

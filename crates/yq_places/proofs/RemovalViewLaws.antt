@@ -16,8 +16,8 @@ use Rattle.yq_outline.{specs.Extents.{IsRowsView, row_start}, proofs.KnownLaws.{
 use Rattle.yq_places.specs.PlacedRows.{PlacedPart, placed_document}
 use Rattle.yq_places.specs.RemovalPlaces.{OwnRows, own_rows, Removal, kept_gap, rows_out, removal_place}
 use Rattle.yq_places.{specs.RemovalReading.{RowCounts, marks, mark_counts, gap_counts, IsOwn}, proofs.CommentPieceLaws.gap_end}
-use Rattle.yq_places.{proofs.PlacedPartLaws.{map_some, part_stands, placed_is, text_before}, proofs.RemovalBounds.{gap_behind, last_row}}
-use Rattle.yq_places.{proofs.RemovalLines.{LineSeam, are_lines, lies_in, line_seam}, proofs.RemovalPlaceLaws.own_stands}
+use Rattle.yq_places.{proofs.PlacedPartLaws.{map_some, part_is_there, placed_is, text_before}, proofs.RemovalBounds.{gap_after, last_row}}
+use Rattle.yq_places.{proofs.RemovalLines.{LineSeam, are_lines, lies_in, line_seam}, proofs.RemovalPlaceLaws.own_is_there}
 use Rattle.yq_places.{proofs.RemovalTexts.{old_text, texts_then}, proofs.StartLaws.start_agrees}
 
 -- ---- a text cut between lines
@@ -55,10 +55,10 @@ pub record OutAgrees (t : List ℕ) (s : RowsView) (d : PlacedPart) (x : OwnRows
   pub last_within : end - 1 < length s.rows
   pub final : Slices
   pub final_is : slice_get s.rows (end - 1) ≡ Some final
-  pub text : t ≡ (rows_out d x).before ++ ((rows_out d x).gone ++ ((rows_out d x).gap ++ (rows_out d x).behind))
-  pub starts : LineSeam (rows_out d x).before ((rows_out d x).gone ++ ((rows_out d x).gap ++ (rows_out d x).behind))
-  pub stops : LineSeam (rows_out d x).gone ((rows_out d x).gap ++ (rows_out d x).behind)
-  pub gap_stops : LineSeam (rows_out d x).gap (rows_out d x).behind
+  pub text : t ≡ (rows_out d x).before ++ ((rows_out d x).gone ++ ((rows_out d x).gap ++ (rows_out d x).after))
+  pub starts : LineSeam (rows_out d x).before ((rows_out d x).gone ++ ((rows_out d x).gap ++ (rows_out d x).after))
+  pub stops : LineSeam (rows_out d x).gone ((rows_out d x).gap ++ (rows_out d x).after)
+  pub gap_stops : LineSeam (rows_out d x).gap (rows_out d x).after
   pub kept : (y : Slices) → slice_get s.rows at ≡ Some y → joined (before_run (text_lines y.gap)) ≡ kept_gap x.own d.part.end
   pub start : row_start at s + length (kept_gap x.own d.part.end) ≡ length (rows_out d x).before
   pub stop : row_start (end - 1) s + row_length final ≡ length (rows_out d x).before + length (rows_out d x).gone
@@ -81,7 +81,7 @@ agrees_first t s d front r rs back m h =
     let own : List Row = r ∷ rs in
     let x : OwnRows = record { front = front; own = own; back = back } in
     let out : Removal = rows_out d x in
-    let st = part_stands n c d h.placed in
+    let st = part_is_there n c d h.placed in
     let begin = part_begins c n d.part st.there in
     let first_is : m.0 ≡ k = ap (λ (y : RowCounts). y.0) h.marks_are in
     let at_is : m.1 ≡ k + length front = ap (λ (y : RowCounts). y.1) h.marks_are in
@@ -97,7 +97,7 @@ agrees_first t s d front r rs back m h =
     let last_is : m.2 - 1 ≡ k + (length front + length own - 1) = omega (arith, end_is) in
     let at_row : slice_get s.rows m.1 ≡ Some (slices r) = ap (slice_get s.rows) at_is ∙ pieces (length front) r own_row in
     let last_row_is : slice_get s.rows (m.2 - 1) ≡ Some (slices final.0) = ap (slice_get s.rows) last_is ∙ pieces (length front + length own - 1) final.0 final.1 in
-    let text : t ≡ out.before ++ (out.gone ++ (out.gap ++ out.behind)) = h.cut.text ∙ (st.text ∙ old_text d x h.rows_are refl) in
+    let text : t ≡ out.before ++ (out.gone ++ (out.gap ++ out.after)) = h.cut.text ∙ (st.text ∙ old_text d x h.rows_are refl) in
     let lines = are_lines d front r rs back (lies_in n c d h.cut.parts h.placed) h.rows_are in
     let kept : List ℕ = kept_gap own d.part.end in
     let front_text : rows_text front kept ≡ rows_text front [] ++ kept = texts_then front [] kept in
@@ -113,16 +113,16 @@ agrees_first t s d front r rs back m h =
     let count : suc (length front + length own - 1) ≡ length front + length own = omega arith in
     let through : length (rows_text (front ++ own) []) ≡ length (rows_text (take (length front + length own - 1) d.part.rows) []) + row_length (slices final.0) =
     ap (λ (z : List Row). length (rows_text z [])) (sym (take_both front own back) ∙ (λ i. take (sym count i) (sym h.rows_are i))) ∙ rows_more d.part.rows (length front + length own - 1) final.0 final.1 in
-    let whole : length t ≡ length d.before + (length (rows_text (front ++ own) []) + length (out.gap ++ out.behind)) =
+    let whole : length t ≡ length d.before + (length (rows_text (front ++ own) []) + length (out.gap ++ out.after)) =
     ap length
     (h.cut.text
     ∙ (st.text
     ∙ ap (λ (z : List ℕ). d.before ++ z)
-    (ap (λ (z : List Row). rows_text z (d.part.end ++ d.behind)) (h.rows_are ∙ sym (append_assoc front own back))
-    ∙ (rows_text-append (front ++ own) back (d.part.end ++ d.behind) ∙ (ap (rows_text (front ++ own)) (first_text back d.part.end d.behind) ∙ texts_then (front ++ own) [] (out.gap ++ out.behind))))))
-    ∙ omega (arith, length-append d.before (rows_text (front ++ own) [] ++ (out.gap ++ out.behind)), length-append (rows_text (front ++ own) []) (out.gap ++ out.behind)) in
-    let parts : length t ≡ length out.before + (length out.gone + length (out.gap ++ out.behind)) =
-    ap length text ∙ omega (arith, length-append out.before (out.gone ++ (out.gap ++ out.behind)), length-append out.gone (out.gap ++ out.behind)) in
+    (ap (λ (z : List Row). rows_text z (d.part.end ++ d.after)) (h.rows_are ∙ sym (append_assoc front own back))
+    ∙ (rows_text-append (front ++ own) back (d.part.end ++ d.after) ∙ (ap (rows_text (front ++ own)) (first_text back d.part.end d.after) ∙ texts_then (front ++ own) [] (out.gap ++ out.after))))))
+    ∙ omega (arith, length-append d.before (rows_text (front ++ own) [] ++ (out.gap ++ out.after)), length-append (rows_text (front ++ own) []) (out.gap ++ out.after)) in
+    let parts : length t ≡ length out.before + (length out.gone + length (out.gap ++ out.after)) =
+    ap length text ∙ omega (arith, length-append out.before (out.gone ++ (out.gap ++ out.after)), length-append out.gone (out.gap ++ out.after)) in
     record {
       order = omega (arith, first_is, at_is);
       past = omega (arith, at_is, end_is);
@@ -131,14 +131,14 @@ agrees_first t s d front r rs back m h =
       final = slices final.0;
       final_is = last_row_is;
       text = text;
-      starts = line_seam out.before (out.gone ++ (out.gap ++ out.behind)) lines.before;
+      starts = line_seam out.before (out.gone ++ (out.gap ++ out.after)) lines.before;
       stops = inr lines.gone;
-      gap_stops = gap_end out.gap out.behind lines.gap;
+      gap_stops = gap_end out.gap out.after lines.gap;
       kept = λ y e. ap (λ (z : Slices). joined (before_run (text_lines z.gap))) (same_Some _ _ (sym e ∙ at_row));
       start = omega (arith, starts, length-append d.before (rows_text front []), length-append d.before (rows_text front kept), ap length front_text, length-append (rows_text front []) kept);
       stop = omega (arith, before_last, length-append d.before (rows_text (take (length front + length own - 1) d.part.rows) []), through, whole, parts);
       gap = (λ i. gap_counts ((end_is ∙ sizes front own k) i) (h.rows_view_is i))
-          ∙ gap_behind n c d (front ++ own) back h.placed (h.rows_are ∙ sym (append_assoc front own back)) (omega (arith, length-append front own))
+          ∙ gap_after n c d (front ++ own) back h.placed (h.rows_are ∙ sym (append_assoc front own back)) (omega (arith, length-append front own))
           (λ q qs is. ap (slice_get (rows_of c)) (sym (sizes front own k) ∙ three k front own)
           ∙ there (length front + length own) q
           (ap (λ (z : List Row). slice_get z (length front + length own))
@@ -174,23 +174,23 @@ pub record FourCuts (t : List ℕ) (x : Removal) (start size gap : ℕ) : Type 0
   pub ends : IsCharBoundary (drop size (drop start t)) gap
   pub before_is : take start t ≡ x.before
   pub gone_is : take size (drop start t) ≡ x.gone
-  pub behind_is : drop gap (drop size (drop start t)) ≡ x.behind
+  pub following_is : drop gap (drop size (drop start t)) ≡ x.after
 
-four_cuts : (t : List ℕ) (x : Removal) → IsUtf8 t → t ≡ x.before ++ (x.gone ++ (x.gap ++ x.behind)) → LineSeam x.before (x.gone ++ (x.gap ++ x.behind)) → LineSeam x.gone (x.gap ++ x.behind) → LineSeam x.gap x.behind →
+four_cuts : (t : List ℕ) (x : Removal) → IsUtf8 t → t ≡ x.before ++ (x.gone ++ (x.gap ++ x.after)) → LineSeam x.before (x.gone ++ (x.gap ++ x.after)) → LineSeam x.gone (x.gap ++ x.after) → LineSeam x.gap x.after →
     FourCuts t x (length x.before) (length x.gone) (length x.gap)
 four_cuts t x u text a b g =
-    let whole : IsUtf8 (x.before ++ (x.gone ++ (x.gap ++ x.behind))) = subst IsUtf8 text u in
-    let rest = line_rest x.before (x.gone ++ (x.gap ++ x.behind)) a whole in
-    let left = line_rest x.gone (x.gap ++ x.behind) b rest in
-    let one : drop (length x.before) t ≡ x.gone ++ (x.gap ++ x.behind) = ap (drop (length x.before)) text ∙ drop-append_seam x.before (x.gone ++ (x.gap ++ x.behind)) in
-    let two : drop (length x.gone) (drop (length x.before) t) ≡ x.gap ++ x.behind = ap (drop (length x.gone)) one ∙ drop-append_seam x.gone (x.gap ++ x.behind) in
+    let whole : IsUtf8 (x.before ++ (x.gone ++ (x.gap ++ x.after))) = subst IsUtf8 text u in
+    let rest = line_rest x.before (x.gone ++ (x.gap ++ x.after)) a whole in
+    let left = line_rest x.gone (x.gap ++ x.after) b rest in
+    let one : drop (length x.before) t ≡ x.gone ++ (x.gap ++ x.after) = ap (drop (length x.before)) text ∙ drop-append_seam x.before (x.gone ++ (x.gap ++ x.after)) in
+    let two : drop (length x.gone) (drop (length x.before) t) ≡ x.gap ++ x.after = ap (drop (length x.gone)) one ∙ drop-append_seam x.gone (x.gap ++ x.after) in
     record {
-      begins = subst (λ (y : List ℕ). IsCharBoundary y (length x.before)) (sym text) (line_boundary x.before (x.gone ++ (x.gap ++ x.behind)) a whole);
-      stops = subst (λ (y : List ℕ). IsCharBoundary y (length x.gone)) (sym one) (line_boundary x.gone (x.gap ++ x.behind) b rest);
-      ends = subst (λ (y : List ℕ). IsCharBoundary y (length x.gap)) (sym two) (line_boundary x.gap x.behind g left);
-      before_is = ap (take (length x.before)) text ∙ take-append_seam x.before (x.gone ++ (x.gap ++ x.behind));
-      gone_is = ap (take (length x.gone)) one ∙ take-append_seam x.gone (x.gap ++ x.behind);
-      behind_is = ap (drop (length x.gap)) two ∙ drop-append_seam x.gap x.behind;
+      begins = subst (λ (y : List ℕ). IsCharBoundary y (length x.before)) (sym text) (line_boundary x.before (x.gone ++ (x.gap ++ x.after)) a whole);
+      stops = subst (λ (y : List ℕ). IsCharBoundary y (length x.gone)) (sym one) (line_boundary x.gone (x.gap ++ x.after) b rest);
+      ends = subst (λ (y : List ℕ). IsCharBoundary y (length x.gap)) (sym two) (line_boundary x.gap x.after g left);
+      before_is = ap (take (length x.before)) text ∙ take-append_seam x.before (x.gone ++ (x.gap ++ x.after));
+      gone_is = ap (take (length x.gone)) one ∙ take-append_seam x.gone (x.gap ++ x.after);
+      following_is = ap (drop (length x.gap)) two ∙ drop-append_seam x.gap x.after;
     }
 
 pub cuts_agrees : (t : List ℕ) (s : RowsView) (d : PlacedPart) (x : OwnRows) (first at end start size gap : ℕ) → IsUtf8 t →
@@ -217,7 +217,7 @@ code_agrees t s d x first at end y kept gap begin stop column u o there kept_now
     let start : begin + length kept ≡ length out.before = omega (arith, begin_is, ap length own, o.start) in
     let size : stop - (begin + length kept) ≡ length out.gone = omega (arith, start, stop_is, o.stop) in
     let whole = ap length o.text in
-    let within : begin + length kept ≤ length t = omega (arith, start, whole, length-append out.before (out.gone ++ (out.gap ++ out.behind))) in
+    let within : begin + length kept ≤ length t = omega (arith, start, whole, length-append out.before (out.gone ++ (out.gap ++ out.after))) in
     let order : begin + length kept ≤ stop = omega (arith, start, stop_is, o.stop) in
     let both : (gap, column) ≡ (first_gap x.back d.part.end, next_column x.back) = pair ∙ o.gap in
     let gap_is : gap ≡ out.gap = ap (λ (z : List ℕ × ℕ). z.0) both in
@@ -246,11 +246,11 @@ taken_at t s n steps m cut is e =
     let x = map_some (marks (document_row n c)) (own_rows steps p.0.rows) m p.2 in
     let d = placed_is n c p.0 p.1 in
     let own : own_rows steps d.0.part.rows ≡ Some x.0 = ap (λ (q : Part). own_rows steps q.rows) d.2 ∙ x.1 in
-    let stand = own_stands steps d.0.part.rows x.0 own in
+    let are_there = own_is_there steps d.0.part.rows x.0 own in
     record {
       part = d.0;
       rows = x.0;
-      is = record { cut = cut; rows_view_is = is; document = n; placed = d.1; rows_are = stand.rows_are; some = stand.some; marks_are = sym x.2 };
+      is = record { cut = cut; rows_view_is = is; document = n; placed = d.1; rows_are = are_there.rows_are; some = are_there.some; marks_are = sym x.2 };
       place = ap (λ o. o >>= λ d. option_map (rows_out d) (own_rows steps d.part.rows)) d.1 ∙ ap (option_map (rows_out d.0)) own;
     }
 
@@ -265,4 +265,4 @@ none_taken n steps c e = go (placed_document n c) refl
 
     go : (o : Option PlacedPart) → placed_document n c ≡ o → None ≡ (o >>= λ d. option_map (rows_out d) (own_rows steps d.part.rows))
     go None is = refl
-    go (Some d) is = rows d (own_rows steps d.part.rows) refl (part_stands n c d is).there
+    go (Some d) is = rows d (own_rows steps d.part.rows) refl (part_is_there n c d is).there

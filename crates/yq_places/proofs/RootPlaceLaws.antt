@@ -13,7 +13,7 @@ use Rattle.yq_outline.{specs.Extents.bound_length, proofs.LengthLaws.part-length
 use Rattle.yq_documents.{specs.Pieces.TextPiece, specs.PartNumbers.{part_number, document_part, rows_to}}
 use Rattle.yq_documents.{proofs.PartNumberLaws.{document_found, document_missing, end_agrees}, specs.Reading.cut_of}
 use Rattle.yq_places.{specs.PlacedRows.{before_part, placed_at, placed_document}, specs.RootReading.{if_rowless, rowless_place, rowless_at}}
-use Rattle.yq_places.{proofs.CommentPieceLaws.gap_end, proofs.PlacedPartLaws.{map_some, part_stands}}
+use Rattle.yq_places.{proofs.CommentPieceLaws.gap_end, proofs.PlacedPartLaws.{map_some, part_is_there}}
 use Rattle.yq_places.{proofs.RemovalLines.{LineSeam, lies_in, seam_join}, proofs.RemovalViewLaws.line_boundary}
 
 -- ---- the sums of the code
@@ -32,10 +32,10 @@ rows_first a b m =
 no_sum : (ss : List Slices) → sum_by row_length (take 0 ss) ≡ 0
 no_sum ss = refl
 
-ends_here : (p : Part) (behind : List Row) → sum_by row_length (take (0 + length p.rows) (map slices (p.rows ++ behind))) ≡ rows_sum p.rows
-ends_here p behind =
+ends_here : (p : Part) (after : List Row) → sum_by row_length (take (0 + length p.rows) (map slices (p.rows ++ after))) ≡ rows_sum p.rows
+ends_here p after =
     let none : 0 + length p.rows ≡ length p.rows + 0 = omega arith in
-    ap (λ (k : ℕ). sum_by row_length (take k (map slices (p.rows ++ behind)))) none ∙ (rows_first p.rows behind 0 ∙ omega (arith, no_sum (map slices behind)))
+    ap (λ (k : ℕ). sum_by row_length (take k (map slices (p.rows ++ after)))) none ∙ (rows_first p.rows after 0 ∙ omega (arith, no_sum (map slices after)))
 
 -- the rows before the end of part i, and the bounds before it, are the text up to there
 ends_at : (i n : ℕ) (c : Cut) (b : Bound) → slice_get (bounds_from n c) i ≡ Some b →
@@ -83,9 +83,9 @@ module _ (s : RowsView) (c : Cut) (i k first : ℕ) (b : Bound) (is : s ≡ rows
 
 -- A text in two at the place of a root that isn't written.
 record IsUnwritten (t : List ℕ) (w : TextPiece) : Type 0 where
-  pub text : t ≡ w.before ++ w.behind
+  pub text : t ≡ w.before ++ w.after
   pub none : w.text ≡ []
-  pub seam : LineSeam w.before w.behind
+  pub seam : LineSeam w.before w.after
 
 unwritten_is : (t : List ℕ) (i : ℕ) (w : TextPiece) → IsCut t (cut_of t) → rowless_place i (cut_of t) ≡ Some w → IsUnwritten t w
 unwritten_is t i w cut e =
@@ -93,14 +93,14 @@ unwritten_is t i w cut e =
     let d = bind_some (placed_document i c) e in
     let g = guard_then (no_rows d.0.part.rows) d.2 in
     let rows : d.0.part.rows ≡ [] = none_left d.0.part.rows g.0 in
-    let st = part_stands i c d.0 d.1 in
+    let st = part_is_there i c d.0 d.1 in
     let lies = lies_in i c d.0 cut.parts d.1 in
-    let part : part_text d.0.part d.0.behind ≡ d.0.part.end ++ d.0.behind = ap (λ (rs : List Row). rows_text rs (d.0.part.end ++ d.0.behind)) rows in
-    let gap = gap_end d.0.part.end d.0.behind (subst (λ (rs : List Row). AreRows unlimited rs d.0.part.end d.0.behind) rows lies.rows) in
+    let part : part_text d.0.part d.0.after ≡ d.0.part.end ++ d.0.after = ap (λ (rs : List Row). rows_text rs (d.0.part.end ++ d.0.after)) rows in
+    let gap = gap_end d.0.part.end d.0.after (subst (λ (rs : List Row). AreRows unlimited rs d.0.part.end d.0.after) rows lies.rows) in
     subst (IsUnwritten t) (same_Some _ _ g.1) (record {
-      text = cut.text ∙ (st.text ∙ (ap (λ x. d.0.before ++ x) part ∙ sym (append_assoc d.0.before d.0.part.end d.0.behind)));
+      text = cut.text ∙ (st.text ∙ (ap (λ x. d.0.before ++ x) part ∙ sym (append_assoc d.0.before d.0.part.end d.0.after)));
       none = refl;
-      seam = seam_join d.0.before d.0.part.end d.0.behind (subst (LineSeam d.0.before) part lies.seam) gap;
+      seam = seam_join d.0.before d.0.part.end d.0.after (subst (LineSeam d.0.before) part lies.seam) gap;
     })
   where
     none_left : (rs : List Row) → no_rows rs ≡ true → rs ≡ []
@@ -110,11 +110,11 @@ pub unwritten_boundary : (t : List ℕ) (i end : ℕ) → IsCut t (cut_of t) →
 unwritten_boundary t i end cut u e =
     let w = map_some (λ (x : TextPiece). length x.before) (rowless_place i (cut_of t)) end (sym e) in
     let x = unwritten_is t i w.0 cut w.1 in
-    subst (λ (y : List ℕ). IsCharBoundary y end) (sym x.text) (subst (IsCharBoundary (w.0.before ++ w.0.behind)) w.2 (line_boundary w.0.before w.0.behind x.seam (subst IsUtf8 x.text u)))
+    subst (λ (y : List ℕ). IsCharBoundary y end) (sym x.text) (subst (IsCharBoundary (w.0.before ++ w.0.after)) w.2 (line_boundary w.0.before w.0.after x.seam (subst IsUtf8 x.text u)))
 
-pub rowless_agrees : (t : List ℕ) (i end : ℕ) (before behind : List ℕ) → IsCut t (cut_of t) → Some end ≡ rowless_at i (cut_of t) → before ≡ take end t → behind ≡ drop end t →
-    Some (record { before = before; text = []; behind = behind }) ≡ rowless_place i (cut_of t)
-rowless_agrees t i end before behind cut e first second =
+pub rowless_agrees : (t : List ℕ) (i end : ℕ) (before after : List ℕ) → IsCut t (cut_of t) → Some end ≡ rowless_at i (cut_of t) → before ≡ take end t → after ≡ drop end t →
+    Some (record { before = before; text = []; after = after }) ≡ rowless_place i (cut_of t)
+rowless_agrees t i end before after cut e first second =
     let w = map_some (λ (x : TextPiece). length x.before) (rowless_place i (cut_of t)) end (sym e) in
     let x = unwritten_is t i w.0 cut w.1 in
     search (rules, take-append_seam, drop-append_seam, x.text)

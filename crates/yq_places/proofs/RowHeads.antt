@@ -4,7 +4,7 @@ use Rattle.std.{proofs.Common.{refl, sym, ap, ◌∙◌, subst, append_assoc, ap
 use Rattle.std.{proofs.lemmas.Bool.{and_parts, or_right}, proofs.lemmas.List.{length-take-le, take-append-drop}}
 use Rattle.std.{proofs.lemmas.Option.{slice_get_within, slice_get-map, same_Some}, specs.List.slice_get, specs.Str.{IsUtf8, IsCharBoundary}}
 use Rattle.yq_core.{specs.Block.{ends_block, keeps}, specs.declared.block_lines.TextIndent.TextIndent, specs.Text.{is_line, text_lines}}
-use Rattle.yq_row_table.{specs.Exchange.{before_content, behind_row}, specs.Grammar.{IsCut, IsRow, Limit}}
+use Rattle.yq_row_table.{specs.Exchange.{before_content, after_row}, specs.Grammar.{IsCut, IsRow, Limit}}
 use Rattle.yq_row_table.{specs.Rows.{Content, Nothing, Inline, Block, Row, Cut, cut_text, parent_indent}, specs.Seams.{is_closed, is_seam}}
 use Rattle.yq_row_table.{specs.View.{Slices, slices, rows_of, RowsView, rows_view}, proofs.ItemCuts.no_gap, proofs.PlaceLaws.row_in}
 use Rattle.yq_row_table.proofs.seams.SeamLaws.{row_seam, plain_before}
@@ -29,12 +29,12 @@ fit_in (x ∷ rs) (suc i) r h e =
     let all = and_parts (mark_is_fit x.mark) (content_is_fit x.content && have_fit_keys rs) h in
     fit_in rs i r (and_parts (content_is_fit x.content) (have_fit_keys rs) all.1).1 e
 
-pub line_fit : (s : RowsView) (c : Cut) (n : ℕ) (d : Stretch) (f : Found s c n d) (k : InCut s d c) (q : Position) → k.document.stand.rows ≡ f.part.rows → all_documents c ≡ true → IsLine s d q →
+pub line_fit : (s : RowsView) (c : Cut) (n : ℕ) (d : Stretch) (f : Found s c n d) (k : InCut s d c) (q : Position) → k.document.are_there.rows ≡ f.part.rows → all_documents c ≡ true → IsLine s d q →
     (r : Row) → slice_get (rows_of c) q.row ≡ Some r → content_is_fit r.content ≡ true
 line_fit s c n d f k q rows sound at r is =
-    let fit : have_fit_keys k.document.stand.rows ≡ true = ap have_fit_keys rows ∙ (and_parts (have_fit_keys f.part.rows) _ (each (document_parts c) sound n f.part f.there)).0 in
+    let fit : have_fit_keys k.document.are_there.rows ≡ true = ap have_fit_keys rows ∙ (and_parts (have_fit_keys f.part.rows) _ (each (document_parts c) sound n f.part f.there)).0 in
     let same : row_at s d c k q at ≡ r = same_Some _ _ (sym (row_in_cut s d c k q at) ∙ is) in
-    fit_in k.document.stand.rows (q.row - d.first) r fit ((located s d k.document.stand q at).there ∙ ap Some same)
+    fit_in k.document.are_there.rows (q.row - d.first) r fit ((located s d k.document.are_there q at).there ∙ ap Some same)
 
 pub line_within : (s : RowsView) (d : Stretch) (c : Cut) (k : InCut s d c) (q : Position) → IsLine s d q → q.row < length (rows_of c)
 line_within s d c k q at = slice_get_within (rows_of c) q.row (row_at s d c k q at) (row_in_cut s d c k q at)
@@ -59,7 +59,7 @@ row_alone limit r rest h = (row_seam limit r rest [] h (seam_end r.content) (pla
 abbrev pub has_head : (t : List ℕ) (c : Cut) (i : ℕ) (r : Row) → IsCut t c → slice_get (rows_of c) i ≡ Some r → (s : Slices) (x : List ℕ) → s ≡ slices r → x ≡ from_head (slices r) [] → content_is_fit r.content ≡ true → HasHead s x
 has_head t c i r cut is s x pieces own fit =
     let row = row_in c i true r cut.parts is in
-    record { row = r; limit = row.limit; rest = []; pieces = pieces; text = own; valid = row_alone row.limit r (behind_row i c) row.row; fit = fit }
+    record { row = r; limit = row.limit; rest = []; pieces = pieces; text = own; valid = row_alone row.limit r (after_row i c) row.row; fit = fit }
 
 -- the pieces from its head on are its text from there
 pub pieces_from : (x : List ℕ) (s : Slices) (r : Row) → s ≡ slices r → x ≡ s.head ++ (s.tail ++ s.raw) → x ≡ from_head (slices r) []
@@ -76,16 +76,16 @@ module _ (t : List ℕ) (c : Cut) (i : ℕ) (r : Row) (start : ℕ) (u : IsUtf8 
   pub head_boundary : IsCharBoundary t start
   head_boundary = subst (λ (y : List ℕ). IsCharBoundary y start) (sym cut.text) (subst (IsCharBoundary (cut_text c)) (sym at) (head_span c i r same_text same_cut is).begins)
 
-  text_from : drop start t ≡ from_head (slices r) [] ++ behind_row i c
+  text_from : drop start t ≡ from_head (slices r) [] ++ after_row i c
   text_from =
       let s : Slices = slices r in
       let before : List ℕ = before_content i c ++ (s.space ++ (s.anchor ++ s.apart)) in
-      let parts : from_head s (behind_row i c) ≡ from_head s [] ++ behind_row i c = simp append_assoc refl in
-      (λ j. drop (at j) (cut.text j)) ∙ (ap (drop (length before)) (head_text c i r is) ∙ (drop-append_seam before (from_head s (behind_row i c)) ∙ parts))
+      let parts : from_head s (after_row i c) ≡ from_head s [] ++ after_row i c = simp append_assoc refl in
+      (λ j. drop (at j) (cut.text j)) ∙ (ap (drop (length before)) (head_text c i r is) ∙ (drop-append_seam before (from_head s (after_row i c)) ∙ parts))
 
   -- the row in the text
-  pub row_text : (x : List ℕ) → x ≡ from_head (slices r) [] → t ≡ take start t ++ (x ++ behind_row i c)
-  row_text x own = sym (take-append-drop start t) ∙ ap (λ (y : List ℕ). take start t ++ y) (text_from ∙ ap (λ (y : List ℕ). y ++ behind_row i c) (sym own))
+  pub row_text : (x : List ℕ) → x ≡ from_head (slices r) [] → t ≡ take start t ++ (x ++ after_row i c)
+  row_text x own = sym (take-append-drop start t) ∙ ap (λ (y : List ℕ). take start t ++ y) (text_from ∙ ap (λ (y : List ℕ). y ++ after_row i c) (sym own))
 
   pub row_start : start ≡ length (take start t)
   row_start = sym (length-take-le start t head_boundary.0)

@@ -3,11 +3,11 @@ use Rattle.std.proofs.Common.{◌≡◌, ℕ, suc, ◌+◌, ◌-◌, ◌<◌, lt
 use Rattle.std.{proofs.Common.{refl, sym, ap, ◌∙◌, subst, rules}, proofs.lemmas.Option.{slice_get_within, slice_get-map, same_Some}}
 use Rattle.std.specs.List.{slice_get}
 use Rattle.yq_core.specs.Answers.{◌>>=◌}
-use Rattle.yq_row_table.{specs.Rows.{Row, Part, Cut}, specs.View.{Slices, slices, rows_of, RowsView, rows_view}, specs.Exchange.behind_row}
+use Rattle.yq_row_table.{specs.Rows.{Row, Part, Cut}, specs.View.{Slices, slices, rows_of, RowsView, rows_view}, specs.Exchange.after_row}
 use Rattle.yq_row_table.proofs.PlaceLaws.{row_in}
 use Rattle.yq_documents.{specs.declared.path.Part.Part as Place, specs.declared.path.Path.Path, specs.Documents.document_parts}
 use Rattle.yq_documents.{specs.Located.steps_of, specs.Pieces.{TextPiece, piece_span}, specs.Reading.cut_of}
-use Rattle.yq_documents.specs.LinesInRows.{RowLine, behind_one, document_row, has_room, line_has_room, row_line, row_line_at}
+use Rattle.yq_documents.specs.LinesInRows.{RowLine, one_row_later, document_row, has_room, line_has_room, row_line, row_line_at}
 use Rattle.yq_documents.{specs.LinesInRows.{row_line_has_room, row_line_of}, proofs.PartRows.part_begins}
 use Rattle.yq_outline.{proofs.RowLaws.before_mark, specs.declared.line_position.Position.Position}
 use Rattle.yq_outline.{specs.Extents.{lines_before_mark, row_start}, specs.Lines.lines_of_rows, specs.Ends.line_at_steps}
@@ -19,7 +19,7 @@ row_line_row : (n : ℕ) (rs : List Row) → If (row_line n rs) (λ s. slice_get
 row_line_row n [] = tt
 row_line_row n (r ∷ rs) = go (ltb (length r.dashes) n) (row_line (n - suc (length r.dashes)) rs) (row_line_row (n - suc (length r.dashes)) rs)
   where
-    go : (b : Bool) (o : Option RowLine) → If o (λ s. slice_get rs s.before ≡ Some s.row) → If (cond b (option_map behind_one o) (Some (record { before = 0; row = r; line = n }))) (λ s. slice_get (r ∷ rs) s.before ≡ Some s.row)
+    go : (b : Bool) (o : Option RowLine) → If o (λ s. slice_get rs s.before ≡ Some s.row) → If (cond b (option_map one_row_later o) (Some (record { before = 0; row = r; line = n }))) (λ s. slice_get (r ∷ rs) s.before ≡ Some s.row)
     go b o h1 = search rules
 
 of_some : (P : RowLine → Type 0) (o : Option RowLine) (s : RowLine) → If o P → o ≡ Some s → P s
@@ -43,7 +43,7 @@ path_row path c s e = document_row_line path c (slice_get (document_parts c) pat
 
 -- how many lines come before that of the mark
 pub marks_counted : (t : List ℕ) (x : RowsView) → HasCut t x → (i : ℕ) (r : Row) → slice_get (rows_of (cut_of t)) i ≡ Some r → lines_before_mark (slices r) ≡ length r.dashes
-marks_counted t x h i r is = let v = row_in (cut_of t) i true r h.cut.parts is in before_mark r.dashes r.mark r.content (behind_row i (cut_of t)) v.row.dashes v.row.mark
+marks_counted t x h i r is = let v = row_in (cut_of t) i true r h.cut.parts is in before_mark r.dashes r.mark r.content (after_row i (cut_of t)) v.row.dashes v.row.mark
 
 -- the row of the code's line is there
 row_slices : (path : Path) (c : Cut) (s : RowLine) (n : Position) → row_line_at path c ≡ Some s → n ≡ position_in (document_row path.doc c) s → slice_get (rows_view c).rows n.row ≡ Some (slices s.row)

@@ -135,10 +135,10 @@ module _ (c : Cut) (p : Part) (more : List Row) (k : ℕ) (s : PrintedDocument) 
       (q.0, q.1, d, same_Some _ _ (sym d.there ∙ e))
 
   -- a run of lines, of which the last is the last of its row
-  pub run_span : (n m : ℕ) (l z : PrintedLine) (behind : List ℕ) (b : RowLine) → slice_get (printed_lines p.rows) n ≡ Some l →
+  pub run_span : (n m : ℕ) (l z : PrintedLine) (after : List ℕ) (b : RowLine) → slice_get (printed_lines p.rows) n ≡ Some l →
       slice_get (printed_lines p.rows) (n + m) ≡ Some z → row_line (n + m) p.rows ≡ Some b → b.line ≡ length b.row.dashes →
-      Some (piece_span (run_piece (s.before ++ print_lines (take n (printed_lines p.rows)) []) l (take m (drop (suc n) (printed_lines p.rows))) behind)) ≡ lines_place k c p.rows n (n + m)
-  run_span n m l z behind b el ez is e =
+      Some (piece_span (run_piece (s.before ++ print_lines (take n (printed_lines p.rows)) []) l (take m (drop (suc n) (printed_lines p.rows))) after)) ≡ lines_place k c p.rows n (n + m)
+  run_span n m l z after b el ez is e =
       let a = row_line_at n l el in
       let d = printed_line p.rows (n + m) b is in
       let last : d.line ≡ z = same_Some _ _ (sym d.there ∙ ez) in

@@ -8,7 +8,7 @@ use Rattle.std.{proofs.lemmas.Bool.ltb-true, proofs.lemmas.Option.slice_get_with
 use Rattle.yq_row_table.{specs.Rows.{Row, Cut}, specs.RowStarts.row_start, specs.View.{Slices, slices, RowsView, rows_view}}
 use Rattle.yq_places.specs.StepReading.{begins_under_level, end_level, last_level, NoneBegins, searched_rows, IsSearched, BeginsThere}
 use Rattle.yq_places.{specs.StepReading.StaysSearched, specs.Steps.{first_step, is_kind}, proofs.KnownFronts.rows_stay}
-use Rattle.yq_places.{proofs.StepLaws.{step_behind, step_here, steps_agrees, row_step}, specs.declared.places.steps.StepSearch.StepSearch}
+use Rattle.yq_places.{proofs.StepLaws.{step_after, step_here, steps_agrees, row_step}, specs.declared.places.steps.StepSearch.StepSearch}
 
 -- ---- rows
 
@@ -71,9 +71,9 @@ search_stays dashes s k front h within before c is new back touched =
 
 -- ---- the step
 
-none_step : (dashes : Bool) (a : ℕ) (rs qs : List Row) → RowsAgree rs → NoneBegins dashes a (map slices rs) → step_behind dashes a (lines_of_rows (rs ++ qs)) ≡ step_behind dashes (last_level a (map slices rs)) (lines_of_rows qs)
+none_step : (dashes : Bool) (a : ℕ) (rs qs : List Row) → RowsAgree rs → NoneBegins dashes a (map slices rs) → step_after dashes a (lines_of_rows (rs ++ qs)) ≡ step_after dashes (last_level a (map slices rs)) (lines_of_rows qs)
 none_step dashes a [] qs t h = refl
-none_step dashes a (r ∷ rs) qs t h = search (rules, step_behind, row_step, none_step dashes (end_level (slices r)) rs qs t.1 h.1)
+none_step dashes a (r ∷ rs) qs t h = search (rules, step_after, row_step, none_step dashes (end_level (slices r)) rs qs t.1 h.1)
 
 agree_front : (n : ℕ) (rs : List Row) → RowsAgree rs → RowsAgree (take n rs)
 agree_front (suc n) (r ∷ rs) h = (h.0, agree_front n rs h.1)
@@ -81,7 +81,7 @@ agree_front _ _ h = tt
 
 -- the step is that of the lines from where a search ended
 pub searched_step : (s : RowsView) (d : Stretch) (h : HasRows s d) (dashes : Bool) (k : StepSearch) → k.first ≡ d.first → d.first ≤ k.row → k.row ≤ d.end → IsSearched dashes s.rows k →
-    first_step (is_kind dashes) (lines_of_rows h.rows) ≡ step_behind dashes k.above (lines_of_rows (drop (k.row - d.first) h.rows))
+    first_step (is_kind dashes) (lines_of_rows h.rows) ≡ step_after dashes k.above (lines_of_rows (drop (k.row - d.first) h.rows))
 searched_step s d h dashes k first order within searched =
     let m : ℕ = k.row - d.first in
     let sum : d.first + m ≡ k.row = omega (arith, order) in
@@ -91,15 +91,15 @@ searched_step s d h dashes k first order within searched =
     ∙ (sym (take-take m (d.end - d.first) (drop d.first s.rows) (omega (arith, order, within))) ∙ (ap (take m) h.pieces ∙ take-map slices m h.rows)))
     in
     sym (steps_agrees dashes (lines_of_rows h.rows))
-    ∙ (ap (λ (rs : List Row). step_behind dashes 0 (lines_of_rows rs)) (sym (take-append-drop m h.rows))
+    ∙ (ap (λ (rs : List Row). step_after dashes 0 (lines_of_rows rs)) (sym (take-append-drop m h.rows))
     ∙ (none_step dashes 0 (take m h.rows) (drop m h.rows) (agree_front m h.rows (rows_agree h.limit h.rows h.end h.rest h.valid)) (subst (NoneBegins dashes 0) passed searched.none)
-    ∙ ap (λ (a : ℕ). step_behind dashes a (lines_of_rows (drop m h.rows))) (sym (ap (last_level 0) passed) ∙ sym searched.above)))
+    ∙ ap (λ (a : ℕ). step_after dashes a (lines_of_rows (drop m h.rows))) (sym (ap (last_level 0) passed) ∙ sym searched.above)))
 
 -- none was found
 pub none_found : (s : RowsView) (d : Stretch) (h : HasRows s d) (dashes : Bool) (k : StepSearch) → k.first ≡ d.first → k.row ≡ d.end → IsSearched dashes s.rows k → 2 ≡ first_step (is_kind dashes) (lines_of_rows h.rows)
 none_found s d h dashes k first end searched =
     let none : drop (k.row - d.first) h.rows ≡ [] = drop_of_length-le h.rows (omega (arith, end, rows_length s d h)) in
-    sym (searched_step s d h dashes k first (omega (arith, h.order, end)) (omega (arith, end)) searched ∙ ap (λ (rs : List Row). step_behind dashes k.above (lines_of_rows rs)) none)
+    sym (searched_step s d h dashes k first (omega (arith, h.order, end)) (omega (arith, end)) searched ∙ ap (λ (rs : List Row). step_after dashes k.above (lines_of_rows rs)) none)
 
 -- one was found
 pub one_found : (s : RowsView) (d : Stretch) (h : HasRows s d) (dashes : Bool) (k : StepSearch) (level : ℕ) → k.first ≡ d.first → d.first ≤ k.row → k.row < d.end → IsSearched dashes s.rows k → BeginsThere dashes s.rows k →

@@ -7,7 +7,7 @@ use Rattle.yq_core.specs.Paths.{Step}
 use Rattle.yq_outline.{specs.Ends.{deeper_count, lines_end}, specs.Group.{group, level_or, is_fine}}
 use Rattle.yq_outline.specs.Outline.{Line, level, Outline, end, row, flatten, IsEven}
 use Rattle.yq_outline.{specs.Places.{Context, here, below, beside, lines_before, lines_after, FoundLine, find}, proofs.Allowing.Allows}
-use Rattle.yq_outline.proofs.LineEnds.{end_behind}
+use Rattle.yq_outline.proofs.LineEnds.{following_end}
 use Rattle.yq_places.proofs.RowPathLaws.{allowed_level, found_lines, found_place}
 
 -- how many lines are deeper
@@ -69,7 +69,7 @@ end_is ls y ys rest f is fine =
           (shallow_even (level f.line) (level f.line) f.after h.1.4 (omega arith)) (shallow_after (level_or 0 (group ls)) f.place (level f.line) h.0)),
     ) in (
       ap (deeper_count (level f.line)) (ap (drop (suc (length (lines_before f.place)))) found ∙ drop_line (lines_before f.place) (flatten f.under ++ back) f.line) ∙ count,
-      ap (lines_end (length (lines_before f.place))) found ∙ (end_behind (lines_before f.place) (flatten f.under ++ back) f.line ∙ omega (arith, count)),
+      ap (lines_end (length (lines_before f.place))) found ∙ (following_end (lines_before f.place) (flatten f.under ++ back) f.line ∙ omega (arith, count)),
     )
   where
     drop_line : (xs ys : List Line) (l : Line) → drop (suc (length xs)) (xs ++ (l ∷ ys)) ≡ ys

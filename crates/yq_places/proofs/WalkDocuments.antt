@@ -33,7 +33,7 @@ pub record Found (s : RowsView) (c : Cut) (n : ℕ) (d : Stretch) : Type 0 where
   pub there : slice_get (document_parts c) n ≡ Some part
   pub first : d.first ≡ document_row n c
   pub document : HasDocument s d
-  pub rows : document.stand.rows ≡ part.rows
+  pub rows : document.are_there.rows ≡ part.rows
 
 pub found_document : (t : List ℕ) (s : RowsView) (c : Cut) (n : ℕ) (d : Stretch) → IsCut t c → s ≡ rows_view c → Some (stretch_view d) ≡ document_row_range n c → all_documents c ≡ true → Found s c n d
 found_document t s c n d cut is e known = go (slice_get (document_parts c) n) refl e
@@ -46,7 +46,7 @@ found_document t s c n d cut is e known = go (slice_get (document_parts c) n) re
         record { part = p; there = at; first = ap (λ (y : ℕ × ℕ). y.0) same; document = x.0; rows = x.1 }
 
 -- its rows are among those of the cut
-pub found_in_cut : (t : List ℕ) (s : RowsView) (c : Cut) (n : ℕ) (d : Stretch) → IsCut t c → s ≡ rows_view c → (f : Found s c n d) → (k : InCut s d c) × (k.document.stand.rows ≡ f.part.rows)
+pub found_in_cut : (t : List ℕ) (s : RowsView) (c : Cut) (n : ℕ) (d : Stretch) → IsCut t c → s ≡ rows_view c → (f : Found s c n d) → (k : InCut s d c) × (k.document.are_there.rows ≡ f.part.rows)
 found_in_cut t s c n d cut is f =
     let b = part_begins c n f.part f.there in (
       record {
@@ -63,7 +63,7 @@ found_in_cut t s c n d cut is f =
 -- a place in a document that was found
 pub place_found : {A : Type 0} (t : List ℕ) (s : RowsView) (c : Cut) (n : ℕ) (d : Stretch) (found : Option A)
     (place : ℕ → Cut → List Row → Option A) → IsCut t c → s ≡ rows_view c → Some (stretch_view d) ≡ document_row_range n c → all_documents c ≡ true →
-    ((k : InCut s d c) → found ≡ place d.first c k.document.stand.rows) → found ≡ (slice_get (document_parts c) n >>= λ p. place (document_row n c) c p.rows)
+    ((k : InCut s d c) → found ≡ place d.first c k.document.are_there.rows) → found ≡ (slice_get (document_parts c) n >>= λ p. place (document_row n c) c p.rows)
 place_found t s c n d found place cut is e known agrees =
     search (rules, found_document t s c n d cut is e known, found_in_cut t s c n d cut is (found_document t s c n d cut is e known))
 
@@ -72,7 +72,7 @@ no_place_found c n place e = search rules
 
 -- the line of a path in a document that was found
 pub row_line_found : (s : RowsView) (c : Cut) (path : Path) (d : Stretch) (steps : List Step) (found : Option Position)
-    (f : Found s c path.doc d) → steps ≡ steps_of path → found ≡ option_map (position_in d.first) (row_line_of steps f.document.stand.rows) →
+    (f : Found s c path.doc d) → steps ≡ steps_of path → found ≡ option_map (position_in d.first) (row_line_of steps f.document.are_there.rows) →
     found ≡ option_map (position_in (document_row path.doc c)) (row_line_at path c)
 row_line_found s c path d steps found f same e = search rules
 

@@ -28,14 +28,14 @@ module _ (s : RowsView) (d : Stretch) (h : HasRows s d) (q : Position) where
 pub lines_view : (s : RowsView) (d : Stretch) (c : Cut) (k : InCut s d c) (p q : Position) (start end : ℕ) → AreLinesTo s d p q → p.row < q.row →
     ((x : Slices) → slice_get s.rows p.row ≡ Some x → start ≡ line_begin (row_start p.row s) x p.line) →
     ((r : Row) → slice_get (rows_of c) (q.row - 1) ≡ Some r → end ≡ length (through_row (q.row - 1) r c)) →
-    ◌≡◌ {A = Option (ℕ × ℕ)} (Some (start, end)) (lines_place d.first c k.document.stand.rows (line_number d k.document.stand.rows p) (line_number d k.document.stand.rows q - 1))
+    ◌≡◌ {A = Option (ℕ × ℕ)} (Some (start, end)) (lines_place d.first c k.document.are_there.rows (line_number d k.document.are_there.rows p) (line_number d k.document.are_there.rows q - 1))
 lines_view s d c k p q start end a less agrees_start agrees_end =
-    let rs : List Row = k.document.stand.rows in
+    let rs : List Row = k.document.are_there.rows in
     let at : IsLine s d p = position_line s d p a.begin (omega (arith, less, a.stop.upto)) in
-    let l = located s d k.document.stand p at in
+    let l = located s d k.document.are_there p at in
     let z : Position = record { row = q.row - 1; line = 0 } in
     let last : IsLine s d z = record { from = omega (arith, less, a.begin.from); upto = omega (arith, less, a.stop.upto); line = λ x e. omega arith } in
-    let m = located s d k.document.stand z last in
+    let m = located s d k.document.are_there z last in
     let from : p.row ≡ d.first + (p.row - d.first) = omega (arith, at.from) in
     let to : q.row - 1 ≡ d.first + ((q.row - 1) - d.first) = omega (arith, last.from) in
     let begin : start ≡ length (before_line p.row p.line l.row c) =
@@ -44,4 +44,4 @@ lines_view s d c k p q start end a less agrees_start agrees_end =
     (λ i. Some ((begin ∙ ap (λ (n : ℕ). length (before_line n p.line l.row c)) from) i, (finish ∙ ap (λ (n : ℕ). length (through_row n m.row c)) to) i))
     ∙ sym (ap (λ (o : Option RowLine). o >>= λ x. row_line (line_number d rs q - 1) rs >>= λ y. Some (length (before_line (d.first + x.before) x.line x.row c), length (through_row (d.first + y.before) y.row c))) (row_line_is s d c k p at)
     ∙ ap (λ (o : Option RowLine). o >>= λ y. Some (length (before_line (d.first + (p.row - d.first)) p.line l.row c), length (through_row (d.first + y.before) y.row c)))
-    (last_row_line s d k.document.stand q last (omega (arith, less, a.begin.from)) a.first))
+    (last_row_line s d k.document.are_there q last (omega (arith, less, a.begin.from)) a.first))

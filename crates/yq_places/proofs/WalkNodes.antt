@@ -50,18 +50,20 @@ no_steps (s ∷ ss) e = absurd (omega (arith, eqb-true (length (s ∷ ss)) 0 (sy
 -- the row of a line among those of a cut
 module _ (s : RowsView) (d : Stretch) (c : Cut) (k : InCut s d c) (q : Position) (at : IsLine s d q) where
   abbrev pub row_is : Row
-  row_is = (located s d k.document.stand q at).row
+  row_is = (located s d k.document.are_there q at).row
 
-  pub row_line_is : row_line (line_number d k.document.stand.rows q) k.document.stand.rows ≡ Some (record { before = q.row - d.first; row = row_is; line = q.line })
-  row_line_is = let l = located s d k.document.stand q at in row_line_number k.document.stand.rows (q.row - d.first) q.line l.row l.there l.within
+  pub row_line_is : row_line (line_number d k.document.are_there.rows q) k.document.are_there.rows ≡ Some (record { before = q.row - d.first; row = row_is; line = q.line })
+  row_line_is = let l = located s d k.document.are_there q at in row_line_number k.document.are_there.rows (q.row - d.first) q.line l.row l.there l.within
 
   pub before_is : d.first + (q.row - d.first) ≡ q.row
   before_is = omega (arith, at.from)
 
   pub row_in_cut : slice_get (rows_of c) q.row ≡ Some row_is
-  row_in_cut = ap (slice_get (rows_of c)) (sym before_is) ∙ row_there c k.document.stand.rows k.more d.first (line_number d k.document.stand.rows q) (record { before = q.row - d.first; row = row_is; line = q.line }) k.there row_line_is
+  row_in_cut = ap (slice_get (rows_of c)) (sym before_is)
+      ∙ row_there c k.document.are_there.rows k.more d.first (line_number d k.document.are_there.rows q)
+      (record { before = q.row - d.first; row = row_is; line = q.line }) k.there row_line_is
 
   -- what is said of that row is said of the line's
   pub row_known : {A : Type 0} (said : ℕ → Row → Option A) (found : Option A) → ((r : Row) → slice_get (rows_of c) q.row ≡ Some r → found ≡ said q.row r) →
-      found ≡ (row_line (line_number d k.document.stand.rows q) k.document.stand.rows >>= λ s. said (d.first + s.before) s.row)
+      found ≡ (row_line (line_number d k.document.are_there.rows q) k.document.are_there.rows >>= λ s. said (d.first + s.before) s.row)
   row_known said found agrees = search (rules, row_in_cut, before_is, row_line_is)

@@ -9,7 +9,7 @@ pub record CollectionEnd : Type 0 where
   pub column : ℕ
   pub before : List ℕ
   pub broken : Bool
-  pub behind : List ℕ
+  pub after : List ℕ
 
 -- what comes after a mark ends in a break, as each block scalar does (5.4, 8.1)
 abbrev pub is_broken : Content → Bool

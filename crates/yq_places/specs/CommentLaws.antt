@@ -24,8 +24,8 @@ head_comment_of None = []
 head_comment_of (Some x) = x.0.head_comment
 
 -- The comments that the tree has at a path are those that are at their places, and it has none where there is no place.
-abbrev pub CommentsStand : Type 0
-CommentsStand =
+abbrev pub CommentsAreThere : Type 0
+CommentsAreThere =
     (t : List ℕ) (c : Cut) (p : Path) → read_at t ≡ Some c →
     ((labelled_located p t >>= λ x. x.0.line_comment) ≡ option_map comment_of (path_piece p parts.LineComment c))
     × (head_comment_of (labelled_located p t) ≡ comments_of (path_piece p parts.HeadComment c))

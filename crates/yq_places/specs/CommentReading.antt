@@ -1,8 +1,8 @@
 -- Reading (own; a reader may skip it): where comments are, by the pieces of rows.
 use Rattle.std.specs.Prelude.{ℕ, ◌+◌, ◌-◌, ◌==◌, List, length, Option, Some, None, if◌then◌else◌, [], ◌++◌, nat_lt, take}
 use Rattle.yq_core.specs.Text.{cut, front, ends_line, is_empty, joined, text_lines, no_white, past_white}
-use Rattle.yq_row_table.{specs.View.{Slices, slices}, specs.Exchange.{before_content, behind_row}}
-use Rattle.yq_row_table.specs.Rows.{Row, Cut, rows_text, part_text, last, marked, behind_gap}
+use Rattle.yq_row_table.{specs.View.{Slices, slices}, specs.Exchange.{before_content, after_row}}
+use Rattle.yq_row_table.specs.Rows.{Row, Cut, rows_text, part_text, last, marked, following_gap}
 use Rattle.yq_outline.{specs.Extents.{front_length, lines_before_mark}, specs.declared.line_position.Position.Position}
 use Rattle.yq_documents.{specs.LinesInRows.RowLine, specs.Pieces.{TextPiece, tail_comment, last_run, gap_comment}}
 
@@ -18,11 +18,11 @@ before_tail i r c = let s = slices r in before_content i c ++ (s.space ++ (s.anc
 -- the line comment of a line of row i: the comment in the row's tail, where the line is that of the row's mark
 abbrev pub line_comment_in : ℕ → RowLine → Cut → Option TextPiece
 line_comment_in i s c =
-    if s.line == length s.row.dashes then tail_comment (before_tail i s.row c) (slices s.row).tail ((slices s.row).raw ++ behind_row i c) else None
+    if s.line == length s.row.dashes then tail_comment (before_tail i s.row c) (slices s.row).tail ((slices s.row).raw ++ after_row i c) else None
 
 -- the head comment of a line of row i: the run that ends the row's gap, where the line is the first of the row
 abbrev pub head_comment_in : ℕ → RowLine → Cut → Option TextPiece
-head_comment_in i s c = if s.line == 0 then gap_comment (before_row i c) s.row.gap (behind_gap s.row (behind_row i c)) else None
+head_comment_in i s c = if s.line == 0 then gap_comment (before_row i c) s.row.gap (following_gap s.row (after_row i c)) else None
 
 -- where the comment in a tail is, by where the tail begins
 abbrev pub tail_span : ℕ → List ℕ → Option (ℕ × ℕ)

@@ -6,7 +6,7 @@ use Rattle.std.specs.Prelude.{option_map, option_and_then, if◌then◌else◌}
 use Rattle.yq_core.{specs.Answers.◌>>=◌, specs.Paths.Step, specs.Text.{is_empty, joined}}
 use Rattle.yq_core.{specs.Entries.{PlacedEntry, placed_entry_at, entry_place, content_place}, specs.Nodes.{FlowNode, empty}}
 use Rattle.yq_core.specs.Places.{Placed, locate}
-use Rattle.yq_row_table.{specs.Exchange.behind_row, specs.Rows.{Content, Nothing, Inline, Block, Row, dashes_text, Cut, cut_text}}
+use Rattle.yq_row_table.{specs.Exchange.after_row, specs.Rows.{Content, Nothing, Inline, Block, Row, dashes_text, Cut, cut_text}}
 use Rattle.yq_row_table.specs.View.{Slices, slices}
 use Rattle.yq_documents.{specs.declared.path.Path.Path, specs.Documents.document_parts, specs.Located.steps_of}
 use Rattle.yq_documents.{specs.LinesInRows.{row_line, document_row}, specs.RowReading.is_block_head}
@@ -67,7 +67,7 @@ inline_node (Block space anchor block) = empty
 
 -- the same of row i of a cut, with the places of its parts in the cut's text
 abbrev pub placed_inline : ℕ → Row → Cut → Placed
-placed_inline i r c = locate (length (cut_text c)) (inline_node r.content) (tail_of r.content ++ behind_row i c)
+placed_inline i r c = locate (length (cut_text c)) (inline_node r.content) (tail_of r.content ++ after_row i c)
 
 -- the item or entry to which steps lead in the head of line n of rows, before which k rows of a cut are (7.4)
 abbrev pub flow_entry : ℕ → Cut → List Row → ℕ → List Step → Option PlacedEntry

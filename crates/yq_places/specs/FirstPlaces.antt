@@ -31,18 +31,18 @@ abbrev pub first_entry : ℕ → List Step → Cut → Option TextPiece
 first_entry n steps c = line_row_line n steps c >>= λ s. if s.line == 0 then None else (printed_document n c >>= piece_in Entry steps)
 
 -- a piece between two texts (own)
-abbrev pub piece_between : (before text behind : List ℕ) → TextPiece
-piece_between before text behind = record { before = before; text = text; behind = behind }
+abbrev pub piece_between : (before text after : List ℕ) → TextPiece
+piece_between before text after = record { before = before; text = text; after = after }
 
 -- a piece with the spaces before it (own)
 abbrev pub with_spaces : TextPiece → TextPiece
-with_spaces p = piece_between (less_spaces p.before) (end_spaces p.before ++ p.text) p.behind
+with_spaces p = piece_between (less_spaces p.before) (end_spaces p.before ++ p.text) p.after
 
 -- what is taken out with such an item or entry: where a gap is after its last line, what comes after the dash up to the end of that line,
 -- before its break; else all up to the next one (8.2.1; own)
 abbrev pub first_out : TextPiece → TextPiece
 first_out p =
-    let line = cut_line p.behind in
+    let line = cut_line p.after in
     let next = cut no_space line.1 in
     if begins_gap line.1 then with_spaces p else piece_between p.before (p.text ++ (line.0 ++ next.0)) next.1
 

@@ -1,7 +1,7 @@
 -- The flow collections of documents, by paths (YAML 1.2.2, 7.4; own).
 use Rattle.std.specs.Prelude.{ℕ, ◌+◌, List, [], ◌∷◌, ◌++◌, length, slice_get, Option, Some, None, option_map, if◌then◌else◌}
 use Rattle.yq_core.{specs.Answers.◌>>=◌, specs.Paths.Step, specs.Collections.{CollPieces, coll_along}}
-use Rattle.yq_row_table.{specs.Exchange.behind_row, specs.Rows.{Content, Nothing, Inline, Block, Row, Part, Cut}}
+use Rattle.yq_row_table.{specs.Exchange.after_row, specs.Rows.{Content, Nothing, Inline, Block, Row, Part, Cut}}
 use Rattle.yq_outline.{specs.Outline.{Outline, end, row}, specs.Places.{here, lines_before, FoundLine, find, in_head, place_inside}}
 use Rattle.yq_outline.specs.Positions.{has_no_mark}
 use Rattle.yq_documents.{specs.Documents.document_parts, specs.Reading.part_outline, specs.LinesInRows.{row_line, document_row}}
@@ -29,7 +29,7 @@ content_flow steps (Block space anchor block) rest = None
 
 -- the same in the head of line n of rows, before which k rows of a cut are (7.4)
 abbrev pub line_collection : ℕ → Cut → List Row → ℕ → List Step → Option CollPieces
-line_collection k c rs n steps = row_line n rs >>= λ s. content_flow steps s.row.content (behind_row (k + s.before) c)
+line_collection k c rs n steps = row_line n rs >>= λ s. content_flow steps s.row.content (after_row (k + s.before) c)
 
 -- the same at a path of a document, before which k rows are (7.4)
 abbrev pub part_collection : ℕ → Cut → List Step → Part → Option CollPieces

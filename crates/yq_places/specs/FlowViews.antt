@@ -13,8 +13,8 @@ abbrev pub placed_collection : ℕ → CollPieces → Placed
 placed_collection total w = locate total (coll w.close w.gap w.items) w.rest
 
 -- what comes after the anchor of a node, with its places
-abbrev pub behind_anchor : Placed → Placed
-behind_anchor (placed a s c e f) = placed None c c e f
+abbrev pub following_anchor : Placed → Placed
+following_anchor (placed a s c e f) = placed None c c e f
 
 -- a node, if its content is a collection (7.4)
 abbrev pub if_collection : Placed → CoreNode → Option Placed
@@ -26,7 +26,7 @@ if_collection p (mapping parts) = Some p
 
 -- the collection that a node is, without its anchor
 abbrev pub collection_of : Placed → Option Placed
-collection_of (placed a s c e f) = if_collection (behind_anchor (placed a s c e f)) f
+collection_of (placed a s c e f) = if_collection (following_anchor (placed a s c e f)) f
 
 -- the collection to which steps lead in a node
 abbrev pub collection_along : List Step → Placed → Option Placed
@@ -40,13 +40,13 @@ collection_view x = collection_along (map tree_step x.left.now) (inline_view x.n
 -- has its places in this piece (7.4; own).
 pub record IsHeadOfSteps (t : List ℕ) (w : CollPieces) (x : FlowHead) : Type 0 where
   pub front : List ℕ
-  pub behind : List ℕ
+  pub after : List ℕ
   pub rest : List ℕ
-  pub text : t ≡ front ++ (x.text.now ++ behind)
+  pub text : t ≡ front ++ (x.text.now ++ after)
   pub before : x.before ≡ length front
-  pub rest_is : w.rest ≡ rest ++ behind
+  pub rest_is : w.rest ≡ rest ++ after
   pub at : CollAt
-  pub stands : IsCollAt at
+  pub is_located : IsCollAt at
   pub node_is : x.text.now ≡ node_text at.node at.rest
   pub coll_is : at.coll ≡ record w { rest = rest }
   pub found : collection_view x ≡ Some (placed_collection (length x.text.now) (record w { rest = rest }))

@@ -44,7 +44,7 @@ pub mod NodesAt
 pub mod NodeReading
 pub mod FlowViews
 pub mod HeadReading
-pub mod Standings
-pub mod StandingViews
+pub mod Placements
+pub mod PlacementViews
 pub mod LineReading
-pub mod StandingReading
+pub mod PlacementReading

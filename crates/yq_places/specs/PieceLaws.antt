@@ -19,14 +19,14 @@ pub record IsInlinePiece (p : TextPiece) (n : tree.Node) : Type 0 where
   pub node : FlowNode
   pub unnamed : node_anchor node ≡ None
   pub text : p.text ≡ node_text node []
-  pub valid : (flow : Bool) × (spaces : Option ℕ) × (depth : ℕ) × IsFlowNode flow spaces depth node p.behind
+  pub valid : (flow : Bool) × (spaces : Option ℕ) × (depth : ℕ) × IsFlowNode flow spaces depth node p.after
   pub tree : n ≡ tree_of node
 
 -- A piece is a block scalar, from its header to its last raw line (8.1).
 pub record IsScalarPiece (p : TextPiece) (n : tree.Node) : Type 0 where
   pub block : BlockText
   pub text : p.text ≡ block_text block []
-  pub valid : (least : ℕ) × IsBlock least block p.behind
+  pub valid : (least : ℕ) × IsBlock least block p.after
   pub tree : n ≡ tree.scalar None Text (block_content block)
 
 -- A piece is that of a run of lines of a document, which comes after others and before others.
@@ -34,7 +34,7 @@ pub record IsLineRun (s : PrintedDocument) (first : PrintedLine) (others : List 
   pub above : List PrintedLine
   pub below : List PrintedLine
   pub lines : s.lines ≡ above ++ (first ∷ (others ++ below))
-  pub piece : p ≡ run_piece (s.before ++ print_lines above []) first others (print_lines below s.behind)
+  pub piece : p ≡ run_piece (s.before ++ print_lines above []) first others (print_lines below s.after)
 
 -- A piece is a run of lines of a document that begins with a key or dash, and these lines mean a tree (8.2).
 pub record IsRunPiece (s : PrintedDocument) (p : TextPiece) (n : tree.Node) : Type 0 where
@@ -74,7 +74,7 @@ pub record IsFlowPiece (p : TextPiece) (n : Labelled) : Type 0 where
   pub key : Key
   pub node : FlowNode
   pub text : p.text ≡ key_text key (node_text node [])
-  pub valid : (depth : ℕ) × IsFlowNode true (Some 0) depth node p.behind
+  pub valid : (depth : ℕ) × IsFlowNode true (Some 0) depth node p.after
   pub label : n.0 ≡ key_label (key_content key)
   pub tree : n.1 ≡ tree_of node
 
@@ -86,10 +86,10 @@ EntriesSpell =
     (n : Labelled) × (labelled_located p t ≡ Some n) × (IsEntryRun s x n ⊎ IsFlowPiece x n)
 
 -- The lines of document n are those of its rows, and with the text before and after them they are the whole text.
-abbrev pub LinesStand : Type 0
-LinesStand =
+abbrev pub LinesAreIn : Type 0
+LinesAreIn =
     (t : List ℕ) (c : Cut) (n : ℕ) (s : PrintedDocument) → read_at t ≡ Some c → printed_document n c ≡ Some s →
-    (t ≡ s.before ++ print_lines s.lines s.behind)
+    (t ≡ s.before ++ print_lines s.lines s.after)
     × ((d : Rows) × (slice_get (document_parts c) n ≡ Some d) × (s.lines ≡ printed_lines d.rows) × (map line_in s.lines ≡ lines_of_rows d.rows))
 
 -- The piece of a content at a path spells the node there.

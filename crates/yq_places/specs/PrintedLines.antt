@@ -94,10 +94,10 @@ run_break l (k ∷ ks) = run_break k ks
 
 -- a run of lines between two texts, as a piece
 abbrev pub run_piece : List ℕ → PrintedLine → List PrintedLine → List ℕ → TextPiece
-run_piece before l ls behind = record { before = before ++ line_front l; text = run_text l ls; behind = run_break l ls ++ behind }
+run_piece before l ls after = record { before = before ++ line_front l; text = run_text l ls; after = run_break l ls ++ after }
 
 -- the node that lines between two texts mean: one on a line of its own, or a block collection; without lines there is none (8.2)
 abbrev pub lines_piece : List ℕ → List PrintedLine → List ℕ → Option TextPiece
-lines_piece before [] behind = None
-lines_piece before (l ∷ ls) behind =
-    if has_no_mark l.line.mark then head_piece (before ++ (line_front l ++ l.mark)) l.content (print_lines ls behind) else Some (run_piece before l ls behind)
+lines_piece before [] after = None
+lines_piece before (l ∷ ls) after =
+    if has_no_mark l.line.mark then head_piece (before ++ (line_front l ++ l.mark)) l.content (print_lines ls after) else Some (run_piece before l ls after)

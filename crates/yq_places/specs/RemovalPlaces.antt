@@ -4,7 +4,7 @@ use Rattle.std.specs.Prelude.{option_map, Bool, false, if◌then◌else◌}
 use Rattle.yq_core.{specs.Answers.◌>>=◌, specs.Block.{BlockText, keeps}, specs.Paths.{Step, node_at}, specs.Text.{joined, text_lines}}
 use Rattle.yq_core.specs.Tree.{Node, children_of}
 use Rattle.yq_row_table.{specs.Removal.{hold_comment, last_block, next_column}, specs.Rows.{Row, rows_text, Cut}}
-use Rattle.yq_row_table.specs.Splices.{behind_first, first_gap}
+use Rattle.yq_row_table.specs.Splices.{after_first, first_gap}
 use Rattle.yq_outline.{specs.Counts.count, specs.Ends.{line_at_steps, lines_end}, specs.Lines.lines_of_rows}
 use Rattle.yq_documents.{specs.Pieces.{before_run, last_run}, specs.Reading.documents, specs.LinesInRows.row_line}
 use Rattle.yq_places.specs.PlacedRows.{PlacedPart, placed_document}
@@ -39,9 +39,9 @@ pub record Seam : Type 0 where
   pub column : ℕ
 
 -- the seam after a block scalar, if there is one, where no comment line stays after it
-abbrev pub seam_behind : Option BlockText → (column : ℕ) → (kept : List ℕ) → Option Seam
-seam_behind None column kept = None
-seam_behind (Some b) column kept =
+abbrev pub seam_after : Option BlockText → (column : ℕ) → (kept : List ℕ) → Option Seam
+seam_after None column kept = None
+seam_after (Some b) column kept =
     if hold_comment (text_lines kept) then None else Some (record { keeps = keeps b.chomping; indent = b.indent.columns; column = column })
 
 -- What is taken out of a text: the text before it, the lines that go, the gap after them, the text after that, and the seam of the gap,
@@ -50,7 +50,7 @@ pub record Removal : Type 0 where
   pub before : List ℕ
   pub gone : List ℕ
   pub gap : List ℕ
-  pub behind : List ℕ
+  pub after : List ℕ
   pub seam : Option Seam
 
 -- the lines that stay of the gap in front of rows: those before the comment that ends it
@@ -65,10 +65,10 @@ comment_above rs end = joined (last_run (text_lines (first_gap rs end)))
 abbrev pub rows_out : PlacedPart → OwnRows → Removal
 rows_out d x = record {
   before = d.before ++ rows_text x.front (kept_gap x.own d.part.end);
-  gone = comment_above x.own d.part.end ++ behind_first x.own [] [];
+  gone = comment_above x.own d.part.end ++ after_first x.own [] [];
   gap = first_gap x.back d.part.end;
-  behind = behind_first x.back d.part.end d.behind;
-  seam = seam_behind (last_block x.front) (next_column x.back) (kept_gap x.own d.part.end);
+  after = after_first x.back d.part.end d.after;
+  seam = seam_after (last_block x.front) (next_column x.back) (kept_gap x.own d.part.end);
 }
 
 -- what is taken out with the item or entry to which steps lead in document n, if its line is the first one of a row

@@ -64,4 +64,4 @@ seam_view s = record { keeps = s.keeps; indent = s.indent; column = s.column }
 
 -- what is taken out, as the code lends it
 abbrev pub removal_view : declared.Removal → Removal
-removal_view r = record { before = whole r.before; gone = whole r.gone; gap = r.gap.now; behind = whole r.behind; seam = option_map seam_view r.seam }
+removal_view r = record { before = whole r.before; gone = whole r.gone; gap = r.gap.now; after = whole r.after; seam = option_map seam_view r.seam }

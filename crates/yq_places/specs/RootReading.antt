@@ -7,7 +7,7 @@ use Rattle.yq_places.specs.PlacedRows.{PlacedPart, placed_document}
 
 -- a document in its text, if it has no rows
 abbrev pub if_rowless : PlacedPart → Option TextPiece
-if_rowless d = if no_rows d.part.rows then Some (record { before = d.before ++ d.part.end; text = []; behind = d.behind }) else None
+if_rowless d = if no_rows d.part.rows then Some (record { before = d.before ++ d.part.end; text = []; after = d.after }) else None
 
 -- document n in its text, if it has no rows
 abbrev pub rowless_place : ℕ → Cut → Option TextPiece

@@ -31,8 +31,8 @@ pub record InCut (s : RowsView) (d : Stretch) (c : Cut) : Type 0 where
   pub rows : s ≡ rows_view c
   pub document : HasDocument s d
   pub more : List Row
-  pub there : drop d.first (rows_of c) ≡ document.stand.rows ++ more
+  pub there : drop d.first (rows_of c) ≡ document.are_there.rows ++ more
 
 -- What is said of the document that is walked is so of its rows, with the numbers of its lines, in each cut in which these are.
 abbrev pub InEach : Walk → (ℕ → Cut → List Row → (Position → ℕ) → Type 0) → Type 0
-InEach w said = (c : Cut) (k : InCut w.rows.now w.document c) → said w.document.first c k.document.stand.rows (line_number w.document k.document.stand.rows)
+InEach w said = (c : Cut) (k : InCut w.rows.now w.document c) → said w.document.first c k.document.are_there.rows (line_number w.document k.document.are_there.rows)

@@ -3,7 +3,7 @@ pub mod SumLaws
 pub mod LimitLaws
 pub mod IndexLaws
 pub mod UsedLaws
-pub mod StandInLaws
+pub mod SubstituteLaws
 pub mod ChildDepths
 pub mod ListSizeLaws
 pub mod ValidLaws

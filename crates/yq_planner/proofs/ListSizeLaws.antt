@@ -3,7 +3,8 @@ use Rattle.std.proofs.Common.{◌≡◌, ℕ, ◌+◌, ◌-◌, ◌<◌, ◌≤�
 use Rattle.std.proofs.Common.{subst, arith, rules}
 use Rattle.yq_core.{specs.Keys.{depth, deepest}, specs.Paths.append_children}
 use Rattle.yq_core.{specs.Tree.{Node, list, Children, none, child, key_label, plain_label}, specs.Values.items}
-use Rattle.yq_planner.{specs.ListSizes.HasSize, specs.StandIns.{IsStandIn, lists}, specs.declared.updating.list_size.ListSize.ListSize}
+use Rattle.yq_planner.{specs.ListSizes.HasSize, specs.Substitutes.{IsSubstitute, lists}}
+use Rattle.yq_planner.specs.declared.updating.list_size.ListSize.{ListSize}
 use Rattle.yq_semantics.{specs.Changes.{is_overlong_key, has_long_key, have_long_key}, specs.Sizes.items_among}
 
 or_parts : (a b c : Bool) → (a || (b || c)) ≡ false → (a ≡ false) × (b ≡ false) × (c ≡ false)
@@ -71,10 +72,10 @@ list_size (n ∷ ns) d size some fit is deep many = record {
     some_of (m ∷ ms) = omega (arith, some_of ms)
 
 -- a small list stands for one of that size
-pub small_for : (v inside w : Node) (size : ListSize) → w ≡ list None (child plain_label inside none) → depth inside ≡ size.depth - 1 → has_long_key inside ≡ false → HasSize v size → IsStandIn v w
+pub small_for : (v inside w : Node) (size : ListSize) → w ≡ list None (child plain_label inside none) → depth inside ≡ size.depth - 1 → has_long_key inside ≡ false → HasSize v size → IsSubstitute v w
 small_for v inside w size is deep short h =
-    subst (λ x. IsStandIn x w) (sym h.is)
-    (subst (IsStandIn (list None (child h.label h.first h.others))) (sym is)
+    subst (λ x. IsSubstitute x w) (sym h.is)
+    (subst (IsSubstitute (list None (child h.label h.first h.others))) (sym is)
     (record {
       kind = lists;
       fit = ap has_long_key (sym h.is) ∙ h.fit;

@@ -13,7 +13,8 @@ use Rattle.yq_semantics.{specs.Operations.Operation, specs.Plans.{add_op, ops_of
 use Rattle.yq_semantics.{specs.RightValues.{int_sum, with_entries, with_entry}, specs.Under.all_under}
 use Rattle.yq_semantics.specs.declared.under.OpsUnder.{OpsUnder}
 use Rattle.yq_planner.{specs.ChangeView.{addition_of, change_of, changes_under}, specs.ChangedNodes.LeadsToNode}
-use Rattle.yq_planner.{specs.EntryNumbers.number_kept, specs.StandIns.IsStandIn, specs.TakenNames.{is_used_anchor, overwrites_at, takes_at}}
+use Rattle.yq_planner.{specs.EntryNumbers.number_kept, specs.Substitutes.IsSubstitute}
+use Rattle.yq_planner.specs.TakenNames.{is_used_anchor, overwrites_at, takes_at}
 use Rattle.yq_planner.{specs.Indexes.{HasAliases, IsIndex, get_text, kept_first}, specs.declared.updating.change.ChangesUnder.ChangesUnder}
 use Rattle.yq_core.specs.Tree as tree
 use Rattle.yq_nodes.specs.declared.nodes.node.Node as nodes
@@ -135,8 +136,8 @@ abbrev pub ops_in_order : ℕ → Bool → ChangesUnder → List Operation
 ops_in_order doc removal x = ops_of doc (ordered removal (changes_under x))
 
 -- a value is refused where a scalar is
-abbrev pub StandsForScalar : ScalarText → Value → Type 0
-StandsForScalar s w = IsStandIn (tree.scalar None s.kind s.text) (value_node w)
+abbrev pub ReplacesScalar : ScalarText → Value → Type 0
+ReplacesScalar s w = IsSubstitute (tree.scalar None s.kind s.text) (value_node w)
 
 -- the mapping of one entry, whose key is the empty text
 abbrev pub keyless_map : Value → Node

@@ -4,7 +4,7 @@ pub mod EntryNumbers
 pub mod ChangeView
 pub mod Indexes
 pub mod TakenNames
-pub mod StandIns
+pub mod Substitutes
 pub mod ListSizes
 pub mod Repeated
 pub mod ChangedNodes

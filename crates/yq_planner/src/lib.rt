@@ -13,5 +13,5 @@ pub use updating::limits::{holds_long_key, is_long_key};
 pub use updating::list_size::{ListSize, added_size, list_of_size};
 pub use updating::operations::{operations, push_changes};
 pub use updating::repeated::sum_times;
-pub use updating::stand_in::stand_in;
+pub use updating::substitute::substitute;
 pub use updating::sum::{is_null, scalar_sum};

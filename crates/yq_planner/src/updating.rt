@@ -15,5 +15,5 @@ pub(crate) mod list_size;
 pub(crate) mod operations;
 pub(crate) mod repeated;
 pub(crate) mod same_value;
-pub(crate) mod stand_in;
+pub(crate) mod substitute;
 pub(crate) mod sum;

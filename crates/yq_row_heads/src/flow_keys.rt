@@ -39,7 +39,7 @@ fn key_fault(whole: &str, piece: &Piece) -> Option<ReadFault>
 /// The first fault in the keys of a node with places in a text.
 #[cycle(fits)]
 pub(crate) fn keys_fault(whole: &str, node: &Inline<'_>) -> Option<ReadFault>
-    requires stand { HasSpans whole.now (node_view node.now) }
+    requires are_there { HasSpans whole.now (node_view node.now) }
     ensures fits { is_none result ≡ spec.node_fits whole.now (node_view node.now) }
     ensures fault { IfSome result (λ f. f.kind ≢ NotUtf8) }
 {
@@ -53,7 +53,7 @@ pub(crate) fn keys_fault(whole: &str, node: &Inline<'_>) -> Option<ReadFault>
 /// The same of items.
 #[cycle(fits)]
 fn items_fault(whole: &str, items: &Vec<Inline<'_>>) -> Option<ReadFault>
-    requires stand { PartsHaveSpans whole.now (items_end items.now.items) }
+    requires are_there { PartsHaveSpans whole.now (items_end items.now.items) }
     ensures fits { is_none result ≡ spec.parts_fit whole.now (items_end items.now.items) }
     ensures fault { IfSome result (λ f. f.kind ≢ NotUtf8) }
 {
@@ -68,7 +68,7 @@ fn items_fault(whole: &str, items: &Vec<Inline<'_>>) -> Option<ReadFault>
 /// The same of entries.
 #[cycle(fits)]
 fn entries_fault(whole: &str, entries: &Vec<(String, Piece, Inline<'_>)>) -> Option<ReadFault>
-    requires stand { PartsHaveSpans whole.now (entries_end entries.now.items) }
+    requires are_there { PartsHaveSpans whole.now (entries_end entries.now.items) }
     ensures fits { is_none result ≡ spec.parts_fit whole.now (entries_end entries.now.items) }
     ensures fault { IfSome result (λ f. f.kind ≢ NotUtf8) }
 {

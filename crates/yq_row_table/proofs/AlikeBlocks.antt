@@ -1,7 +1,7 @@
 -- A block scalar before one text is one before a text that is alike.
 use Rattle.std.proofs.Common.{◌≡◌, inl, inr, ℕ, suc, Bool, false, cond, not, ◌&&◌, eqb, List, [], ◌∷◌, ◌++◌, refl, sym, ap, ◌∙◌, Some}
 use Rattle.std.{proofs.Common.rules, proofs.Math.Bool.and-false, proofs.lemmas.Bool.{false≢true, not-true, cases_Bool, or_parts}}
-use Rattle.yq_core.{specs.Block.{is_empty_line, is_less_indented, ends_block}, specs.Lines.{spaces, behind_spaces, is_tab}}
+use Rattle.yq_core.{specs.Block.{is_empty_line, is_less_indented, ends_block}, specs.Lines.{spaces, without_spaces, is_tab}}
 use Rattle.yq_core.specs.Text.{front, is_feed, is_return, is_break, ends_line, text_lines, put_byte}
 use Rattle.yq_core.{specs.declared.block_lines.TextIndent.TextIndent, proofs.Bools.at_byte}
 use Rattle.yq_core.{proofs.SpaceLaws.{prefix_drop, prefix_next, prefix_none}, specs.Alike.{Alike, stop, colon, after}}
@@ -17,7 +17,7 @@ pub data LineAlike : List ℕ → List ℕ → Type 0 where
 -- lines that are the same up to two such lines
 pub data LinesAlike : List (List ℕ) → List (List ℕ) → Type 0 where
   here : {l m : List ℕ} {ls ms : List (List ℕ)} → LineAlike l m → LinesAlike (l ∷ ls) (m ∷ ms)
-  behind : {l : List ℕ} {ls ms : List (List ℕ)} → LinesAlike ls ms → LinesAlike (l ∷ ls) (l ∷ ms)
+  after : {l : List ℕ} {ls ms : List (List ℕ)} → LinesAlike ls ms → LinesAlike (l ∷ ls) (l ∷ ms)
 
 -- The first line of a text with a byte before it.
 pub record Put (b : ℕ) (t : List ℕ) : Type 0 where
@@ -46,14 +46,14 @@ put_seam b c t u x y s r tab =
 
 put_alike : (b : ℕ) (ls ms : List (List ℕ)) → is_feed b ≡ false → LinesAlike ls ms → LinesAlike (put_byte b ls) (put_byte b ms)
 put_alike b _ _ e (here {l} {m} {ls} {ms} h) = here (after_byte e h)
-put_alike b _ _ e (behind {l} {ls} {ms} h) = behind h
+put_alike b _ _ e (after {l} {ls} {ms} h) = after h
 
 -- lines after the same text
 pub lines_after : (p t u : List ℕ) → LinesAlike (text_lines t) (text_lines u) → LinesAlike (text_lines (p ++ t)) (text_lines (p ++ u))
 unfolding text_lines
 lines_after [] t u h = h
 lines_after (b ∷ p) t u h = elim (cases_Bool (is_feed b)) [
-  | inl e ↦ rw e (behind (lines_after p t u h))
+  | inl e ↦ rw e (after (lines_after p t u h))
   | inr e ↦ rw e (put_alike b (text_lines (p ++ t)) (text_lines (p ++ u)) e (lines_after p t u h))
 ]
 
@@ -74,7 +74,7 @@ abbrev is_blank : ℕ → Bool
 is_blank b = eqb b 32
 
 -- such lines begin with as many spaces, and with no break after these
-line_spaces : (l m : List ℕ) → LineAlike l m → (spaces l ≡ spaces m) × LineAlike (behind_spaces l) (behind_spaces m)
+line_spaces : (l m : List ℕ) → LineAlike l m → (spaces l ≡ spaces m) × LineAlike (without_spaces l) (without_spaces m)
 line_spaces _ _ (byte {b} {c} {t} {u} x y s r tab) = (prefix_none is_blank b t s ∙ sym (prefix_none is_blank c u r), rw (prefix_drop is_blank b t, prefix_drop is_blank c u) (rw (s, r) (byte x y s r tab)))
 line_spaces _ _ (after_byte {b} {t} {u} e h) =
     let again = line_spaces t u h in
@@ -97,10 +97,10 @@ line_tab _ _ (after_byte {b} {t} {u} e h) = refl
 line_less : (f : TextIndent) (l m : List ℕ) → LineAlike l m → (is_empty_line f l ≡ false) × (is_empty_line f m ≡ false) × (is_less_indented f l ≡ is_less_indented f m)
 line_less f l m h =
     let s = line_spaces l m h in
-    let n = line_no_end (behind_spaces l) (behind_spaces m) s.1 in
-    (rw n.0 refl, rw n.1 refl, rw (n.0, n.1, line_tab (behind_spaces l) (behind_spaces m) s.1, s.0) refl)
+    let n = line_no_end (without_spaces l) (without_spaces m) s.1 in
+    (rw n.0 refl, rw n.1 refl, rw (n.0, n.1, line_tab (without_spaces l) (without_spaces m) s.1, s.0) refl)
 
 pub ends_alike : (keep : Bool) (f : TextIndent) (ls ms : List (List ℕ)) → LinesAlike ls ms → ends_block keep f ls ≡ ends_block keep f ms
 unfolding ends_block
 ends_alike keep f _ _ (here {l} {m} {ls} {ms} h) = let e = line_less f l m h in rw (e.0, e.1) e.2
-ends_alike keep f _ _ (behind {l} {ls} {ms} h) = ap (λ b. cond (is_empty_line f l) (not keep && b) (is_less_indented f l)) (ends_alike keep f ls ms h)
+ends_alike keep f _ _ (after {l} {ls} {ms} h) = ap (λ b. cond (is_empty_line f l) (not keep && b) (is_less_indented f l)) (ends_alike keep f ls ms h)

@@ -3,7 +3,7 @@ use Rattle.yq_row_table.{proofs.AlikeBlocks.{ends_alike, lines_alike}, specs.Gap
 use Rattle.yq_row_table.specs.Grammar.{IsColon, IsKey, IsTail, IsAnchor, IsContent, IsMark, IsRow, Limit, limit_after, AreRows, IsPart}
 use Rattle.yq_row_table.specs.Grammar.{IsMarkerLine}
 use Rattle.yq_row_table.specs.Rows.{RowMark, Bare, Dash, Key, Anchor, Content, Nothing, Inline, Block, dashes_text, mark_text, anchor_text}
-use Rattle.yq_row_table.specs.Rows.{content_text, Row, behind_indent, behind_gap, parent_indent, print_row, rows_text, Part, part_text}
+use Rattle.yq_row_table.specs.Rows.{content_text, Row, after_indent, following_gap, parent_indent, print_row, rows_text, Part, part_text}
 use Rattle.std.proofs.Common.{inl, ℕ, ℤ, Bool, false, ◌&&◌, eqb, List, [], ◌∷◌, ◌++◌, Option, Some, None, drop, sym, ap, ◌∙◌, ⊎_elim}
 use Rattle.std.proofs.Common.{replicate, rules}
 use Rattle.yq_core.{specs.Block.{BlockText, block_text}, specs.Text.joined, specs.Alike.{Alike, after}}
@@ -70,7 +70,7 @@ dashes_text_alike [] t u h = h
 dashes_text_alike (n ∷ ns) t u h = after (alike_append (Some false) (replicate n 32) _ _ (dashes_text_alike ns t u h))
 
 -- rows
-indent_alike : (r : Row) (t u : List ℕ) → Alike (Some false) t u → Alike (Some false) (behind_indent r t) (behind_indent r u)
+indent_alike : (r : Row) (t u : List ℕ) → Alike (Some false) t u → Alike (Some false) (after_indent r t) (after_indent r u)
 indent_alike r t u h = dashes_text_alike r.dashes _ _ (mark_text_alike r.mark _ _ (content_text_alike r.content t u h))
 
 pub row_text_alike : (r : Row) (t u : List ℕ) → Alike (Some false) t u → Alike (Some false) (print_row r t) (print_row r u)
@@ -80,9 +80,9 @@ pub row_alike : (limit : Limit) (r : Row) (t u : List ℕ) → Alike (Some false
 row_alike limit r t u h g =
     let indent = indent_alike r t u h in
     record {
-      gap = row_gap_alike r.gap (behind_gap r t) (behind_gap r u) (alike_append (Some false) (replicate r.column 32) _ _ indent) g.gap;
+      gap = row_gap_alike r.gap (following_gap r t) (following_gap r u) (alike_append (Some false) (replicate r.column 32) _ _ indent) g.gap;
       allowed = g.allowed;
-      unmarked = ap (λ b. eqb r.column 0 && b) (sym (alike_marker (Some false) (behind_indent r t) (behind_indent r u) indent)) ∙ g.unmarked;
+      unmarked = ap (λ b. eqb r.column 0 && b) (sym (alike_marker (Some false) (after_indent r t) (after_indent r u) indent)) ∙ g.unmarked;
       dashes = g.dashes;
       mark = mark_alike r.mark r.content t u (content_text_alike r.content t u h) g.mark;
       content = content_alike (parent_indent r) r.content t u h g.content;

@@ -19,13 +19,13 @@ Opens b = (t : List ℕ) → front is_block_mark (b ∷ t) ≡ false
 opens : (k : ℕ) → Opens (cond (eqb k 125) 123 91)
 opens k = cond_both (eqb k 125) 123 91 Opens (λ _ t. refl) (λ _ t. refl)
 
-behind_anchor : (n : ℤ) (node : FlowNode) (rest : List ℕ) → takes_anchor node ≡ true → IsFlowNode false (Some (deeper n)) depth_limit node rest → front is_block_mark (node_text node []) ≡ false
+following_anchor : (n : ℤ) (node : FlowNode) (rest : List ℕ) → takes_anchor node ≡ true → IsFlowNode false (Some (deeper n)) depth_limit node rest → front is_block_mark (node_text node []) ≡ false
 unfolding node_text IsFlowNode
-behind_anchor n node rest a h = search (rules, is_block_mark, append-nil, scalar_no_mark, opens, false≢true)
+following_anchor n node rest a h = search (rules, is_block_mark, append-nil, scalar_no_mark, opens, false≢true)
 
 pub head_no_mark : (n : ℤ) (node : FlowNode) (rest : List ℕ) → IsFlowNode false (Some (deeper n)) depth_limit node rest → front is_block_mark (anchor_cut node).2 ≡ false
 unfolding node_text IsFlowNode
-head_no_mark n node rest h = search (rules, is_block_mark, append-nil, scalar_no_mark, opens, behind_anchor)
+head_no_mark n node rest h = search (rules, is_block_mark, append-nil, scalar_no_mark, opens, following_anchor)
 
 -- the numbers of a block scalar, by its header and its raw lines
 no_block : (n : ℤ) (head raw : List ℕ) → front is_block_mark head ≡ false → block_numbers_of n head raw ≡ None

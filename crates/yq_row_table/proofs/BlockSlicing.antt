@@ -33,7 +33,7 @@ pub record Read (n : ℤ) (t : List ℕ) (p : Piece) : Type 0 where
   pub rest : List ℕ
   pub read : block_at (deeper n) t ≡ Some (block, rest)
   pub law : IsBlock (deeper n) block rest
-  pub stands : t ≡ block_text block rest
+  pub is_located : t ≡ block_text block rest
   pub head_end : p.head_end ≡ suc (length block.indicators)
   pub raw_start : p.raw_start ≡ suc (length block.indicators) + length block.tail
   pub end : p.end ≡ suc (length block.indicators) + length block.tail + length (joined block.raw)
@@ -49,7 +49,7 @@ block_read n t p h =
       rest = x.0.1;
       read = x.1;
       law = laws.1;
-      stands = laws.0;
+      is_located = laws.0;
       head_end = omega (arith, ap (λ (q : Piece). q.head_end) (sym is));
       raw_start = omega (arith, ap (λ (q : Piece). q.raw_start) (sym is));
       end = omega (arith, ap (λ (q : Piece). q.end) (sym is));
@@ -58,7 +58,7 @@ block_read n t p h =
 -- The header, the rest of its line, the raw lines and what follows, cut one after the other.
 pub record Cuts (n : ℤ) (t : List ℕ) (p : Piece) (h : Read n t p) : Type 0 where
   pub head : take p.head_end t ≡ style_indicator h.block.style ∷ h.block.indicators
-  pub behind_head : drop p.head_end t ≡ h.block.tail ++ (joined h.block.raw ++ h.rest)
+  pub after_head : drop p.head_end t ≡ h.block.tail ++ (joined h.block.raw ++ h.rest)
   pub tail_len : p.raw_start - p.head_end ≡ length h.block.tail
   pub raw_len : p.end - p.raw_start ≡ length (joined h.block.raw)
 
@@ -72,12 +72,12 @@ head_boundary n t p h = search (rules, false≢true, seam_low, tail_low)
 pub tail_boundary : (n : ℤ) (t u : List ℕ) (p : Piece) → Read n t p → u ≡ drop p.head_end t → IsUtf8 u → IsCharBoundary u (p.raw_start - p.head_end)
 tail_boundary n t u p h e utf8 =
     let c = cuts n t p h in
-    cut_lf u h.block.tail (joined h.block.raw ++ h.rest) (p.raw_start - p.head_end) (e ∙ c.behind_head) (line_lf h.block.tail (and_parts (is_line h.block.tail) _ h.law.tail).0) c.tail_len utf8
+    cut_lf u h.block.tail (joined h.block.raw ++ h.rest) (p.raw_start - p.head_end) (e ∙ c.after_head) (line_lf h.block.tail (and_parts (is_line h.block.tail) _ h.law.tail).0) c.tail_len utf8
 
 raw_is : (n : ℤ) (t u v : List ℕ) (p : Piece) (h : Read n t p) → u ≡ drop p.head_end t → v ≡ drop (p.raw_start - p.head_end) u → v ≡ joined h.block.raw ++ h.rest
 raw_is n t u v p h e f =
     let c = cuts n t p h in
-    f ∙ (ap (λ k. drop k u) c.tail_len ∙ (ap (drop (length h.block.tail)) (e ∙ c.behind_head) ∙ drop-append_seam h.block.tail (joined h.block.raw ++ h.rest)))
+    f ∙ (ap (λ k. drop k u) c.tail_len ∙ (ap (drop (length h.block.tail)) (e ∙ c.after_head) ∙ drop-append_seam h.block.tail (joined h.block.raw ++ h.rest)))
 
 pub raw_boundary : (n : ℤ) (t u v : List ℕ) (p : Piece) → Read n t p → u ≡ drop p.head_end t → v ≡ drop (p.raw_start - p.head_end) u → IsUtf8 v → IsCharBoundary v (p.end - p.raw_start)
 raw_boundary n t u v p h e f utf8 =
@@ -110,10 +110,10 @@ named v a g u e some =
     let k = upto (unless in_name) v in
     let name_is : a ≡ 38 ∷ take k v = ap (λ (y : List ℕ × List ℕ × List ℕ). y.0) e in
     let there = name_there v (λ one. some (ap length name_is ∙ one)) in
-    let behind : (cut no_white (drop k v)).1 ≡ u = ap (λ (y : List ℕ × List ℕ × List ℕ). y.2) (sym e) in
+    let after : (cut no_white (drop k v)).1 ≡ u = ap (λ (y : List ℕ × List ℕ × List ℕ). y.2) (sym e) in
     record {
       anchor = Some (record { name = take k v; gap = (cut no_white (drop k v)).0 });
-      read = rw there (ap (λ (l : List ℕ). Some (Some (record { name = take k v; gap = (cut no_white (drop k v)).0 }), l)) behind);
+      read = rw there (ap (λ (l : List ℕ). Some (Some (record { name = take k v; gap = (cut no_white (drop k v)).0 }), l)) after);
       name = sym name_is;
       apart = ap (λ (y : List ℕ × List ℕ × List ℕ). y.1) (sym e);
     }

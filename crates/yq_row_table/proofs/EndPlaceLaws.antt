@@ -2,12 +2,12 @@
 use Rattle.std.proofs.Common.{rules, ◌≡◌, ℕ, Fits, w32, ◌-◌, ◌<◌, ◌≤◌, ◌^◌, List, [], ◌∷◌, ◌++◌, length, take, refl, sym, ap, ◌∙◌, subst}
 use Rattle.std.{proofs.Common.{arith, length-append, length-drop}, proofs.Math.Seq.drop-append_seam}
 use Rattle.std.{proofs.lemmas.List.{take-append-drop, take_at}, proofs.lemmas.Str.IsUtf8-append, specs.Str.IsUtf8}
-use Rattle.yq_row_table.{specs.Ends.{bound_in, EndStands, end_at}, specs.Offsets.{Ends, AreCuts}, proofs.FrontLaws.front_boundary}
+use Rattle.yq_row_table.{specs.Ends.{bound_in, EndIsLocated, end_at}, specs.Offsets.{Ends, AreCuts}, proofs.FrontLaws.front_boundary}
 use Rattle.yq_row_table.proofs.OffsetLaws.{cuts}
 
-pub end_stands : (whole end marker rest : List ℕ) (k : ℕ) → Ends (end ++ (marker ++ rest)) whole → IsUtf8 end → IsUtf8 marker → IsUtf8 rest → EndStands whole (end_at (length whole - length (end ++ (marker ++ rest))) k end marker)
-unfolding EndStands
-end_stands whole end marker rest k h e m u =
+pub end_is_located : (whole end marker rest : List ℕ) (k : ℕ) → Ends (end ++ (marker ++ rest)) whole → IsUtf8 end → IsUtf8 marker → IsUtf8 rest → EndIsLocated whole (end_at (length whole - length (end ++ (marker ++ rest))) k end marker)
+unfolding EndIsLocated
+end_is_located whole end marker rest k h e m u =
     let t = end ++ (marker ++ rest) in
     let text : IsUtf8 t = IsUtf8-append end (marker ++ rest) e (IsUtf8-append marker rest m u) in
     let split : whole ≡ take (length whole - length t) whole ++ t = sym (take-append-drop (length whole - length t) whole) ∙ ap (λ l. take (length whole - length t) whole ++ l) h in (

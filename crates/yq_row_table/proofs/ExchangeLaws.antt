@@ -2,7 +2,7 @@
 use Rattle.std.proofs.Common.{rules, ◌≡◌, ℕ, zero, suc, ◌-◌, ◌<◌, ◌≤◌, Bool, true, false, List, [], ◌∷◌, ◌++◌, length, Some, None, refl}
 use Rattle.std.{proofs.Common.{arith, append_assoc}, proofs.lemmas.Bool.false≢true, specs.List.slice_get}
 use Rattle.yq_core.{specs.Text.separates, specs.Alike.{Alike, byte}, proofs.Alikes.alike_append, proofs.AlikePieces.scalar_alike}
-use Rattle.yq_row_table.specs.Exchange.{with_content, allows_first, asked_behind}
+use Rattle.yq_row_table.specs.Exchange.{with_content, allows_first, asked_after}
 use Rattle.yq_row_table.specs.Grammar.{IsContent, IsMark, is_entry, IsRow, Limit, limit_after, AreRows, begins_document, AreParts}
 use Rattle.yq_row_table.specs.Rows.{RowMark, Bare, Dash, Key, Content, mark_text, content_text, Row, parent_indent, rows_text, Part, Cut}
 use Rattle.yq_row_table.{specs.Rows.{marked, cut_text}, specs.Seams.TakesPlace, proofs.RowPlaces.takes_place}
@@ -41,7 +41,7 @@ relimit limit other rs end rest a h = search rules
 
 -- rows before other rows: what neighbours ask of each other is the limit after and how the text in front begins
 pub chain : (front rows new : List Row) (limit : Limit) (end rest other_end other : List ℕ) → AreRows limit (front ++ rows) end rest →
-    AreRows (asked_behind limit front) new other_end other → Alike (Some false) (rows_text rows (end ++ rest)) (rows_text new (other_end ++ other)) →
+    AreRows (asked_after limit front) new other_end other → Alike (Some false) (rows_text rows (end ++ rest)) (rows_text new (other_end ++ other)) →
     AreRows limit (front ++ new) other_end other
     × Alike (Some false) (rows_text (front ++ rows) (end ++ rest)) (rows_text (front ++ new) (other_end ++ other))
 chain [] rows new limit end rest other_end other h n a = (n, a)
@@ -62,5 +62,5 @@ slice_back (x ∷ a) b (suc i) r more h = let e : suc i - suc (length a) ≡ i -
 abbrev pub CutExchanged : Bool → Cut → Cut → Type 0
 CutExchanged started c d = AreParts started d × Alike (Some false) (cut_text c) (cut_text d)
 
-pub marked_behind : (started : Bool) (p : Part) (marker : List ℕ) (c d : Cut) → AreParts started (marked p marker c) → CutExchanged (begins_document marker) c d → CutExchanged started (marked p marker c) (marked p marker d)
-marked_behind started p marker c d h more = search (rules, alike_append, part_alike, marker_line_alike, part_text_alike)
+pub marked_after : (started : Bool) (p : Part) (marker : List ℕ) (c d : Cut) → AreParts started (marked p marker c) → CutExchanged (begins_document marker) c d → CutExchanged started (marked p marker c) (marked p marker d)
+marked_after started p marker c d h more = search (rules, alike_append, part_alike, marker_line_alike, part_text_alike)

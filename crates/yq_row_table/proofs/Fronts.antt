@@ -4,7 +4,7 @@ use Rattle.std.proofs.lemmas.Bool.{false≢true, or_cases, false_from_ne_true, a
 use Rattle.yq_core.{specs.Text.{cut, is_feed, front, is_break, ends_line, no_white, no_space, separates, is_empty}, specs.Lines.is_hash}
 use Rattle.yq_core.{specs.Nodes.{begins_with, begins_node}, specs.Scalars.begins_scalar, proofs.NodesPieceLaws.front_not}
 use Rattle.yq_row_table.{specs.Gap.IsWhite, specs.Grammar.IsTail, specs.Reading.{is_colon, is_dash}}
-use Rattle.yq_row_table.proofs.LineEnds.{line_end_behind, white_again}
+use Rattle.yq_row_table.proofs.LineEnds.{following_line_end, white_again}
 
 -- A text that begins with none of white space, a break, the end and `#`.
 pub record Starts (t : List ℕ) : Type 0 where
@@ -44,13 +44,13 @@ stops_by t h1 = search (rules, ⊎_elim, eqb-true, and_parts, return_stops, or_c
 -- A tail, by its white space and what comes after it.
 pub record TailFront (t : List ℕ) : Type 0 where
   pub white : List ℕ
-  pub behind : List ℕ
-  pub is : t ≡ white ++ behind
+  pub after : List ℕ
+  pub is : t ≡ white ++ after
   pub blank : IsWhite white
-  pub past : cut no_white t ≡ (white, behind)
-  pub stops : Stops behind
+  pub past : cut no_white t ≡ (white, after)
+  pub stops : Stops after
 
 pub tail_front : (tail rest : List ℕ) → IsTail tail rest → TailFront (tail ++ rest)
 tail_front tail rest h =
-    let u = line_end_behind h.white h.comment tail rest h.line in
-    record { white = h.white; behind = u.0; is = u.1; blank = h.line.blank; past = ap (cut no_white) u.1 ∙ white_again h.white u.0 h.line.blank u.2; stops = stops_by u.0 u.3 }
+    let u = following_line_end h.white h.comment tail rest h.line in
+    record { white = h.white; after = u.0; is = u.1; blank = h.line.blank; past = ap (cut no_white) u.1 ∙ white_again h.white u.0 h.line.blank u.2; stops = stops_by u.0 u.3 }

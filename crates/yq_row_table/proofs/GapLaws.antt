@@ -7,7 +7,7 @@ use Rattle.std.{proofs.lemmas.Str.{IsCharBoundary-start, IsCharBoundary-from_res
 use Rattle.yq_core.specs.Text.{upto, cut, no_white, ends_line, is_empty, past_white, line_len, cut_line, joined}
 use Rattle.yq_core.{proofs.Boundaries.boundary_line, proofs.LineLaws.{line_len_some, line_len_within}, specs.Lines.is_hash}
 use Rattle.yq_row_table.{specs.Gap.{IsGapLine, AreGapLines, IsGap}, specs.Reading.{begins_gap, gap_lines, gap_len, cut_gap}}
-use Rattle.yq_row_table.proofs.LineEnds.{white_cut, white_again, line_end_takes, line_end_behind, line_end_line, line_again}
+use Rattle.yq_row_table.proofs.LineEnds.{white_cut, white_again, line_end_takes, following_line_end, line_end_line, line_again}
 
 some_line : (t : List ℕ) → is_empty t ≡ false → is_empty (cut_line t).0 ≡ false
 unfolding line_len
@@ -29,7 +29,7 @@ some_more l rest h = search (rules, false≢true)
 
 gap_line_again : (l rest : List ℕ) → IsGapLine l rest → (begins_gap (l ++ rest) ≡ true) × (cut_line (l ++ rest) ≡ (l, rest))
 gap_line_again l rest h =
-    let u = line_end_behind h.white h.comment l rest h.line in
+    let u = following_line_end h.white h.comment l rest h.line in
     let whites : past_white (l ++ rest) ≡ u.0 = ap (λ s. (cut no_white s).1) u.1 ∙ ap (λ (y : List ℕ × List ℕ). y.1) (white_again h.white u.0 h.line.blank u.2) in
     (rw (some_more l rest h.some, whites) u.3, line_again l rest (line_end_line h.white h.comment l rest h.line))
 

@@ -4,32 +4,32 @@ use Rattle.std.{proofs.Common.{ap, ◌∙◌, subst, arith, append-nil, length-a
 use Rattle.std.{proofs.lemmas.Simd.map-map, proofs.lemmas.List.Elements.{All-cons, All-nil}, proofs.lemmas.Str.IsUtf8-nil, specs.List.All}
 use Rattle.std.specs.Str.{IsUtf8}
 use Rattle.yq_text.specs.declared.halves.Halves.{Halves}
-use Rattle.yq_row_table.specs.Ends.{EndStands, bound_in, bound_in_half, bounds_in_halves, end_at}
+use Rattle.yq_row_table.specs.Ends.{EndIsLocated, bound_in, bound_in_half, bounds_in_halves, end_at}
 use Rattle.yq_row_table.specs.Items.{Item, row_item, end_item, items_text, rows_in_items, bounds_in_items, view_of_items}
-use Rattle.yq_row_table.specs.Kept.{HavePlaces, TextsIn, ends_near, near, halves_view, slices_behind, row_from_end}
+use Rattle.yq_row_table.specs.Kept.{HavePlaces, TextsIn, ends_near, near, halves_view, slices_after, row_from_end}
 use Rattle.yq_row_table.{specs.Offsets.{Ends, pieces_of, rows_in, slices_in}, specs.Rows.print_row, specs.View.{Bound, Slices, slices}}
 use Rattle.yq_row_table.{specs.declared.ends.EndPlace.EndPlace, specs.declared.places.Places.Places}
-use Rattle.yq_row_table.{proofs.EndPlaceLaws.{end_same, end_stands}, proofs.FrontLaws.{front_drop, front_length}}
+use Rattle.yq_row_table.{proofs.EndPlaceLaws.{end_same, end_is_located}, proofs.FrontLaws.{front_drop, front_length}}
 use Rattle.yq_row_table.proofs.KeptLaws.{KeptRows, end_apart, far_near, items_texts, near_kept, row_apart}
 use Rattle.yq_row_table.specs.declared.offsets.Offsets as declared
 
 -- one end of a part in a text
 kept_end : (pre gap marker t : List ℕ) (k : ℕ) → IsUtf8 gap → IsUtf8 marker → IsUtf8 t →
     (bound_in (pre ++ (gap ++ (marker ++ t))) (end_at (length pre) k gap marker) ≡ record { rows = k; end = gap; marker = marker })
-    × EndStands (pre ++ (gap ++ (marker ++ t))) (end_at (length pre) k gap marker)
+    × EndIsLocated (pre ++ (gap ++ (marker ++ t))) (end_at (length pre) k gap marker)
 kept_end pre gap marker t k g m u =
     let own = gap ++ (marker ++ t) in
     let whole = pre ++ own in
     let at : length whole - length own ≡ length pre = front_length whole pre own refl in
     let ends : Ends own whole = front_drop whole pre own refl in (
       subst (λ (n : ℕ). bound_in whole (end_at n k gap marker) ≡ record { rows = k; end = gap; marker = marker }) at (end_same whole gap marker t k ends),
-      subst (λ (n : ℕ). EndStands whole (end_at n k gap marker)) at (end_stands whole gap marker t k ends g m u),
+      subst (λ (n : ℕ). EndIsLocated whole (end_at n k gap marker)) at (end_is_located whole gap marker t k ends g m u),
     )
 
 -- The end of a part is in the half in which it begins.
 pub record InHalf (text : Halves) (e : EndPlace) : Type 0 where
-  pub front : e.start < length text.front.now → EndStands text.front.now e
-  pub back : length text.front.now ≤ e.start → EndStands text.back.now (record e { start = e.start - length text.front.now })
+  pub front : e.start < length text.front.now → EndIsLocated text.front.now e
+  pub back : length text.front.now ≤ e.start → EndIsLocated text.back.now (record e { start = e.start - length text.front.now })
 
 abbrev HalfEnd : Halves → EndPlace → Bound → Type 0
 HalfEnd text e b = (bound_in_half text e ≡ b) × InHalf text e
@@ -61,8 +61,8 @@ each_end text side base each (end_item gap marker ∷ xs) ys pre k e h rest =
     )
 
 -- an end in the second half
-end_behind : (text : Halves) → EachEnd text text.back.now (length text.front.now)
-end_behind text pre gap marker t k e g m u =
+following_end : (text : Halves) → EachEnd text text.back.now (length text.front.now)
+following_end text pre gap marker t k e g m u =
     let n = length text.front.now in
     let one = kept_end pre gap marker t k g m u in
     let at : (n + length pre) - n ≡ length pre = omega arith in
@@ -108,39 +108,39 @@ rows-append [] ys = refl
 rows-append (row_item r ∷ xs) ys = ap (λ l. slices r ∷ l) (rows-append xs ys)
 rows-append (end_item gap marker ∷ xs) ys = rows-append xs ys
 
-pub half_ends : (text : Halves) (p : Places) → (h : HavePlaces text p) → HalfEnds text p.ends (bounds_in_items 0 (h.before ++ h.behind))
+pub half_ends : (text : Halves) (p : Places) → (h : HavePlaces text p) → HalfEnds text p.ends (bounds_in_items 0 (h.before ++ h.after))
 half_ends text p h =
-    let texts = texts_parts h.before h.behind h.placed.texts in
-    let back_text : IsUtf8 text.back.now = subst IsUtf8 (sym h.back_is) (items_texts h.behind [] texts.1 IsUtf8-nil) in
+    let texts = texts_parts h.before h.after h.placed.texts in
+    let back_text : IsUtf8 text.back.now = subst IsUtf8 (sym h.back_is) (items_texts h.after [] texts.1 IsUtf8-nil) in
     let n = length text.front.now in
-    let own : h.behind ++ [] ≡ h.behind = append-nil h.behind in
-    let last : (j : ℕ) → HalfEnds text (ends_near (n + 0) j h.behind) (bounds_in_items j h.behind) = λ j.
+    let own : h.after ++ [] ≡ h.after = append-nil h.after in
+    let last : (j : ℕ) → HalfEnds text (ends_near (n + 0) j h.after) (bounds_in_items j h.after) = λ j.
     subst (λ (l : List Item). HalfEnds text (ends_near (n + 0) j l) (bounds_in_items j l)) own
-    (each_end text text.back.now n (end_behind text) h.behind [] [] j h.back_is texts.1 (λ i. (refl, All-nil (InHalf text)))) in
-    let all = each_end text text.front.now 0 (end_front text back_text) h.before h.behind [] 0 h.front_is texts.0
-    (λ j. subst (λ (m : ℕ). HalfEnds text (ends_near m j h.behind) (bounds_in_items j h.behind)) (omega arith) (last j)) in
-    subst (λ (es : List EndPlace). HalfEnds text es (bounds_in_items 0 (h.before ++ h.behind))) (sym h.placed.ends_are) all
+    (each_end text text.back.now n (following_end text) h.after [] [] j h.back_is texts.1 (λ i. (refl, All-nil (InHalf text)))) in
+    let all = each_end text text.front.now 0 (end_front text back_text) h.before h.after [] 0 h.front_is texts.0
+    (λ j. subst (λ (m : ℕ). HalfEnds text (ends_near m j h.after) (bounds_in_items j h.after)) (omega arith) (last j)) in
+    subst (λ (es : List EndPlace). HalfEnds text es (bounds_in_items 0 (h.before ++ h.after))) (sym h.placed.ends_are) all
 
 pub front_rows : (text : Halves) (p : Places) → (h : HavePlaces text p) → KeptRows text.front.now p.front.items (rows_in_items h.before)
 front_rows text p h =
-    let texts = texts_parts h.before h.behind h.placed.texts in
+    let texts = texts_parts h.before h.after h.placed.texts in
     rw (h.front_is, h.placed.front_are) (near_kept h.before [] [] texts.0 IsUtf8-nil)
 
-pub back_rows : (text : Halves) (p : Places) → (h : HavePlaces text p) → KeptRows text.back.now (map (row_from_end (length text.back.now)) (reverse p.behind.items)) (rows_in_items h.behind)
+pub back_rows : (text : Halves) (p : Places) → (h : HavePlaces text p) → KeptRows text.back.now (map (row_from_end (length text.back.now)) (reverse p.after.items)) (rows_in_items h.after)
 back_rows text p h =
-    let texts = texts_parts h.before h.behind h.placed.texts in
-    let near_is : map (row_from_end (length text.back.now)) (reverse p.behind.items) ≡ near 0 h.behind = ap (map (row_from_end (length text.back.now))) h.placed.behind_are ∙ far_near h.behind [] text.back.now h.back_is in
-    rw (near_is, h.back_is) (near_kept h.behind [] [] texts.1 IsUtf8-nil)
+    let texts = texts_parts h.before h.after h.placed.texts in
+    let near_is : map (row_from_end (length text.back.now)) (reverse p.after.items) ≡ near 0 h.after = ap (map (row_from_end (length text.back.now))) h.placed.after_are ∙ far_near h.after [] text.back.now h.back_is in
+    rw (near_is, h.back_is) (near_kept h.after [] [] texts.1 IsUtf8-nil)
 
-turned_rows : (back : List ℕ) (os : List declared.Offsets) → map (slices_behind back) os ≡ rows_in back (map (row_from_end (length back)) os)
+turned_rows : (back : List ℕ) (os : List declared.Offsets) → map (slices_after back) os ≡ rows_in back (map (row_from_end (length back)) os)
 unfolding pieces_of
 turned_rows back os = sym (map-map (slices_in back) (row_from_end (length back)) os)
 
-pub have_view : (text : Halves) (p : Places) → (h : HavePlaces text p) → halves_view text p ≡ view_of_items (h.before ++ h.behind)
+pub have_view : (text : Halves) (p : Places) → (h : HavePlaces text p) → halves_view text p ≡ view_of_items (h.before ++ h.after)
 have_view text p h =
     let back = text.back.now in
-    let rows : rows_in text.front.now p.front.items ++ map (slices_behind back) (reverse p.behind.items) ≡ rows_in_items (h.before ++ h.behind) =
-    ap (λ (l : List Slices). l ++ map (slices_behind back) (reverse p.behind.items)) (front_rows text p h).0
-    ∙ (ap (λ (l : List Slices). rows_in_items h.before ++ l) (turned_rows back (reverse p.behind.items) ∙ (back_rows text p h).0) ∙ sym (rows-append h.before h.behind)) in
+    let rows : rows_in text.front.now p.front.items ++ map (slices_after back) (reverse p.after.items) ≡ rows_in_items (h.before ++ h.after) =
+    ap (λ (l : List Slices). l ++ map (slices_after back) (reverse p.after.items)) (front_rows text p h).0
+    ∙ (ap (λ (l : List Slices). rows_in_items h.before ++ l) (turned_rows back (reverse p.after.items) ∙ (back_rows text p h).0) ∙ sym (rows-append h.before h.after)) in
     ap (λ (l : List Slices). record { rows = l; bounds = bounds_in_halves text p.ends }) rows
-    ∙ ap (λ (l : List Bound). record { rows = rows_in_items (h.before ++ h.behind); bounds = l }) (half_ends text p h).0
+    ∙ ap (λ (l : List Bound). record { rows = rows_in_items (h.before ++ h.after); bounds = l }) (half_ends text p h).0

@@ -72,7 +72,7 @@ plain_locate total (anchored n g node) rest = plain_with n _ (locate total node 
 plain_locate total _ rest = refl
 
 -- The pieces of a node in front of a text.
-pub record InFront (node : FlowNode) (t rest : List ℕ) : Type 0 where
+pub record LeadingPieces (node : FlowNode) (t rest : List ℕ) : Type 0 where
   pub anchor : (cut_anchor t).0 ≡ (anchor_cut node).0
   pub apart : (cut_lead (is_nothing node) (cut_anchor t).1).0 ≡ (anchor_cut node).1
   pub head : (cut_lead (is_nothing node) (cut_anchor t).1).1 ≡ (anchor_cut node).2 ++ rest
@@ -81,7 +81,7 @@ no_white_cut : (t : List ℕ) → no_white t ≡ true → cut no_white t ≡ ([]
 no_white_cut t h = rw (upto_here no_white t h) refl
 
 unanchored : (node : FlowNode) (rest : List ℕ) → begins_with 38 (node_text node rest) ≡ false → no_white (node_text node rest) ≡ true →
-    is_nothing node ≡ false → anchor_cut node ≡ ([], [], node_text node []) → InFront node (node_text node rest) rest
+    is_nothing node ≡ false → anchor_cut node ≡ ([], [], node_text node []) → LeadingPieces node (node_text node rest) rest
 unanchored node rest amp white some is = search (rules, anchor_none, no_white_cut, node_then)
 
 -- a content is something
@@ -95,20 +95,20 @@ lead_front : (spaces : Option ℕ) (d : ℕ) (g : List ℕ) (node : FlowNode) (r
     cut_lead (is_empty_node node) (g ++ node_text node rest) ≡ (g, node_text node rest)
 lead_front spaces d g node rest h l some = search (rules, content_some, cut-append, bare_or)
 
-pub in_front : (spaces : Option ℕ) (d : ℕ) (node : FlowNode) (rest : List ℕ) → IsFlowNode false spaces d node rest → InFront node (node_text node rest) rest
+pub before_offset : (spaces : Option ℕ) (d : ℕ) (node : FlowNode) (rest : List ℕ) → IsFlowNode false spaces d node rest → LeadingPieces node (node_text node rest) rest
 unfolding node_text IsFlowNode
-in_front spaces d empty rest h = search (rules, anchor_none)
-in_front spaces d (alias n) rest h = unanchored (alias n) rest refl refl refl refl
-in_front spaces d (scalar p) rest h =
+before_offset spaces d empty rest h = search (rules, anchor_none)
+before_offset spaces d (alias n) rest h = unanchored (alias n) rest refl refl refl refl
+before_offset spaces d (scalar p) rest h =
     let begins = scalar_begins false spaces p rest h in
     unanchored (scalar p) rest (front_not (begins_scalar false) 38 (λ cs. refl) (p ++ rest) begins) (node_starts (p ++ rest) (scalar_node (p ++ rest) begins)).no_white refl refl
-in_front spaces d (coll k g is) rest h =
+before_offset spaces d (coll k g is) rest h =
     let front : (begins_with 38 (node_text (coll k g is) rest) ≡ false) × (no_white (node_text (coll k g is) rest) ≡ true) =
     cond_both (eqb k 125) 123 91
     (λ (b : ℕ). (begins_with 38 (b ∷ (g ++ flow_items_text k is rest)) ≡ false) × (no_white (b ∷ (g ++ flow_items_text k is rest)) ≡ true))
     (λ _. (refl, refl)) (λ _. (refl, refl)) in
     unanchored (coll k g is) rest front.0 front.1 refl refl
-in_front spaces d (anchored n g node) rest h = search (rules, upto-append, take-append_seam, drop-append_seam, lead_front, node_then)
+before_offset spaces d (anchored n g node) rest h = search (rules, upto-append, take-append_seam, drop-append_seam, lead_front, node_then)
 
 -- What the code knows of a node in front of a text.
 pub record Read (spaces : Option ℕ) (t rest : List ℕ) (s : Placed) : Type 0 where
@@ -124,17 +124,17 @@ pub node_read : (spaces : Option ℕ) (total : ℕ) (t rest : List ℕ) (s : Pla
 node_read spaces total t rest s h =
     let x = bind_some (all_node false spaces depth_limit t) h in
     let pair : (locate total x.0.0 x.0.1, x.0.1) ≡ (s, rest) = same_Some _ _ x.2 in
-    let behind : x.0.1 ≡ rest = ap (λ (y : Placed × List ℕ). y.1) pair in
+    let after : x.0.1 ≡ rest = ap (λ (y : Placed × List ℕ). y.1) pair in
     let here : locate total x.0.0 x.0.1 ≡ s = ap (λ (y : Placed × List ℕ). y.0) pair in
     let law = all_takes false spaces depth_limit t x.0 x.1 in
     let nothing : nothing_placed s ≡ is_nothing x.0.0 = ap nothing_placed (sym here) ∙ nothing_locate spaces depth_limit total x.0.0 x.0.1 law.1 in
-    let f : InFront x.0.0 t x.0.1 = subst (λ (u : List ℕ). InFront x.0.0 u x.0.1) (sym law.0) (in_front spaces depth_limit x.0.0 x.0.1 law.1) in
+    let f : LeadingPieces x.0.0 t x.0.1 = subst (λ (u : List ℕ). LeadingPieces x.0.0 u x.0.1) (sym law.0) (before_offset spaces depth_limit x.0.0 x.0.1 law.1) in
     record {
       node = x.0.0;
-      read = x.1 ∙ ap (λ (r : List ℕ). Some (x.0.0, r)) behind;
+      read = x.1 ∙ ap (λ (r : List ℕ). Some (x.0.0, r)) after;
       anchor = f.anchor;
       apart = rw nothing f.apart;
-      head = rw nothing (f.head ∙ ap (λ (r : List ℕ). (anchor_cut x.0.0).2 ++ r) behind);
+      head = rw nothing (f.head ∙ ap (λ (r : List ℕ). (anchor_cut x.0.0).2 ++ r) after);
       more = nothing_more x.0.0 ∙ ap not (sym nothing);
       plain = sym (plain_locate total x.0.0 x.0.1) ∙ ap plain_placed here;
     }
@@ -150,12 +150,12 @@ pub head_boundary : (spaces : Option ℕ) (t rest u : List ℕ) (s : Placed) →
 head_boundary spaces t rest u s r e utf8 = front_boundary u (anchor_cut r.node).2 rest (e ∙ r.head) utf8
 
 -- a node after white space, and its tail
-pub inline_some : (n : ℤ) (space t a r g u behind tail rest : List ℕ) (s : Placed) (some plain : Bool) → Read (Some (deeper n)) t behind s →
-    (a, r) ≡ cut_anchor t → (g, u) ≡ cut_lead (nothing_placed s) (cut_anchor t).1 → read_tail behind ≡ Some (tail, rest) →
+pub inline_some : (n : ℤ) (space t a r g u after tail rest : List ℕ) (s : Placed) (some plain : Bool) → Read (Some (deeper n)) t after s →
+    (a, r) ≡ cut_anchor t → (g, u) ≡ cut_lead (nothing_placed s) (cut_anchor t).1 → read_tail after ≡ Some (tail, rest) →
     plain ≡ plain_placed s → some ≡ (is_empty space && not (nothing_placed s)) →
-    inline_sliced n space t ≡ Some (record { space = space; anchor = a; apart = g; head = take (length u - length behind) u; tail = tail; raw = []; plain = plain; alone = some; rest = rest })
+    inline_sliced n space t ≡ Some (record { space = space; anchor = a; apart = g; head = take (length u - length after) u; tail = tail; raw = []; plain = plain; alone = some; rest = rest })
 unfolding inline_content_at
-inline_some n space t a r g u behind tail rest s some plain h anchor lead_is ends plain_is some_is = search (rules, front_take)
+inline_some n space t a r g u after tail rest s some plain h anchor lead_is ends plain_is some_is = search (rules, front_take)
 
 abbrev located : ℕ → FlowNode × List ℕ → Option (Placed × List ℕ)
 located total x = Some (locate total x.0 x.1, x.1)
@@ -174,6 +174,6 @@ lead_none b t h = rw h refl
 pub lead_some : (b : Bool) (t : List ℕ) (x : List ℕ × List ℕ) → b ≡ false → x ≡ cut no_white t → x ≡ cut_lead b t
 lead_some b t x h e = rw h e
 
-pub inline_no_tail : (n : ℤ) (space t behind : List ℕ) (s : Placed) → Read (Some (deeper n)) t behind s → read_tail behind ≡ None → inline_sliced n space t ≡ None
+pub inline_no_tail : (n : ℤ) (space t after : List ℕ) (s : Placed) → Read (Some (deeper n)) t after s → read_tail after ≡ None → inline_sliced n space t ≡ None
 unfolding inline_content_at
-inline_no_tail n space t behind s h ends = rw (h.read, ends) refl
+inline_no_tail n space t after s h ends = rw (h.read, ends) refl

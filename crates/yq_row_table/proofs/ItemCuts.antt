@@ -35,22 +35,22 @@ cut_of (row_item r ∷ xs) = row_before r (cut_of xs)
 cut_of (end_item gap marker ∷ xs) = end_before gap marker (cut_of xs)
 
 -- A cut whose first row may be where this limit is asked, and whose first part may have rows if that is so.
-abbrev AreBehind : Limit → Bool → Cut → Type 0
-AreBehind limit started (last p) = AreRows limit p.rows p.end [] × ((started || no_rows p.rows) ≡ true)
-AreBehind limit started (marked p marker c) = AreRows limit p.rows p.end (marker ++ cut_text c) × ((started || no_rows p.rows) ≡ true) × IsMarkerLine marker (cut_text c) × AreParts (begins_document marker) c
+abbrev AreFollowing : Limit → Bool → Cut → Type 0
+AreFollowing limit started (last p) = AreRows limit p.rows p.end [] × ((started || no_rows p.rows) ≡ true)
+AreFollowing limit started (marked p marker c) = AreRows limit p.rows p.end (marker ++ cut_text c) × ((started || no_rows p.rows) ≡ true) × IsMarkerLine marker (cut_text c) × AreParts (begins_document marker) c
 
-behind_parts : (started : Bool) (c : Cut) → AreBehind unlimited started c → AreParts started c
-behind_parts started c h = search rules
+after_parts : (started : Bool) (c : Cut) → AreFollowing unlimited started c → AreParts started c
+after_parts started c h = search rules
 
 any_first : (rs : List Row) → allows_first unlimited rs ≡ true
 any_first rs = search rules
 
 -- a limit and a document that isn't open only refuse
-unasked : (limit : Limit) (started : Bool) (c : Cut) → AreBehind limit started c → AreParts true c
+unasked : (limit : Limit) (started : Bool) (c : Cut) → AreFollowing limit started c → AreParts true c
 unasked limit started c h = search (rules, relimit, any_first)
 
 abbrev IsCutOf : Asked → List Item → Cut → Type 0
-IsCutOf asked xs c = AreBehind asked.limit asked.started c × (cut_text c ≡ items_text xs [])
+IsCutOf asked xs c = AreFollowing asked.limit asked.started c × (cut_text c ≡ items_text xs [])
 
 cut_of_row : (asked : Asked) (r : Row) (xs : List Item) (c : Cut) → asked.started ≡ true → IsRow asked.limit r (items_text xs []) → IsCutOf (asked_by asked (row_item r)) xs c → IsCutOf asked (row_item r ∷ xs) (row_before r c)
 cut_of_row asked r xs c s h m = search rules
@@ -60,7 +60,7 @@ no_marker marker t h = search rules
 
 cut_of_end : (asked : Asked) (gap marker : List ℕ) (xs : List Item) (c : Cut) → IsGap gap (marker ++ items_text xs []) → IsPartEnd marker xs [] →
     IsCutOf (asked_by asked (end_item gap marker)) xs c → IsCutOf asked (end_item gap marker ∷ xs) (end_before gap marker c)
-cut_of_end asked gap marker xs c g e m = search (rules, behind_parts, or_right, no_marker)
+cut_of_end asked gap marker xs c g e m = search (rules, after_parts, or_right, no_marker)
 
 pub cut_of_items : (xs : List Item) (asked : Asked) → AreRowItems asked xs [] → IsCutOf asked xs (cut_of xs)
 cut_of_items [] asked h = ((no_gap, or_right asked.started true refl), refl)

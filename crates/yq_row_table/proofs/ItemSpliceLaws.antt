@@ -48,8 +48,8 @@ part_new : (i j : ℕ) (rs new : List Row) (new_gap gap marker : List ℕ) (xs :
 part_new i j rs new new_gap gap marker xs = search (rules, rows_joined, gap_later, rows_front, rows_then)
 
 -- a cut
-behind_part : (rs : List Row) (gap marker : List ℕ) (a b : List Item) → rows_items rs (end_item gap marker ∷ (a ++ b)) ≡ rows_items rs (end_item gap marker ∷ a) ++ b
-behind_part rs gap marker a b = rows_then rs (end_item gap marker) (a ++ b) ∙ (sym (append_assoc (rows_items rs (end_item gap marker ∷ [])) a b) ∙ ap (λ l. l ++ b) (sym (rows_then rs (end_item gap marker) a)))
+after_part : (rs : List Row) (gap marker : List ℕ) (a b : List Item) → rows_items rs (end_item gap marker ∷ (a ++ b)) ≡ rows_items rs (end_item gap marker ∷ a) ++ b
+after_part rs gap marker a b = rows_then rs (end_item gap marker) (a ++ b) ∙ (sym (append_assoc (rows_items rs (end_item gap marker ∷ [])) a b) ∙ ap (λ l. l ++ b) (sym (rows_then rs (end_item gap marker) a)))
 
 pub spliced_items : (k i j : ℕ) (new : List Row) (gap : List ℕ) (c : Cut) → i ≤ j → SplicedItems k i j new gap c
 spliced_items k i j new gap (last p) le = record {
@@ -66,6 +66,6 @@ spliced_items (suc k) i j new gap (marked p marker c) le =
     let more = spliced_items k i j new gap c le in
     record {
       back = more.back;
-      old = ap (λ l. rows_items p.rows (end_item p.end marker ∷ l)) more.old ∙ behind_part p.rows p.end marker (items_before k i c) _;
-      new_items = ap (λ l. rows_items p.rows (end_item p.end marker ∷ l)) more.new_items ∙ behind_part p.rows p.end marker (items_before k i c) _;
+      old = ap (λ l. rows_items p.rows (end_item p.end marker ∷ l)) more.old ∙ after_part p.rows p.end marker (items_before k i c) _;
+      new_items = ap (λ l. rows_items p.rows (end_item p.end marker ∷ l)) more.new_items ∙ after_part p.rows p.end marker (items_before k i c) _;
     }

@@ -4,9 +4,9 @@ use Rattle.std.{proofs.Common.{append_assoc, length-append}, proofs.lemmas.Optio
 use Rattle.std.{specs.List.slice_get, proofs.lemmas.List.Elements.{All-get_or, All-nil, All-cons}, proofs.lemmas.Str.IsUtf8-append}
 use Rattle.std.specs.Str.{IsUtf8}
 use Rattle.yq_row_table.{specs.Items.{Item, row_item, end_item, items_text, rows_in_items}, specs.Kept.{near, far, row_from_end, TextsIn}}
-use Rattle.yq_row_table.{specs.Offsets.{Ends, IsCutIn, Stand, slices_in, rows_in, AreTexts, offsets_of}, specs.Rows.{Row, print_row}}
+use Rattle.yq_row_table.{specs.Offsets.{Ends, IsCutIn, AreRowsIn, slices_in, rows_in, AreTexts, offsets_of}, specs.Rows.{Row, print_row}}
 use Rattle.yq_row_table.{specs.View.{Slices, slices, slices_text}, proofs.FrontLaws.{front_drop, front_length}}
-use Rattle.yq_row_table.proofs.OffsetLaws.{row_then, row_stands, row_same, pieces_text, AreAll, pieces, texts}
+use Rattle.yq_row_table.proofs.OffsetLaws.{row_then, row_is_there, row_same, pieces_text, AreAll, pieces, texts}
 use Rattle.yq_row_table.proofs.SliceLaws.{slices_are}
 use Rattle.yq_row_table.specs.declared.offsets.Offsets as declared
 
@@ -50,14 +50,14 @@ kept_row pre r t h u =
     let ends : Ends (print_row r t) whole = front_drop whole pre (print_row r t) refl in
     let spelled : print_row r t ≡ slices_text (slices r) t = sym (slices_are r t) in
     let same = row_same whole (print_row r t) t (slices r) ends spelled h.parent in
-    let stands = row_stands whole (print_row r t) t (slices r) ends (row_texts r t h u) spelled h in (
+    let is_located = row_is_there whole (print_row r t) t (slices r) ends (row_texts r t h u) spelled h in (
       subst (λ (n : ℕ). slices_in whole (offsets_of n (slices r)) ≡ slices r) at same,
-      subst (λ (n : ℕ). IsCutIn whole (offsets_of n (slices r))) at stands,
+      subst (λ (n : ℕ). IsCutIn whole (offsets_of n (slices r))) at is_located,
     )
 
 -- Rows by their distance from the beginning: whatever comes after them.
 abbrev pub KeptRows : List ℕ → List declared.Offsets → List Slices → Type 0
-KeptRows whole os ss = (rows_in whole os ≡ ss) × Stand whole os
+KeptRows whole os ss = (rows_in whole os ≡ ss) × AreRowsIn whole os
 
 pub near_kept : (xs : List Item) (pre rest : List ℕ) → TextsIn xs → IsUtf8 rest → KeptRows (pre ++ items_text xs rest) (near (length pre) xs) (rows_in_items xs)
 near_kept [] pre rest h u = (refl, All-nil (IsCutIn (pre ++ rest)))
@@ -103,5 +103,5 @@ texts_joined (row_item r ∷ xs) ys h k = (h.0, texts_joined xs ys h.1 k)
 texts_joined (end_item gap marker ∷ xs) ys h k = (h.0, h.1, texts_joined xs ys h.2 k)
 
 -- The row at an index.
-pub stands_at : (t : List ℕ) (os : List declared.Offsets) (i : ℕ) (o : declared.Offsets) → Stand t os → slice_get os i ≡ Some o → IsCutIn t o
-stands_at t os i o h e = subst (IsCutIn t) (get_or_from_slice_get os i o o e) (All-get_or (IsCutIn t) os i o (slice_get_within os i o e) h)
+pub is_located_at : (t : List ℕ) (os : List declared.Offsets) (i : ℕ) (o : declared.Offsets) → AreRowsIn t os → slice_get os i ≡ Some o → IsCutIn t o
+is_located_at t os i o h e = subst (IsCutIn t) (get_or_from_slice_get os i o o e) (All-get_or (IsCutIn t) os i o (slice_get_within os i o e) h)

@@ -6,21 +6,21 @@ use Rattle.std.proofs.lemmas.List.Elements.{All-get_or, All-nil}
 use Rattle.std.{proofs.lemmas.Option.{get_or_from_slice_get, same_Some, slice_get-map, slice_get_within}, specs.List.All}
 use Rattle.std.{specs.Option.option_map, specs.Str.IsCharBoundary}
 use Rattle.yq_text.{specs.Halves.whole, specs.declared.halves.Halves.Halves}
-use Rattle.yq_row_table.{specs.Ends.{EndStands, bound_at, bound_in_half}, specs.Items.{Item, row_item, end_item, items_text}}
-use Rattle.yq_row_table.specs.Kept.{HavePlaces, far, kept_rows, near, placed_rows, halves_view, slices_behind, row_from_end}
+use Rattle.yq_row_table.{specs.Ends.{EndIsLocated, bound_at, bound_in_half}, specs.Items.{Item, row_item, end_item, items_text}}
+use Rattle.yq_row_table.specs.Kept.{HavePlaces, far, kept_rows, near, placed_rows, halves_view, slices_after, row_from_end}
 use Rattle.yq_row_table.{specs.Offsets.{AreCuts, IsCutIn, offsets_of, slices_in}, specs.RowStarts.row_start, specs.View.{RowsView, Slices}}
 use Rattle.yq_row_table.{specs.declared.ends.EndPlace.EndPlace, specs.declared.places.Places.Places}
 use Rattle.yq_row_table.{proofs.HalfLaws.{InHalf, back_rows, front_rows, half_ends, have_view}, proofs.ItemLaws.items_text-append}
-use Rattle.yq_row_table.{proofs.KeptLaws.{far_near, items_apart, near_joined, stands_at}, proofs.NearLaws.{row_near, some_row}}
+use Rattle.yq_row_table.{proofs.KeptLaws.{far_near, items_apart, near_joined, is_located_at}, proofs.NearLaws.{row_near, some_row}}
 use Rattle.yq_row_table.proofs.SliceLaws.{print-length}
 use Rattle.yq_row_table.specs.declared.offsets.Offsets as declared
 
 -- the places of all rows in the whole text
-placed_near : (text : Halves) (p : Places) → (h : HavePlaces text p) → placed_rows (length (whole text)) p ≡ near 0 (h.before ++ h.behind)
+placed_near : (text : Halves) (p : Places) → (h : HavePlaces text p) → placed_rows (length (whole text)) p ≡ near 0 (h.before ++ h.after)
 placed_near text p h =
     let front = text.front.now in
-    let last : map (row_from_end (length (whole text))) (reverse p.behind.items) ≡ near (length front) h.behind =
-    ap (map (row_from_end (length (whole text)))) h.placed.behind_are ∙ far_near h.behind front (whole text) (ap (λ l. front ++ l) h.back_is) in
+    let last : map (row_from_end (length (whole text))) (reverse p.after.items) ≡ near (length front) h.after =
+    ap (map (row_from_end (length (whole text)))) h.placed.after_are ∙ far_near h.after front (whole text) (ap (λ l. front ++ l) h.back_is) in
     search (rules, near_joined)
 
 -- the row at an index, by its side
@@ -47,25 +47,25 @@ sides_out (x ∷ xs) ys (suc i) a e more = sides_out xs ys i a e (omega (arith, 
 -- the place of a row
 row_place : (text : Halves) (p : Places) (i : ℕ) (q : declared.Offsets) (s : Slices) → HavePlaces text p →
     slice_get (halves_view text p).rows i ≡ Some s →
-    slice_get (map (λ x. x) p.front.items ++ map (row_from_end (length (whole text))) (reverse p.behind.items)) i ≡ Some q →
+    slice_get (map (λ x. x) p.front.items ++ map (row_from_end (length (whole text))) (reverse p.after.items)) i ≡ Some q →
     q ≡ offsets_of (row_start i (halves_view text p)) s
 row_place text p i q s h there own =
     let n = length (whole text) in
     let same = have_view text p h in
     let near_is : slice_get (placed_rows n p) i ≡ Some (offsets_of (row_start i (halves_view text p)) s) =
     ap (λ (l : List declared.Offsets). slice_get l i) (placed_near text p h)
-    ∙ (row_near (h.before ++ h.behind) i s (sym (ap (λ (v : RowsView). slice_get v.rows i) same) ∙ there) ∙ ap (λ (v : RowsView). Some (offsets_of (row_start i v) s)) (sym same)) in
+    ∙ (row_near (h.before ++ h.after) i s (sym (ap (λ (v : RowsView). slice_get v.rows i) same) ∙ there) ∙ ap (λ (v : RowsView). Some (offsets_of (row_start i v) s)) (sym same)) in
     search (rules, map-id, same_Some)
 
 place_front : (text : Halves) (p : Places) (i : ℕ) (o : declared.Offsets) (s : Slices) → HavePlaces text p →
     slice_get (halves_view text p).rows i ≡ Some s → slice_get (kept_rows p) i ≡ Some o → i < length p.front.items →
     o ≡ offsets_of (row_start i (halves_view text p)) s
-place_front text p i o s h there kept less = row_place text p i o s h there (at_front (λ x. x) (row_from_end (length (whole text))) p.front.items (reverse p.behind.items) i o kept less)
+place_front text p i o s h there kept less = row_place text p i o s h there (at_front (λ x. x) (row_from_end (length (whole text))) p.front.items (reverse p.after.items) i o kept less)
 
 place_back : (text : Halves) (p : Places) (i : ℕ) (o : declared.Offsets) (s : Slices) → HavePlaces text p →
     slice_get (halves_view text p).rows i ≡ Some s → slice_get (kept_rows p) i ≡ Some o → length p.front.items ≤ i →
     row_from_end (length (whole text)) o ≡ offsets_of (row_start i (halves_view text p)) s
-place_back text p i o s h there kept more = row_place text p i (row_from_end (length (whole text)) o) s h there (at_back (λ x. x) (row_from_end (length (whole text))) p.front.items (reverse p.behind.items) i o kept more)
+place_back text p i o s h there kept more = row_place text p i (row_from_end (length (whole text)) o) s h there (at_back (λ x. x) (row_from_end (length (whole text))) p.front.items (reverse p.after.items) i o kept more)
 
 pub kept_lengths : (text : Halves) (p : Places) (i : ℕ) (o : declared.Offsets) (s : Slices) → HavePlaces text p → slice_get (halves_view text p).rows i ≡ Some s → slice_get (kept_rows p) i ≡ Some o → o ≡ offsets_of o.start s
 kept_lengths text p i o s h there kept =
@@ -84,13 +84,13 @@ start_back text p i o h within kept more = let s = some_row (halves_view text p)
 
 -- what is in each half
 pub front_found : (text : Halves) (p : Places) (i : ℕ) (o : declared.Offsets) → HavePlaces text p → slice_get (kept_rows p) i ≡ Some o → i < length p.front.items → IsCutIn text.front.now o
-front_found text p i o h kept less = stands_at text.front.now p.front.items i o (front_rows text p h).1 (sides_in p.front.items (reverse p.behind.items) i o kept less)
+front_found text p i o h kept less = is_located_at text.front.now p.front.items i o (front_rows text p h).1 (sides_in p.front.items (reverse p.after.items) i o kept less)
 
 pub back_found : (text : Halves) (p : Places) (i : ℕ) (o : declared.Offsets) → HavePlaces text p → slice_get (kept_rows p) i ≡ Some o → length p.front.items ≤ i → IsCutIn text.back.now (row_from_end (length text.back.now) o)
 back_found text p i o h kept more =
     let n = length text.back.now in
-    let at = sides_out p.front.items (reverse p.behind.items) i o kept more in
-    stands_at text.back.now (map (row_from_end n) (reverse p.behind.items)) at.0 (row_from_end n o) (back_rows text p h).1 (slice_get-map (row_from_end n) (reverse p.behind.items) at.0 ∙ ap (option_map (row_from_end n)) at.1)
+    let at = sides_out p.front.items (reverse p.after.items) i o kept more in
+    is_located_at text.back.now (map (row_from_end n) (reverse p.after.items)) at.0 (row_from_end n o) (back_rows text p h).1 (slice_get-map (row_from_end n) (reverse p.after.items) at.0 ∙ ap (option_map (row_from_end n)) at.1)
 
 far_within : (xs : List Item) (n : ℕ) → length (items_text xs []) ≤ n → All (λ o. o.start ≤ n) (far xs)
 far_within [] n le = All-nil (λ o. o.start ≤ n)
@@ -99,16 +99,16 @@ far_within (end_item gap marker ∷ xs) n le = far_within xs n (omega (arith, le
 
 pub back_within : (text : Halves) (p : Places) (i : ℕ) (o : declared.Offsets) → HavePlaces text p → slice_get (kept_rows p) i ≡ Some o → length p.front.items ≤ i → o.start ≤ length text.back.now
 back_within text p i o h kept more =
-    let at = sides_out p.front.items (reverse p.behind.items) i o kept more in
+    let at = sides_out p.front.items (reverse p.after.items) i o kept more in
     let n = length text.back.now in
-    let all : All (λ o. o.start ≤ n) (reverse p.behind.items) = subst (All (λ o. o.start ≤ n)) (sym h.placed.behind_are) (far_within h.behind n (omega (arith, ap length h.back_is))) in
+    let all : All (λ o. o.start ≤ n) (reverse p.after.items) = subst (All (λ o. o.start ≤ n)) (sym h.placed.after_are) (far_within h.after n (omega (arith, ap length h.back_is))) in
     search (rules, get_or_from_slice_get, slice_get_within)
 
 pub row_front : (text : Halves) (p : Places) (i : ℕ) (o : declared.Offsets) → slice_get (kept_rows p) i ≡ Some o → i < length p.front.items → slice_get (halves_view text p).rows i ≡ Some (slices_in text.front.now o)
-row_front text p i o kept less = at_front (slices_in text.front.now) (slices_behind text.back.now) p.front.items (reverse p.behind.items) i o kept less
+row_front text p i o kept less = at_front (slices_in text.front.now) (slices_after text.back.now) p.front.items (reverse p.after.items) i o kept less
 
-pub row_back : (text : Halves) (p : Places) (i : ℕ) (o : declared.Offsets) → slice_get (kept_rows p) i ≡ Some o → length p.front.items ≤ i → slice_get (halves_view text p).rows i ≡ Some (slices_behind text.back.now o)
-row_back text p i o kept more = at_back (slices_in text.front.now) (slices_behind text.back.now) p.front.items (reverse p.behind.items) i o kept more
+pub row_back : (text : Halves) (p : Places) (i : ℕ) (o : declared.Offsets) → slice_get (kept_rows p) i ≡ Some o → length p.front.items ≤ i → slice_get (halves_view text p).rows i ≡ Some (slices_after text.back.now o)
+row_back text p i o kept more = at_back (slices_in text.front.now) (slices_after text.back.now) p.front.items (reverse p.after.items) i o kept more
 
 -- the end of a part at an index
 pub end_at_index : (text : Halves) (p : Places) (i : ℕ) (e : EndPlace) → HavePlaces text p → slice_get p.ends i ≡ Some e → InHalf text e × (slice_get (halves_view text p).bounds i ≡ Some (bound_in_half text e))
@@ -121,8 +121,8 @@ end_at_index text p i e h at = (
 pub end_within : (text : Halves) (p : Places) (i : ℕ) (v : RowsView) → halves_view text p ≡ v → i < length v.bounds → i < length p.ends
 end_within text p i v is less = omega (arith, less, ap (λ (w : RowsView). length w.bounds) is, length-map p.ends (bound_in_half text))
 
-pub end_cuts : (t : List ℕ) (e : EndPlace) → EndStands t e → IsCharBoundary t e.start × AreCuts (drop e.start t) (e.gap ∷ e.marker ∷ [])
-unfolding EndStands
+pub end_cuts : (t : List ℕ) (e : EndPlace) → EndIsLocated t e → IsCharBoundary t e.start × AreCuts (drop e.start t) (e.gap ∷ e.marker ∷ [])
+unfolding EndIsLocated
 end_cuts t e h = h
 
 pub from_front : (text : Halves) (e : EndPlace) → e.start < length text.front.now → bound_in_half text e ≡ bound_at (drop e.start text.front.now) e

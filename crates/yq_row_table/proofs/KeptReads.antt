@@ -29,38 +29,38 @@ second_at (x ∷ xs) ys (suc i) j a e at = second_at xs ys i j a (omega (arith, 
 
 -- a row that is kept in front of the split
 pub front_kept : (p : Places) (i : ℕ) (a : declared.Offsets) → i < vec_len p.front → a ≡ get_or p.front.items i a → slice_get (kept_rows p) i ≡ Some a
-front_kept p i a less is = first_at p.front.items (reverse p.behind.items) i a (omega (arith, less, p.front.ok.0)) is
+front_kept p i a less is = first_at p.front.items (reverse p.after.items) i a (omega (arith, less, p.front.ok.0)) is
 
 pub front_placed : (p : Places) (len i : ℕ) (a : declared.Offsets) → i < vec_len p.front → a ≡ get_or p.front.items i a
     → slice_get (placed_rows len p) i ≡ Some a
-front_placed p len i a less is = first_at p.front.items (map (row_from_end len) (reverse p.behind.items)) i a (omega (arith, less, p.front.ok.0)) is
+front_placed p len i a less is = first_at p.front.items (map (row_from_end len) (reverse p.after.items)) i a (omega (arith, less, p.front.ok.0)) is
 
 -- An index after the split among so many rows, of which so many are in front of it: it is one of those after, counted from the last one.
-pub record IsBehind (p : Places) (i n m : ℕ) : Type 0 where
+pub record IsAfter (p : Places) (i n m : ℕ) : Type 0 where
   pub some : 1 ≤ n
   pub place : i - m ≤ n - 1
-  pub within : (n - 1) - (i - m) < vec_len p.behind
-  pub kept : (a : declared.Offsets) → a ≡ get_or p.behind.items ((n - 1) - (i - m)) a → slice_get (kept_rows p) i ≡ Some a
-  pub placed : (len : ℕ) (a : declared.Offsets) → a ≡ get_or p.behind.items ((n - 1) - (i - m)) a → slice_get (placed_rows len p) i ≡ Some (row_from_end len a)
+  pub within : (n - 1) - (i - m) < vec_len p.after
+  pub kept : (a : declared.Offsets) → a ≡ get_or p.after.items ((n - 1) - (i - m)) a → slice_get (kept_rows p) i ≡ Some a
+  pub placed : (len : ℕ) (a : declared.Offsets) → a ≡ get_or p.after.items ((n - 1) - (i - m)) a → slice_get (placed_rows len p) i ≡ Some (row_from_end len a)
 
-pub is_behind : (p : Places) (i n m : ℕ) → i < length (kept_rows p) → vec_len p.front ≤ i → n ≡ vec_len p.behind → m ≡ vec_len p.front → IsBehind p i n m
-is_behind p i n m less more n_is m_is =
+pub comes_later : (p : Places) (i n m : ℕ) → i < length (kept_rows p) → vec_len p.front ≤ i → n ≡ vec_len p.after → m ≡ vec_len p.front → IsAfter p i n m
+comes_later p i n m less more n_is m_is =
     let front = p.front.ok.0 in
-    let behind = p.behind.ok.0 in
-    let all = length-append p.front.items (reverse p.behind.items) in
-    let turns = length-reverse p.behind.items in
+    let after = p.after.ok.0 in
+    let all = length-append p.front.items (reverse p.after.items) in
+    let turns = length-reverse p.after.items in
     let j = i - m in
-    let here : j < length p.behind.items = omega (arith, less, more, n_is, m_is, front, behind, all, turns) in
-    let back : length p.behind.items - 1 - j ≡ (n - 1) - j = omega (arith, n_is, behind) in
-    let at = λ (a : declared.Offsets) (is : a ≡ get_or p.behind.items ((n - 1) - j) a).
-    slice_get_read (reverse p.behind.items) (length (reverse p.behind.items)) j a refl (omega (arith, here, turns))
-    (is ∙ sym (get_or-reverse p.behind.items j a here ∙ ap (λ (k : ℕ). get_or p.behind.items k a) back)) in
+    let here : j < length p.after.items = omega (arith, less, more, n_is, m_is, front, after, all, turns) in
+    let back : length p.after.items - 1 - j ≡ (n - 1) - j = omega (arith, n_is, after) in
+    let at = λ (a : declared.Offsets) (is : a ≡ get_or p.after.items ((n - 1) - j) a).
+    slice_get_read (reverse p.after.items) (length (reverse p.after.items)) j a refl (omega (arith, here, turns))
+    (is ∙ sym (get_or-reverse p.after.items j a here ∙ ap (λ (k : ℕ). get_or p.after.items k a) back)) in
     let place : i ≡ length p.front.items + j = omega (arith, more, m_is, front) in
     record {
-      some = omega (arith, here, n_is, behind);
-      place = omega (arith, here, n_is, behind);
-      within = omega (arith, here, n_is, behind);
-      kept = λ a is. second_at p.front.items (reverse p.behind.items) i j a place (at a is);
-      placed = λ len a is. second_at p.front.items (map (row_from_end len) (reverse p.behind.items)) i j (row_from_end len a) place
-          (slice_get-map (row_from_end len) (reverse p.behind.items) j ∙ ap (option_map (row_from_end len)) (at a is));
+      some = omega (arith, here, n_is, after);
+      place = omega (arith, here, n_is, after);
+      within = omega (arith, here, n_is, after);
+      kept = λ a is. second_at p.front.items (reverse p.after.items) i j a place (at a is);
+      placed = λ len a is. second_at p.front.items (map (row_from_end len) (reverse p.after.items)) i j (row_from_end len a) place
+          (slice_get-map (row_from_end len) (reverse p.after.items) j ∙ ap (option_map (row_from_end len)) (at a is));
     }

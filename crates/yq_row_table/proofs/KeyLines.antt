@@ -29,17 +29,17 @@ white_line [] h = refl
 white_line (b ∷ w) h = rw (at_byte is_white b 10 h.0 refl, white_line w h.1) refl
 
 -- what is on the line in front of a `:`
-abbrev in_front : ℕ → Bool
-in_front b = not (eqb b 58) && not (eqb b 10)
+abbrev before_offset : ℕ → Bool
+before_offset b = not (eqb b 58) && not (eqb b 10)
 
 one_further : (b : ℕ) (t : List ℕ) (n : ℕ) → begins_with 58 (drop (1 + n) (b ∷ t)) ≡ begins_with 58 (drop n t)
 one_further b t n = ap (λ (k : ℕ). begins_with 58 (drop k (b ∷ t))) (let one : 1 + n ≡ suc n = omega arith in one)
 
-colon_behind : (p t : List ℕ) → holds_break p ≡ false → holds_colon t ≡ true → holds_colon (p ++ t) ≡ true
-colon_behind [] t h is = is
-colon_behind (b ∷ p) t h is = elim (cases_Bool (eqb b 58)) [
+colon_after : (p t : List ℕ) → holds_break p ≡ false → holds_colon t ≡ true → holds_colon (p ++ t) ≡ true
+colon_after [] t h is = is
+colon_after (b ∷ p) t h is = elim (cases_Bool (eqb b 58)) [
   | inl e ↦ rw e (rw e refl)
-  | inr e ↦ (let parts = or_parts (is_feed b) (holds_break p) h in rw (e, parts.0) (one_further b (p ++ t) (prefix_len in_front (p ++ t)) ∙ colon_behind p t parts.1 is))
+  | inr e ↦ (let parts = or_parts (is_feed b) (holds_break p) h in rw (e, parts.0) (one_further b (p ++ t) (prefix_len before_offset (p ++ t)) ∙ colon_after p t parts.1 is))
 ]
 
 key_colon : (t : List ℕ) (k : List ℕ × List ℕ × List ℕ) → read_row_key t ≡ Some k → holds_colon t ≡ true
@@ -48,7 +48,7 @@ key_colon t k h =
     let colon = x.1.colon_is in
     let spelled : k.1 ++ k.2 ≡ colon.white ++ (58 ∷ k.2) = ap (λ (l : List ℕ). l ++ k.2) colon.spelled ∙ append_assoc colon.white (58 ∷ []) k.2 in
     let whole : t ≡ k.0 ++ (colon.white ++ (58 ∷ k.2)) = x.0 ∙ ap (λ (l : List ℕ). k.0 ++ l) spelled in
-    rw whole (colon_behind k.0 (colon.white ++ (58 ∷ k.2)) (key_line k.0 (k.1 ++ k.2) x.1.scalar) (colon_behind colon.white (58 ∷ k.2) (white_line colon.white colon.blank) refl))
+    rw whole (colon_after k.0 (colon.white ++ (58 ∷ k.2)) (key_line k.0 (k.1 ++ k.2) x.1.scalar) (colon_after colon.white (58 ∷ k.2) (white_line colon.white colon.blank) refl))
 
 pub no_key_line : (t : List ℕ) → holds_colon t ≡ false → read_row_key t ≡ None
 no_key_line t h = search (rules, false≢true, key_colon)

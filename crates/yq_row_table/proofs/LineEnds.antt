@@ -117,9 +117,9 @@ line_end_takes w u blank h =
 pub one_feed : (b : ℕ) → (is_feed b || (is_return b && false)) ≡ true → is_feed b ≡ true
 one_feed b h = ⊎_elim {0, 0, 0} (λ e. e) (λ e. absurd (false≢true (sym (and-false (is_return b)) ∙ e))) (or_cases (is_feed b) (is_return b && false) h)
 
-pub behind_comment : (c break rest : List ℕ) → IsComment c break → IsBreak break rest → (no_white (c ++ (break ++ rest)) ≡ true)
+pub after_comment : (c break rest : List ℕ) → IsComment c break → IsBreak break rest → (no_white (c ++ (break ++ rest)) ≡ true)
     × ((ends_line (c ++ (break ++ rest)) || is_hash (c ++ (break ++ rest))) ≡ true) × (ends_line (c ++ (break ++ rest)) ≡ is_empty c)
-behind_comment c break rest h e = search (rules, ⊎_elim, false≢true, one_feed, and_parts, feed_is, eqb-true, or_cases)
+after_comment c break rest h e = search (rules, ⊎_elim, false≢true, one_feed, and_parts, feed_is, eqb-true, or_cases)
 
 pub comment_none : (c break : List ℕ) → IsComment c break → NoneIn ends_line c break
 comment_none c break h = search rules
@@ -128,8 +128,8 @@ pub line_end_line : (w c p rest : List ℕ) → IsLineEnd w c p rest → IsLine 
 line_end_line w c p rest h = record { text = w ++ c; break = h.break; spelled = h.spelled ∙ sym (append_assoc w c h.break); inside = white_none w c h.break h.blank (comment_none c h.break h.as_comment); ends = h.ends }
 
 -- what comes after the white space of such an end
-pub line_end_behind : (w c p rest : List ℕ) → IsLineEnd w c p rest → (u : List ℕ) × (p ++ rest ≡ w ++ u) × (no_white u ≡ true) × ((ends_line u || is_hash u) ≡ true) × (ends_line u ≡ is_empty c)
-line_end_behind w c p rest h =
+pub following_line_end : (w c p rest : List ℕ) → IsLineEnd w c p rest → (u : List ℕ) × (p ++ rest ≡ w ++ u) × (no_white u ≡ true) × ((ends_line u || is_hash u) ≡ true) × (ends_line u ≡ is_empty c)
+following_line_end w c p rest h =
     let regroup : p ++ rest ≡ w ++ (c ++ (h.break ++ rest)) = rw h.spelled (simp append_assoc) in
-    let parts = behind_comment c h.break rest h.as_comment h.ends in
+    let parts = after_comment c h.break rest h.as_comment h.ends in
     (c ++ (h.break ++ rest), regroup, parts.0, parts.1, parts.2)

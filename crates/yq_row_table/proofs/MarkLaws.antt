@@ -21,8 +21,8 @@ pub spaces_again : (n : ℕ) (rest : List ℕ) → no_space rest ≡ true → cu
 spaces_again n rest h = cut-append no_space (replicate n 32) rest (none_in_spaces n rest) h
 
 -- how many dashes are allowed makes no difference
-behind_spaces : (t : List ℕ) → length (cut no_space t).1 ≤ length t
-behind_spaces t = omega (arith, length-drop (upto no_space t) t)
+without_spaces : (t : List ℕ) → length (cut no_space t).1 ≤ length t
+without_spaces t = omega (arith, length-drop (upto no_space t) t)
 
 dashes_fuel : (n m : ℕ) (t : List ℕ) → length t ≤ n → length t ≤ m → dashes_at n t ≡ dashes_at m t
 unfolding dashes_at
@@ -34,14 +34,14 @@ dashes_fuel (suc n) zero (x ∷ t) a b = absurd (omega arith)
 dashes_fuel (suc n) (suc m) [] a b = refl
 dashes_fuel (suc n) (suc m) (x ∷ t) a b =
     let s = cut no_space t in
-    let less = behind_spaces t in
+    let less = without_spaces t in
     search (rules, dashes_fuel n m s.1 (omega arith) (omega arith))
 
 -- one more dash
 pub marks_more : (t : List ℕ) → is_dash t ≡ true → (not (is_empty (cut no_space (drop 1 t)).0) && begins_entry (cut no_space (drop 1 t)).1) ≡ true →
     read_marks t ≡ with_dash (length (cut no_space (drop 1 t)).0) (read_marks (cut no_space (drop 1 t)).1)
 unfolding dashes_at
-marks_more t h1 h2 = search (rules, false≢true, behind_spaces, dashes_fuel)
+marks_more t h1 h2 = search (rules, false≢true, without_spaces, dashes_fuel)
 
 -- the last one
 pub marks_dash : (t : List ℕ) → is_dash t ≡ true → (not (is_empty (cut no_space (drop 1 t)).0) && begins_entry (cut no_space (drop 1 t)).1) ≡ false → read_marks t ≡ ([], Dash, drop 1 t)
@@ -80,7 +80,7 @@ entry_read (suc n) [] short h = entry_mark [] (read_row_key []) h
 entry_read (suc n) (b ∷ t) short h =
     let u : List ℕ = b ∷ t in
     let s = cut no_space t in
-    let less = behind_spaces t in
+    let less = without_spaces t in
     cond_both (is_dash u) (cond (not (is_empty s.0) && begins_entry s.1) (with_dash (length s.0) (dashes_at n s.1)) ([], Dash, t)) (undashed (mark_at u)) (λ m. is_entry m.1 ≡ true)
     (λ _. cond_both (not (is_empty s.0) && begins_entry s.1) (with_dash (length s.0) (dashes_at n s.1)) ([], Dash, t) (λ m. is_entry m.1 ≡ true)
     (λ e. entry_read n s.1 (omega arith) (and_parts (not (is_empty s.0)) (begins_entry s.1) e).1)
@@ -100,7 +100,7 @@ dashes_take (suc n) [] short = mark_takes_at [] (read_row_key []) refl
 dashes_take (suc n) (b ∷ t) short =
     let u : List ℕ = b ∷ t in
     let s = cut no_space t in
-    let less = behind_spaces t in
+    let less = without_spaces t in
     cond_both (is_dash u) (cond (not (is_empty s.0) && begins_entry s.1) (with_dash (length s.0) (dashes_at n s.1)) ([], Dash, t)) (undashed (mark_at u)) (MarksCut u)
     (λ d. cond_both (not (is_empty s.0) && begins_entry s.1) (with_dash (length s.0) (dashes_at n s.1)) ([], Dash, t) (MarksCut u)
     (λ e. let parts = and_parts (not (is_empty s.0)) (begins_entry s.1) e in

@@ -27,8 +27,8 @@ line_ends [] n e less = absurd (omega arith)
 line_ends (b ∷ t) zero e less = ⊎_elim {0, 0, 0} (λ y. y) (λ y. absurd (let more = line_len_some t (omega arith) in omega (arith, more, rw y at e))) (cases_Bool (is_feed b))
 line_ends (b ∷ t) (suc n) e less = ⊎_elim {0, 0, 0} (λ y. absurd (omega (arith, rw y at e))) (λ y. line_ends t n (omega (arith, rw y at e)) (omega arith)) (cases_Bool (is_feed b))
 
-begins_behind : (t : List ℕ) (n k m : ℕ) → m ≡ suc k → front is_feed (drop k (drop n t)) ≡ true → begins_line t (n + m) ≡ true
-begins_behind t n k m e h = search (rules, drop-drop)
+begins_after : (t : List ℕ) (n k m : ℕ) → m ≡ suc k → front is_feed (drop k (drop n t)) ≡ true → begins_line t (n + m) ≡ true
+begins_after t n k m e h = search (rules, drop-drop)
 
 pub next_begins : (t : List ℕ) (n : ℕ) → n < length t → n + length (line_at t n) < length t → begins_line t (n + length (line_at t n)) ≡ true
 next_begins t n less inside =
@@ -38,7 +38,7 @@ next_begins t n less inside =
     let within = line_len_within rest in
     let size : length (line_at t n) ≡ line_len rest = length-take (line_len rest) rest ∙ omega (arith, within) in
     let ends : front is_feed (drop (line_len rest - 1) rest) ≡ true = line_ends rest (line_len rest - 1) (omega (arith, some)) (omega (arith, some, size, long, inside)) in
-    begins_behind t n (line_len rest - 1) (length (line_at t n)) (omega (arith, some, size)) ends
+    begins_after t n (line_len rest - 1) (length (line_at t n)) (omega (arith, some, size)) ends
 
 -- the count
 pub counted_within : (k n : ℕ) → count_after k n ≤ n + k

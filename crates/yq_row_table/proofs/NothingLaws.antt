@@ -4,11 +4,11 @@ use Rattle.std.{proofs.Common.rules, proofs.lemmas.Bool.{false≢true, false_fro
 use Rattle.yq_core.specs.Text.{is_empty, unless, ends_line, separates, NoneIn}
 use Rattle.yq_core.specs.Nodes.{begins_with, begins_content, begins_node, IsLead}
 use Rattle.yq_row_table.{specs.Gap.{IsWhite, IsBreak, IsLineEnd, AreGapLines, IsGap}, specs.Grammar.IsTail}
-use Rattle.yq_row_table.{proofs.Fronts.{node_starts, stops_by}, proofs.LineEnds.{none_in_white, line_end_behind}}
+use Rattle.yq_row_table.{proofs.Fronts.{node_starts, stops_by}, proofs.LineEnds.{none_in_white, following_line_end}}
 
-pub some_behind : (p t : List ℕ) → is_empty t ≡ false → is_empty (p ++ t) ≡ false
-some_behind [] t some = some
-some_behind (b ∷ p) t some = refl
+pub some_after : (p t : List ℕ) → is_empty t ≡ false → is_empty (p ++ t) ≡ false
+some_after [] t some = some
+some_after (b ∷ p) t some = refl
 
 -- ends of lines
 break_other : (p t u : List ℕ) → is_empty t ≡ false → IsBreak p t → IsBreak p u
@@ -19,7 +19,7 @@ line_end_other white comment p t u some h = record { break = h.break; spelled = 
 
 lines_other : (lines : List (List ℕ)) (t u : List ℕ) → is_empty t ≡ false → AreGapLines lines t → AreGapLines lines u
 lines_other [] t u some h = tt
-lines_other (l ∷ ls) t u some h = search (rules, line_end_other, some_behind, lines_other ls t u some h.1)
+lines_other (l ∷ ls) t u some h = search (rules, line_end_other, some_after, lines_other ls t u some h.1)
 
 pub gap_other : (p t u : List ℕ) → is_empty t ≡ false → IsGap p t → IsGap p u
 gap_other p t u some h = record { lines = h.lines; spelled = h.spelled; each = lines_other h.lines t u some h.each }
@@ -32,13 +32,13 @@ pub no_tail : (t : List ℕ) → is_empty t ≡ false → IsTail [] t → ⊥
 no_tail t some h = search (rules, no_break, length-append)
 
 -- no node begins in front of a tail
-white_no_node : (white behind : List ℕ) → IsWhite white → begins_node false behind ≡ false → begins_node false (white ++ behind) ≡ false
-white_no_node [] behind blank none = none
-white_no_node (b ∷ white) behind blank none = search (rules, false_from_ne_true, false≢true, node_starts)
+white_no_node : (white after : List ℕ) → IsWhite white → begins_node false after ≡ false → begins_node false (white ++ after) ≡ false
+white_no_node [] after blank none = none
+white_no_node (b ∷ white) after blank none = search (rules, false_from_ne_true, false≢true, node_starts)
 
 pub tail_no_node : (tail rest : List ℕ) → IsTail tail rest → begins_node false (tail ++ rest) ≡ false
 tail_no_node tail rest h =
-    let f = line_end_behind h.white h.comment tail rest h.line in
+    let f = following_line_end h.white h.comment tail rest h.line in
     ap (begins_node false) f.1 ∙ white_no_node h.white f.0 h.line.blank (stops_by f.0 f.3).no_node
 
 -- an anchor before a tail
@@ -48,7 +48,7 @@ name_again q (b ∷ p) t u h = (h.0, name_again q p t u h.1)
 
 pub tail_lead : (tail rest : List ℕ) → IsTail tail rest → IsLead false (begins_content false) [] (tail ++ rest)
 tail_lead tail rest h =
-    let f = line_end_behind h.white h.comment tail rest h.line in
+    let f = following_line_end h.white h.comment tail rest h.line in
     let none = or_parts (begins_with 38 f.0) _ (stops_by f.0 f.3).no_node in
     inr (refl, (h.white, f.0, f.1, (none_in_white h.white f.0 h.line.blank, f.2), none.1))
 
@@ -57,4 +57,4 @@ line_apart : (t : List ℕ) → ends_line t ≡ true → separates t ≡ true
 line_apart t h = search (rules, or_right)
 
 pub tail_apart : (tail rest : List ℕ) → IsTail tail rest → separates (tail ++ rest) ≡ true
-tail_apart tail rest h = search (rules, line_end_behind, line_apart, false≢true)
+tail_apart tail rest h = search (rules, following_line_end, line_apart, false≢true)

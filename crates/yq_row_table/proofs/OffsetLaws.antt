@@ -37,10 +37,10 @@ pub cuts : (ps : List (List ℕ)) (t rest : List ℕ) → t ≡ pieces_text ps r
 cuts [] t rest e whole each = tt
 cuts (p ∷ ps) t rest e whole each =
     let front : take (length p) t ≡ p = ap (take (length p)) e ∙ take_at p (pieces_text ps rest) (length p) refl in
-    let behind : drop (length p) t ≡ pieces_text ps rest = ap (drop (length p)) e ∙ drop-append_seam p (pieces_text ps rest) in
+    let after : drop (length p) t ≡ pieces_text ps rest = ap (drop (length p)) e ∙ drop-append_seam p (pieces_text ps rest) in
     let long = ap length e in
     let place : IsCharBoundary t (length p) = IsCharBoundary-from_take t (length p) whole (omega (arith, long, length-append p (pieces_text ps rest))) (subst IsUtf8 (sym front) each.0) in
-    (place, cuts ps (drop (length p) t) rest behind (IsUtf8-drop t (length p) whole place) each.1)
+    (place, cuts ps (drop (length p) t) rest after (IsUtf8-drop t (length p) whole place) each.1)
 
 pub spaces_ascii : (n : ℕ) → IsAscii (replicate n 32)
 spaces_ascii zero = IsAscii-nil
@@ -53,8 +53,8 @@ pub texts : (s : Slices) → AreTexts s → AreAll (pieces s)
 texts s h = (h.gap, (spaces_text s.column, (h.dashes, (h.key, (h.colon, (h.space, (h.anchor, (h.apart, (h.head, (h.tail, (h.raw, tt)))))))))))
 
 -- where a row is that was read in front of the end of a text
-pub row_stands : (whole t rest : List ℕ) (s : Slices) → Ends t whole → IsUtf8 t → t ≡ slices_text s rest → AreTexts s → IsCutIn whole (offsets_of (length whole - length t) s)
-row_stands whole t rest s h text e each =
+pub row_is_there : (whole t rest : List ℕ) (s : Slices) → Ends t whole → IsUtf8 t → t ≡ slices_text s rest → AreTexts s → IsCutIn whole (offsets_of (length whole - length t) s)
+row_is_there whole t rest s h text e each =
     let start = length whole - length t in
     let split : whole ≡ take start whole ++ t = sym (take-append-drop start whole) ∙ ap (λ l. take start whole ++ l) h in (
       front_boundary whole (take start whole) t split text,

@@ -4,10 +4,10 @@ use Rattle.std.{proofs.lemmas.Bool.false≢true, proofs.lemmas.List.length-repli
 use Rattle.yq_core.proofs.Bools.{bind_some}
 use Rattle.yq_row_table.{specs.Grammar.{AreDashes, IsMark, Limit}, specs.Slicing.{sliced, row_sliced}}
 use Rattle.yq_row_table.{specs.Offsets.{ParentAgrees, parent_by}, specs.Reading.row_at}
-use Rattle.yq_row_table.{specs.Rows.{Content, RowMark, behind_columns, dashes_text, parent_of}, specs.View.{Slices, colon_of, last_dash}}
+use Rattle.yq_row_table.{specs.Rows.{Content, RowMark, after_columns, dashes_text, parent_of}, specs.View.{Slices, colon_of, last_dash}}
 use Rattle.yq_row_table.{proofs.BeginSteps.columns_from, proofs.RowLaws.row_takes}
 
-dashes_length : (ns rest : List ℕ) → length (dashes_text ns rest) ≡ behind_columns 0 ns + length rest
+dashes_length : (ns rest : List ℕ) → length (dashes_text ns rest) ≡ after_columns 0 ns + length rest
 dashes_length [] rest = omega arith
 dashes_length (n ∷ ns) rest = omega (arith, length-append (replicate n 32) (dashes_text ns rest), length-replicate {A = ℕ} n 32, dashes_length ns rest, columns_from (suc (0 + n)) ns)
 
@@ -15,7 +15,7 @@ by_colon : (columns colon : ℕ) → 0 < colon → parent_by columns colon ≡ p
 by_colon columns colon some = search rules
 
 parent_agrees : (column : ℕ) (ns : List ℕ) (mark : RowMark) (c : Content) (rest : List ℕ) → AreDashes ns mark → IsMark mark c rest →
-    parent_of mark (behind_columns column ns) ≡ parent_by (column + length (dashes_text ns (last_dash mark))) (length (colon_of mark))
+    parent_of mark (after_columns column ns) ≡ parent_by (column + length (dashes_text ns (last_dash mark))) (length (colon_of mark))
 parent_agrees column ns mark c rest d m = search (rules, false≢true, dashes_length, columns_from, length-append, by_colon)
 
 pub row_known : (limit : Limit) (gap t : List ℕ) (s : Slices) (l : Limit) (after : List ℕ) → row_sliced limit gap t ≡ Some (s, l, after) → ParentAgrees s

@@ -40,8 +40,8 @@ shifted_twice a b (e ∷ es) =
 
 -- ---- both sides
 
-both_length : (by : Shift) (front behind : List EndPlace) → length (both_ends by front behind) ≡ length front + length behind
-both_length by front behind = search (rules, length-append, length-map, length-reverse)
+both_length : (by : Shift) (front after : List EndPlace) → length (both_ends by front after) ≡ length front + length after
+both_length by front after = search (rules, length-append, length-map, length-reverse)
 
 -- ---- binary search
 
@@ -57,13 +57,13 @@ ends_failed by most middle es e at large rise = search (rules, get_or_from_slice
 
 -- ---- the last one
 
-behind_more : (by : Shift) (front behind : List EndPlace) (b : EndPlace) → both_ends by front (b ∷ behind) ≡ both_ends by front behind ++ shifted by b ∷ []
-behind_more by front behind b = grind (arith, common_steps, reverse-append, map-append, append_assoc)
+after_more : (by : Shift) (front after : List EndPlace) (b : EndPlace) → both_ends by front (b ∷ after) ≡ both_ends by front after ++ shifted by b ∷ []
+after_more by front after b = grind (arith, common_steps, reverse-append, map-append, append_assoc)
 
-pub last_set_behind : (by : Shift) (front behind : List EndPlace) (e back : EndPlace) → 0 < length behind → shifted by back ≡ e →
-    both_ends by front (slice_set behind 0 back) ≡ slice_set (both_ends by front behind) (length (both_ends by front behind) - 1) e
-last_set_behind by front [] e back some is = absurd (omega (arith, some))
-last_set_behind by front (b ∷ behind) e back some is = search (rules, behind_more, length-append, drop_all, set_split, take_at)
+pub last_set_after : (by : Shift) (front after : List EndPlace) (e back : EndPlace) → 0 < length after → shifted by back ≡ e →
+    both_ends by front (slice_set after 0 back) ≡ slice_set (both_ends by front after) (length (both_ends by front after) - 1) e
+last_set_after by front [] e back some is = absurd (omega (arith, some))
+last_set_after by front (b ∷ after) e back some is = search (rules, after_more, length-append, drop_all, set_split, take_at)
 
 -- ---- ends that are replaced
 
@@ -77,22 +77,22 @@ reverse_taken es gone within =
     let long : length (reverse b) ≡ gone = omega (arith, within, length-reverse b, ap length all, length-append a b, first) in
     sym (ap (drop gone) (ap reverse all ∙ reverse-append a b) ∙ drop_at (reverse b) (reverse a) gone long)
 
-pub ends_replaced : (from to : ℕ) (by place later : Shift) (old front behind found : List EndPlace) → both_ends by front behind ≡ old →
+pub ends_replaced : (from to : ℕ) (by place later : Shift) (old front following found : List EndPlace) → both_ends by front following ≡ old →
     length front ≡ from → from ≤ to → to ≤ length old →
-    both_ends (both_shifts by later) (front ++ map (shifted place) found) (take (length behind - (to - from)) behind) ≡
+    both_ends (both_shifts by later) (front ++ map (shifted place) found) (take (length following - (to - from)) following) ≡
     ends_exchanged from to place later old found
-ends_replaced from to by place later old front behind found is long order within =
-    let all : List EndPlace = map (shifted by) (reverse behind) in
-    let size = both_length by front behind in
-    let fits : to - from ≤ length behind = omega (arith, size, ap length is, long, within) in
+ends_replaced from to by place later old front following found is long order within =
+    let all : List EndPlace = map (shifted by) (reverse following) in
+    let size = both_length by front following in
+    let fits : to - from ≤ length following = omega (arith, size, ap length is, long, within) in
     let first : take from old ≡ front = ap (take from) (sym is) ∙ take_at front all from long in
     let both : from + (to - from) ≡ to = omega (arith, order) in
     let rest : drop to old ≡ drop (to - from) all =
     ap (λ (n : ℕ). drop n old) (sym both)
     ∙ (sym (drop-drop (to - from) from old) ∙ ap (drop (to - from)) (ap (drop from) (sym is) ∙ drop_at front all from long)) in
-    let after : map (shifted (both_shifts by later)) (reverse (take (length behind - (to - from)) behind)) ≡ map (shifted later) (drop to old) =
-    ap (map (shifted (both_shifts by later))) (reverse_taken behind (to - from) fits)
-    ∙ (shifted_twice by later (drop (to - from) (reverse behind))
-    ∙ ap (map (shifted later)) (sym (drop-map (shifted by) (to - from) (reverse behind)) ∙ sym rest)) in
-    append_assoc front (map (shifted place) found) (map (shifted (both_shifts by later)) (reverse (take (length behind - (to - from)) behind)))
+    let after : map (shifted (both_shifts by later)) (reverse (take (length following - (to - from)) following)) ≡ map (shifted later) (drop to old) =
+    ap (map (shifted (both_shifts by later))) (reverse_taken following (to - from) fits)
+    ∙ (shifted_twice by later (drop (to - from) (reverse following))
+    ∙ ap (map (shifted later)) (sym (drop-map (shifted by) (to - from) (reverse following)) ∙ sym rest)) in
+    append_assoc front (map (shifted place) found) (map (shifted (both_shifts by later)) (reverse (take (length following - (to - from)) following)))
     ∙ (λ i. sym first i ++ (map (shifted place) found ++ after i))

@@ -4,7 +4,7 @@ use Rattle.std.proofs.Common.{Option, Some, None, refl, sym, ap, ◌∙◌, appe
 use Rattle.std.{proofs.lemmas.Bool.{eqb-true, false_from_ne_true}, proofs.lemmas.List.{take-append-drop, length-map, map-append}}
 use Rattle.std.{proofs.lemmas.Option.same_Some, specs.Str.{IsUtf8, IsCharBoundary}}
 use Rattle.yq_core.{specs.Answers.◌>>=◌, specs.Text.{is_empty, is_marker}, proofs.Bools.bind_some}
-use Rattle.yq_row_table.{specs.Grammar.begins_document, specs.Slicing.{rows_sliced, behind_parts, parts_sliced}}
+use Rattle.yq_row_table.{specs.Grammar.begins_document, specs.Slicing.{rows_sliced, after_parts, parts_sliced}}
 use Rattle.yq_row_table.{specs.Reading.{read_tail, marker_at, read_cut_part, all_parts}, specs.Rows.{rows_text, Part, Cut, last, marked}}
 use Rattle.yq_row_table.{specs.View.{Slices, slices, Bound, RowsView}, specs.Ends.{bound_in, bounds_in}}
 use Rattle.yq_row_table.{specs.Items.{items_text, rows_items}, specs.Offsets.Ends}
@@ -14,21 +14,21 @@ use Rattle.yq_row_table.{proofs.PieceLaws.tail_takes, proofs.FrontLaws.{front_ta
 use Rattle.yq_row_table.specs.declared.ends.EndPlace as ends
 
 -- the line of a marker
-marker_is : (t behind tail rest : List ℕ) → behind ≡ drop 3 t → read_tail behind ≡ Some (tail, rest) → t ≡ (take 3 t ++ tail) ++ rest
-marker_is t behind tail rest three h =
-    let is : drop 3 t ≡ tail ++ rest = sym three ∙ (tail_takes behind (tail, rest) h).0 in
+marker_is : (t after tail rest : List ℕ) → after ≡ drop 3 t → read_tail after ≡ Some (tail, rest) → t ≡ (take 3 t ++ tail) ++ rest
+marker_is t after tail rest three h =
+    let is : drop 3 t ≡ tail ++ rest = sym three ∙ (tail_takes after (tail, rest) h).0 in
     sym (take-append-drop 3 t) ∙ (ap (λ r. take 3 t ++ r) is ∙ sym (append_assoc (take 3 t) tail rest))
 
-pub marker_within : (t behind tail rest : List ℕ) → behind ≡ drop 3 t → read_tail behind ≡ Some (tail, rest) → length rest ≤ length t
-marker_within t behind tail rest three h = front_le t (take 3 t ++ tail) rest (marker_is t behind tail rest three h)
+pub marker_within : (t after tail rest : List ℕ) → after ≡ drop 3 t → read_tail after ≡ Some (tail, rest) → length rest ≤ length t
+marker_within t after tail rest three h = front_le t (take 3 t ++ tail) rest (marker_is t after tail rest three h)
 
-pub marker_boundary : (t behind tail rest : List ℕ) → behind ≡ drop 3 t → read_tail behind ≡ Some (tail, rest) → IsUtf8 rest → IsCharBoundary t (length t - length rest)
-marker_boundary t behind tail rest three h u = front_boundary t (take 3 t ++ tail) rest (marker_is t behind tail rest three h) u
+pub marker_boundary : (t after tail rest : List ℕ) → after ≡ drop 3 t → read_tail after ≡ Some (tail, rest) → IsUtf8 rest → IsCharBoundary t (length t - length rest)
+marker_boundary t after tail rest three h u = front_boundary t (take 3 t ++ tail) rest (marker_is t after tail rest three h) u
 
-pub marker_some : (t behind tail rest line : List ℕ) → behind ≡ drop 3 t → read_tail behind ≡ Some (tail, rest) → line ≡ take (length t - length rest) t → marker_at t ≡ Some (line, rest)
+pub marker_some : (t after tail rest line : List ℕ) → after ≡ drop 3 t → read_tail after ≡ Some (tail, rest) → line ≡ take (length t - length rest) t → marker_at t ≡ Some (line, rest)
 unfolding marker_at
-marker_some t behind tail rest line three h e =
-    let whole = e ∙ front_take t (take 3 t ++ tail) rest (marker_is t behind tail rest three h) in
+marker_some t after tail rest line three h e =
+    let whole = e ∙ front_take t (take 3 t ++ tail) rest (marker_is t after tail rest three h) in
     ap (λ o. o >>= λ x. Some (take 3 t ++ x.0, x.1)) (ap read_tail (sym three) ∙ h) ∙ ap (λ (l : List ℕ). Some (l, rest)) (sym whole)
 
 -- A part that was read, after other rows.
@@ -63,7 +63,7 @@ parts_unmarked rows bounds started t found end after h some m = let p = one_part
 
 -- the last part
 last_view : (rows : List Slices) (bounds : List Bound) (p : Part) (found : List Slices) (end : List ℕ) (k : ℕ) → k ≡ length rows + length p.rows → found ≡ rows ++ map slices p.rows → end ≡ p.end →
-    behind_parts rows bounds (last p) ≡ record { rows = found; bounds = bounds ++ record { rows = k; end = end; marker = [] } ∷ [] }
+    after_parts rows bounds (last p) ≡ record { rows = found; bounds = bounds ++ record { rows = k; end = end; marker = [] } ∷ [] }
 last_view rows bounds p found end k count rows_is end_is = rw (count, rows_is, end_is) refl
 
 pub parts_done : (rows : List Slices) (bounds : List Bound) (started : Bool) (t : List ℕ) (found : List Slices) (end after : List ℕ) (k : ℕ) →

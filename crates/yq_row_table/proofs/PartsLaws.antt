@@ -97,31 +97,31 @@ parts_fuel (suc n) (suc m) started t a b =
 parts_fuel _ _ started t a b = absurd (omega arith)
 
 -- a part and those after it
-abbrev pub parts_behind : Part × List ℕ → Option Cut
-parts_behind part = cond (is_empty part.1) (Some (last part.0)) (marker_at part.1 >>= λ marker. then_cut part.0 marker.0 (all_parts (begins_document marker.0) marker.1))
+abbrev pub parts_after : Part × List ℕ → Option Cut
+parts_after part = cond (is_empty part.1) (Some (last part.0)) (marker_at part.1 >>= λ marker. then_cut part.0 marker.0 (all_parts (begins_document marker.0) marker.1))
 
-marked_all : (n : ℕ) (part : Part × List ℕ) → ends_part part.1 ≡ true → length part.1 ≤ n → parts_by n part ≡ parts_behind part
+marked_all : (n : ℕ) (part : Part × List ℕ) → ends_part part.1 ≡ true → length part.1 ≤ n → parts_by n part ≡ parts_after part
 marked_all n part ends h =
     marked_same (λ marker. parts_at n (begins_document marker.0) marker.1) (λ marker. all_parts (begins_document marker.0) marker.1) part ends
     (λ marker short. parts_fuel n (suc (length marker.1)) (begins_document marker.0) marker.1 (omega (arith, short, h)) (omega arith))
 
-pub parts_step : (started : Bool) (t : List ℕ) → all_parts started t ≡ (read_cut_part started t >>= parts_behind)
+pub parts_step : (started : Bool) (t : List ℕ) → all_parts started t ≡ (read_cut_part started t >>= parts_after)
 unfolding parts_at
 parts_step started t =
-    bind_same (parts_by (length t)) parts_behind (read_cut_part started t) (λ part e. marked_all (length t) part (part_takes started t part e).ends (part_le started t part e))
+    bind_same (parts_by (length t)) parts_after (read_cut_part started t) (λ part e. marked_all (length t) part (part_takes started t part e).ends (part_le started t part e))
 
 pub parts_refused : (started : Bool) (t : List ℕ) → read_cut_part started t ≡ None → all_parts started t ≡ None
-parts_refused started t h = parts_step started t ∙ ap (λ o. o >>= parts_behind) h
+parts_refused started t h = parts_step started t ∙ ap (λ o. o >>= parts_after) h
 
 pub parts_last : (started : Bool) (t : List ℕ) (part : Part × List ℕ) → read_cut_part started t ≡ Some part → is_empty part.1 ≡ true → all_parts started t ≡ Some (last part.0)
-parts_last started t part h none = parts_step started t ∙ (ap (λ o. o >>= parts_behind) h ∙ rw none refl)
+parts_last started t part h none = parts_step started t ∙ (ap (λ o. o >>= parts_after) h ∙ rw none refl)
 
 pub parts_no_marker : (started : Bool) (t : List ℕ) (part : Part × List ℕ) → read_cut_part started t ≡ Some part → is_empty part.1 ≡ false → marker_at part.1 ≡ None → all_parts started t ≡ None
-parts_no_marker started t part h some none = parts_step started t ∙ (ap (λ o. o >>= parts_behind) h ∙ rw (some, none) refl)
+parts_no_marker started t part h some none = parts_step started t ∙ (ap (λ o. o >>= parts_after) h ∙ rw (some, none) refl)
 
 pub parts_marked : (started : Bool) (t : List ℕ) (part : Part × List ℕ) (marker : List ℕ × List ℕ) → read_cut_part started t ≡ Some part → is_empty part.1 ≡ false → marker_at part.1 ≡ Some marker →
     all_parts started t ≡ (all_parts (begins_document marker.0) marker.1 >>= λ parts. Some (marked part.0 marker.0 parts))
-parts_marked started t part marker h some is = parts_step started t ∙ (ap (λ o. o >>= parts_behind) h ∙ rw (some, is) refl)
+parts_marked started t part marker h some is = parts_step started t ∙ (ap (λ o. o >>= parts_after) h ∙ rw (some, is) refl)
 
 pub part_marker : (started : Bool) (t : List ℕ) (part : Part × List ℕ) → read_cut_part started t ≡ Some part → is_empty part.1 ≡ false → is_marker part.1 ≡ true
 part_marker started t part h some = ends_marker part.1 (part_takes started t part h).ends some

@@ -12,14 +12,14 @@ sum_of k (suc i) [] = k
 sum_of k (suc i) (n ∷ ls) = sum_of (k + n) i ls
 
 -- a text after pieces of the first of these lengths
-abbrev pub behind : ℕ → List ℕ → List ℕ → List ℕ
-behind zero ls t = t
-behind (suc i) [] t = t
-behind (suc i) (n ∷ ls) t = behind i ls (drop n t)
+abbrev pub after : ℕ → List ℕ → List ℕ → List ℕ
+after zero ls t = t
+after (suc i) [] t = t
+after (suc i) (n ∷ ls) t = after i ls (drop n t)
 
-behind_sum : (k i : ℕ) (ls t : List ℕ) → behind i ls (drop k t) ≡ drop (sum_of k i ls) t
-behind_sum k (suc i) (n ∷ ls) t = ap (behind i ls) (drop-drop n k t) ∙ behind_sum (k + n) i ls t
-behind_sum k _ _ t = refl
+after_sum : (k i : ℕ) (ls t : List ℕ) → after i ls (drop k t) ≡ drop (sum_of k i ls) t
+after_sum k (suc i) (n ∷ ls) t = ap (after i ls) (drop-drop n k t) ∙ after_sum (k + n) i ls t
+after_sum k _ _ t = refl
 
 sum_boundary : (k i : ℕ) (ls t : List ℕ) → i < length ls → IsCharBoundary t k → AreCuts (drop k t) ls → IsCharBoundary t (sum_of k i ls) × IsCharBoundary (drop (sum_of k i ls) t) (get_or ls i 0)
 sum_boundary k i [] t less at h = absurd (omega (arith, less))
@@ -32,7 +32,7 @@ sum_boundary k (suc i) (n ∷ ls) t less at h =
 pub record IsPiece (o : declared.Offsets) (i : ℕ) (t : List ℕ) (at : ℕ) : Type 0 where
   pub before : IsCharBoundary t at
   pub len : IsCharBoundary (drop at t) (get_or (drop 1 (lengths o)) i 0)
-  pub is : take (get_or (drop 1 (lengths o)) i 0) (drop at t) ≡ take (get_or (drop 1 (lengths o)) i 0) (behind i (drop 1 (lengths o)) (drop o.gap t))
+  pub is : take (get_or (drop 1 (lengths o)) i 0) (drop at t) ≡ take (get_or (drop 1 (lengths o)) i 0) (after i (drop 1 (lengths o)) (drop o.gap t))
 
 pub piece_at : (o : declared.Offsets) (i : ℕ) (t : List ℕ) (at : ℕ) → i < 10 → AreCuts t (lengths o) → at ≡ sum_of o.gap i (drop 1 (lengths o)) → IsPiece o i t at
 piece_at o i t at less h is =
@@ -41,7 +41,7 @@ piece_at o i t at less h is =
     record {
       before = subst (λ (m : ℕ). IsCharBoundary t m) (sym is) cut.0;
       len = subst (λ (m : ℕ). IsCharBoundary (drop m t) n) (sym is) cut.1;
-      is = ap (λ (m : ℕ). take n (drop m t)) is ∙ ap (take n) (sym (behind_sum o.gap i (drop 1 (lengths o)) t));
+      is = ap (λ (m : ℕ). take n (drop m t)) is ∙ ap (take n) (sym (after_sum o.gap i (drop 1 (lengths o)) t));
     }
 
 -- the text after three pieces is these
@@ -96,12 +96,12 @@ text_at (suc k) t [] = t
 text_at (suc k) t (u ∷ us) = text_at k u us
 
 -- it is what comes after their lengths
-behind_is : (k : ℕ) (ls t : List ℕ) (us : List (List ℕ)) → k ≤ length us → Follow t ls us → text_at k t us ≡ behind k ls t
-behind_is zero ls t us less h = refl
-behind_is (suc k) ls t [] less h = absurd (omega (arith, less))
-behind_is (suc zero) [] t (u ∷ us) less h = h.0
-behind_is (suc (suc k)) [] t (u ∷ us) less h = behind_is (suc k) [] u us (omega (arith, less)) h.1 ∙ h.0
-behind_is (suc k) (n ∷ ls) t (u ∷ us) less h = behind_is k ls u us (omega (arith, less)) h.1 ∙ ap (behind k ls) h.0
+following_is : (k : ℕ) (ls t : List ℕ) (us : List (List ℕ)) → k ≤ length us → Follow t ls us → text_at k t us ≡ after k ls t
+following_is zero ls t us less h = refl
+following_is (suc k) ls t [] less h = absurd (omega (arith, less))
+following_is (suc zero) [] t (u ∷ us) less h = h.0
+following_is (suc (suc k)) [] t (u ∷ us) less h = following_is (suc k) [] u us (omega (arith, less)) h.1 ∙ h.0
+following_is (suc k) (n ∷ ls) t (u ∷ us) less h = following_is k ls u us (omega (arith, less)) h.1 ∙ ap (after k ls) h.0
 
 -- pieces of these texts are those of a row
 pub row_cut : (o : declared.Offsets) (t : List ℕ) (s : Slices) (indent dashes key colon space anchor apart head tail raw : List ℕ)
@@ -110,4 +110,4 @@ pub row_cut : (o : declared.Offsets) (t : List ℕ) (s : Slices) (indent dashes 
     → s.space ≡ take o.space space → s.anchor ≡ take o.anchor anchor → s.apart ≡ take o.apart apart → s.head ≡ take o.head head
     → s.tail ≡ take o.tail tail → s.raw ≡ take o.raw raw → s.parent ≡ parent_by (o.column + o.dashes) o.colon → s ≡ pieces_of t o
 unfolding pieces_of
-row_cut o t s indent dashes key colon space anchor apart head tail raw h g c d k l p a f e b w n = search (rules, behind_is)
+row_cut o t s indent dashes key colon space anchor apart head tail raw h g c d k l p a f e b w n = search (rules, following_is)

@@ -8,7 +8,8 @@ use Rattle.yq_core.{specs.Text.{cut, no_white, ends_line, separates, is_empty, c
 use Rattle.yq_core.{specs.Lines.is_hash, specs.Reading.read_scalar, specs.Scalars.IsScalarAt}
 use Rattle.yq_core.{proofs.NodesPieceLaws.{scalar_takes, scalar_again}, specs.FitKeys.key_limit}
 use Rattle.yq_row_table.{specs.Gap.IsWhite, specs.Grammar.{IsColon, IsKey, IsTail}, specs.Reading.{read_colon, read_row_key, read_tail}}
-use Rattle.yq_row_table.proofs.LineEnds.{none_in_white, white_cut, white_again, line_end_takes, line_end_behind, line_end_line, line_again}
+use Rattle.yq_row_table.proofs.LineEnds.{none_in_white, white_cut, white_again, line_end_takes, following_line_end, line_end_line}
+use Rattle.yq_row_table.proofs.LineEnds.{line_again}
 
 -- the `:` of a key
 byte_at : (t r : List ℕ) (n b : ℕ) → drop n t ≡ b ∷ r → (take (suc n) t ≡ take n t ++ b ∷ []) × (drop (suc n) t ≡ r)
@@ -21,9 +22,9 @@ colon_takes : (t : List ℕ) (x : List ℕ × List ℕ) → read_colon t ≡ Som
 unfolding read_colon
 colon_takes t x h = search (rules, cond_some, false≢true, and_parts, byte_at, take-append-drop, white_cut)
 
-colon_behind : (w rest : List ℕ) → IsWhite w → separates rest ≡ true → read_colon (w ++ (58 ∷ rest)) ≡ Some (w ++ 58 ∷ [], rest)
+colon_after : (w rest : List ℕ) → IsWhite w → separates rest ≡ true → read_colon (w ++ (58 ∷ rest)) ≡ Some (w ++ 58 ∷ [], rest)
 unfolding read_colon
-colon_behind w rest blank sep = search (rules, upto-append, none_in_white, byte_at, drop-append_seam, take-append_seam)
+colon_after w rest blank sep = search (rules, upto-append, none_in_white, byte_at, drop-append_seam, take-append_seam)
 
 -- a key, with its `:`
 pub key_takes : (t : List ℕ) (x : List ℕ × List ℕ × List ℕ) → read_row_key t ≡ Some x → (t ≡ x.0 ++ (x.1 ++ x.2)) × IsKey x.0 x.1 x.2
@@ -39,7 +40,7 @@ key_takes t x h =
 
 pub key_again : (key colon rest : List ℕ) → IsKey key colon rest → read_row_key (key ++ (colon ++ rest)) ≡ Some (key, colon, rest)
 unfolding read_row_key
-key_again key colon rest h = search (rules, scalar_again, append_assoc, colon_behind, le-leb)
+key_again key colon rest h = search (rules, scalar_again, append_assoc, colon_after, le-leb)
 
 -- a tail, by how the text is cut after its white space and after its line
 abbrev ends_tail : List ℕ × List ℕ → Bool
@@ -58,7 +59,7 @@ tail_takes t x h = search (rules, cond_some, take-append-drop, and_parts, or_rig
 pub tail_again : (p rest : List ℕ) → IsTail p rest → read_tail (p ++ rest) ≡ Some (p, rest)
 unfolding read_tail
 tail_again p rest h =
-    let u = line_end_behind h.white h.comment p rest h.line in
+    let u = following_line_end h.white h.comment p rest h.line in
     let whites : cut no_white (p ++ rest) ≡ (h.white, u.0) = ap (cut no_white) u.1 ∙ white_again h.white u.0 h.line.blank u.2 in
     let line : cut_line (p ++ rest) ≡ (p, rest) = line_again p rest (line_end_line h.white h.comment p rest h.line) in
     let test : ends_tail (h.white, u.0) ≡ true = tail_test h.white u.0 u.3 (rw u.4 h.apart) in

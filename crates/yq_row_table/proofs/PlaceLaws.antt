@@ -4,7 +4,7 @@ use Rattle.std.{proofs.Common.{append_assoc, replicate, rules}, proofs.Math.Dec.
 use Rattle.std.specs.List.{slice_get}
 use Rattle.yq_core.proofs.NodesWrittenLaws.{node_append}
 use Rattle.yq_row_table.specs.Exchange.{with_content, with_content_at, exchange, row_front, before_at, text_after_row, before_content}
-use Rattle.yq_row_table.specs.Exchange.{behind_row, rows_behind, allows_first}
+use Rattle.yq_row_table.specs.Exchange.{after_row, following_rows, allows_first}
 use Rattle.yq_row_table.specs.Grammar.{IsRow, Limit, unlimited, limit_after, AreRows, begins_document, AreParts}
 use Rattle.yq_row_table.specs.Rows.{RowMark, Content, mark_text, dashes_text, content_text, Row, print_row, rows_text, Part, part_text, Cut}
 use Rattle.yq_row_table.{specs.Rows.{last, marked, cut_text}, specs.View.rows_of, proofs.ExchangeLaws.{slice_front, slice_back}}
@@ -51,28 +51,28 @@ new_place_at (x ∷ rows) (suc i) r new rest h = search (rules, row_then, new_pl
 part_place : (p : Part) (marker before text rest : List ℕ) → rest ≡ before ++ text → part_text p (marker ++ rest) ≡ part_text p (marker ++ before) ++ text
 part_place p marker before text rest h = ap (λ l. part_text p (marker ++ l)) h ∙ (ap (part_text p) (sym (append_assoc marker before text)) ∙ part_then p (marker ++ before) text)
 
-pub place : (c : Cut) (i : ℕ) (r : Row) → slice_get (rows_of c) i ≡ Some r → cut_text c ≡ before_content i c ++ content_text r.content (behind_row i c)
+pub place : (c : Cut) (i : ℕ) (r : Row) → slice_get (rows_of c) i ≡ Some r → cut_text c ≡ before_content i c ++ content_text r.content (after_row i c)
 place (last p) i r h = place_at p.rows i r (p.end ++ []) h
 place (marked p marker c) i r h = elim (cases_Bool (ltb i (length p.rows))) [
   | inl e ↦ rw e (place_at p.rows i r (p.end ++ (marker ++ cut_text c)) (slice_front p.rows (rows_of c) i r (ltb-true i (length p.rows) e) h))
-  | inr e ↦ rw e (part_place p marker (before_content (i - length p.rows) c) (content_text r.content (behind_row (i - length p.rows) c)) (cut_text c)
+  | inr e ↦ rw e (part_place p marker (before_content (i - length p.rows) c) (content_text r.content (after_row (i - length p.rows) c)) (cut_text c)
       (place c (i - length p.rows) r (slice_back p.rows (rows_of c) i r (ltb-false i (length p.rows) e) h)))
 ]
 
-pub new_place : (c : Cut) (i : ℕ) (r : Row) (new : Content) → slice_get (rows_of c) i ≡ Some r → cut_text (exchange i new c) ≡ before_content i c ++ content_text new (behind_row i c)
+pub new_place : (c : Cut) (i : ℕ) (r : Row) (new : Content) → slice_get (rows_of c) i ≡ Some r → cut_text (exchange i new c) ≡ before_content i c ++ content_text new (after_row i c)
 new_place (last p) i r new h = new_place_at p.rows i r new (p.end ++ []) h
 new_place (marked p marker c) i r new h = elim (cases_Bool (ltb i (length p.rows))) [
   | inl e ↦ rw e (new_place_at p.rows i r new (p.end ++ (marker ++ cut_text c)) (slice_front p.rows (rows_of c) i r (ltb-true i (length p.rows) e) h))
-  | inr e ↦ rw e (part_place p marker (before_content (i - length p.rows) c) (content_text new (behind_row (i - length p.rows) c))
+  | inr e ↦ rw e (part_place p marker (before_content (i - length p.rows) c) (content_text new (after_row (i - length p.rows) c))
       (cut_text (exchange (i - length p.rows) new c))
       (new_place c (i - length p.rows) r new (slice_back p.rows (rows_of c) i r (ltb-false i (length p.rows) e) h)))
 ]
 
 -- A row among others: it is one before what follows, and the next one may come after it.
-pub record RowIn (r : Row) (rest : List ℕ) (behind : List Row) : Type 0 where
+pub record RowIn (r : Row) (rest : List ℕ) (after : List Row) : Type 0 where
   pub limit : Limit
   pub row : IsRow limit r rest
-  pub next : allows_first (limit_after r) behind ≡ true
+  pub next : allows_first (limit_after r) after ≡ true
 
 pub first_allowed : (limit : Limit) (rs : List Row) (end rest : List ℕ) → AreRows limit rs end rest → allows_first limit rs ≡ true
 first_allowed limit rs end rest h = search rules
@@ -82,7 +82,7 @@ row_in_at [] i limit r end rest h is = cc
 row_in_at (x ∷ rows) zero limit r end rest h is = search (rules, first_allowed)
 row_in_at (x ∷ rows) (suc i) limit r end rest h is = row_in_at rows i (limit_after x) r end rest h.1 is
 
-pub row_in : (c : Cut) (i : ℕ) (started : Bool) (r : Row) → AreParts started c → slice_get (rows_of c) i ≡ Some r → RowIn r (behind_row i c) (rows_behind i c)
+pub row_in : (c : Cut) (i : ℕ) (started : Bool) (r : Row) → AreParts started c → slice_get (rows_of c) i ≡ Some r → RowIn r (after_row i c) (following_rows i c)
 row_in (last p) i started r h is = row_in_at p.rows i unlimited r p.end [] h.rows is
 row_in (marked p marker c) i started r h is = elim (cases_Bool (ltb i (length p.rows))) [
   | inl e ↦ rw e (row_in_at p.rows i unlimited r p.end (marker ++ cut_text c) h.0.rows (slice_front p.rows (rows_of c) i r (ltb-true i (length p.rows) e) is))

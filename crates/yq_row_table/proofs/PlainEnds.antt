@@ -7,10 +7,10 @@ use Rattle.std.{specs.List.slice_get, specs.Prelude.nat_le}
 use Rattle.yq_core.{specs.Lines.spaces, specs.Plain.{no_gap, last_line, begins_deep, follows, ends_plain}}
 use Rattle.yq_core.specs.Text.{cut, NoneIn, is_feed, is_return, is_break, is_line, is_empty, front, is_marker, joined}
 use Rattle.yq_core.{proofs.SpaceLaws.{spaces_front, prefix_none}, proofs.Upto.cut-append}
-use Rattle.yq_row_table.specs.Exchange.{text_after_row, behind_row, rows_behind, allows_first}
+use Rattle.yq_row_table.specs.Exchange.{text_after_row, after_row, following_rows, allows_first}
 use Rattle.yq_row_table.specs.Gap.{IsWhite, IsLineEnd, AreGapLines, IsGap}
 use Rattle.yq_row_table.specs.Grammar.{IsTail, IsRow, Limit, unlimited, limit_after, AreRows, begins_document, AreParts, IsCut}
-use Rattle.yq_row_table.{specs.Rows.{Row, behind_gap, rows_text, Cut, last, marked, cut_text}, specs.View.rows_of}
+use Rattle.yq_row_table.{specs.Rows.{Row, following_gap, rows_text, Cut, last, marked, cut_text}, specs.View.rows_of}
 use Rattle.yq_row_table.{proofs.ExchangeLaws.{slice_front, slice_back}, proofs.Fronts.Starts, proofs.LineEnds.{one_feed, feed_is}}
 use Rattle.yq_row_table.{proofs.RowAgain.row_starts, proofs.EmptyTexts.empty_is}
 
@@ -49,9 +49,9 @@ no_last : (n : ℕ) → last_line (replicate n 32) ≡ None
 no_last zero = refl
 no_last (suc n) = rw (no_last n) refl
 
-last_behind : (a w : List ℕ) → last_line (a ++ 10 ∷ w) ≡ Some (line_or (last_line w) w)
-last_behind [] w = search rules
-last_behind (x ∷ a) w = rw (last_behind a w) refl
+following_last : (a w : List ℕ) → last_line (a ++ 10 ∷ w) ≡ Some (line_or (last_line w) w)
+following_last [] w = search rules
+following_last (x ∷ a) w = rw (following_last a w) refl
 
 -- a row
 starts_gap : (t : List ℕ) → Starts t → no_gap t ≡ true
@@ -66,7 +66,7 @@ not_deep d n x h = search rules
 last_or : (a b : Bool) → (a || (b || true)) ≡ true
 last_or a b = search rules
 
-pub row_at_line : (d : ℕ) (limit : Limit) (r : Row) (rest : List ℕ) → IsRow limit r rest → r.column < d → AtLine d (behind_gap r rest)
+pub row_at_line : (d : ℕ) (limit : Limit) (r : Row) (rest : List ℕ) → IsRow limit r rest → r.column < d → AtLine d (following_gap r rest)
 row_at_line d limit r rest h less = search (rules, row_starts, starts_spaces, spaces_front, not_deep, none_spaces, starts_gap, no_last, last_or)
 
 -- a marker, or the end
@@ -107,12 +107,12 @@ breaks (b ∷ (c ∷ p)) h k = elim (cases_Bool (is_feed b)) [
 -- White space and breaks up to the text after them: those of a line that ends, with those after it.
 pub record Broken (d : ℕ) (white t : List ℕ) : Type 0 where
   pub before : List ℕ
-  pub behind : List ℕ
+  pub after : List ℕ
   pub text : List ℕ
-  pub spelled : t ≡ (before ++ 10 ∷ behind) ++ text
-  pub inside : NoneIn no_gap (before ++ 10 ∷ behind) text
+  pub spelled : t ≡ (before ++ 10 ∷ after) ++ text
+  pub inside : NoneIn no_gap (before ++ 10 ∷ after) text
   pub here : no_gap text ≡ true
-  pub stop : stops d behind text ≡ true
+  pub stop : stops d after text ≡ true
 
 broken : (d : ℕ) (white p rest : List ℕ) → IsWhite white → Breaks p → AtLine d rest → Broken d white ((white ++ p) ++ rest)
 broken d white p rest blank b a =
@@ -133,15 +133,15 @@ comment_line d white break rest b c blank h = search (rules, append_assoc, none_
 blank_end : (d : ℕ) (white : List ℕ) → IsWhite white → AtLine d white
 blank_end d white blank = record { white = white; text = []; spelled = sym (append-nil white); inside = none_white white [] blank; here = refl; stop = refl }
 
-line_stop : (d : ℕ) (before behind text : List ℕ) → stops d behind text ≡ true → stops d (before ++ 10 ∷ behind) text ≡ true
-line_stop d before behind text h = rw (last_behind before behind) h
+line_stop : (d : ℕ) (before after text : List ℕ) → stops d after text ≡ true → stops d (before ++ 10 ∷ after) text ≡ true
+line_stop d before after text h = rw (following_last before after) h
 
 ended_line : (d : ℕ) (white comment p rest : List ℕ) → IsLineEnd white comment p rest → AtLine d rest → AtLine d (p ++ rest)
 ended_line d white [] p rest e a = ⊎_elim {0, 0, 0}
     (λ h. let x = and_parts (is_break e.break) (is_line e.break) h in
     let b : Broken d white ((white ++ e.break) ++ rest) = broken d white e.break rest e.blank (breaks e.break x.0 x.1) a in
     subst (λ (l : List ℕ). AtLine d (l ++ rest)) (sym e.spelled)
-    (record { white = b.before ++ 10 ∷ b.behind; text = b.text; spelled = b.spelled; inside = b.inside; here = b.here; stop = line_stop d b.before b.behind b.text b.stop }))
+    (record { white = b.before ++ 10 ∷ b.after; text = b.text; spelled = b.spelled; inside = b.inside; here = b.here; stop = line_stop d b.before b.after b.text b.stop }))
     (λ h. subst (λ (l : List ℕ). AtLine d l) (sym (ap (λ l. l ++ rest) e.spelled ∙ (ap (λ l. (white ++ l) ++ rest) h.0 ∙ (ap (λ l. (white ++ []) ++ l) h.1 ∙ (append-nil (white ++ []) ∙ append-nil white))))) (blank_end d white e.blank))
     e.ends
 ended_line d white (b ∷ c) p rest e a = subst (λ (l : List ℕ). AtLine d (l ++ rest)) (sym e.spelled) (comment_line d white e.break rest b c e.blank (ap (λ (x : ℕ). eqb x 35) e.as_comment.0))
@@ -158,24 +158,24 @@ gap_line d gap rest h a = subst (λ (l : List ℕ). AtLine d (l ++ rest)) (sym h
 -- rows
 pub rows_line : (d : ℕ) (rs : List Row) (limit : Limit) (end rest : List ℕ) → AreRows limit rs end rest → allows_first (record { column = Some d }) rs ≡ true → AtLine d rest → AtLine d (rows_text rs (end ++ rest))
 rows_line d [] limit end rest h next a = gap_line d end rest h a
-rows_line d (r ∷ rs) limit end rest h next a = gap_line d r.gap (behind_gap r (rows_text rs (end ++ rest))) h.0.gap (row_at_line d limit r (rows_text rs (end ++ rest)) h.0 (ltb-true r.column d next))
+rows_line d (r ∷ rs) limit end rest h next a = gap_line d r.gap (following_gap r (rows_text rs (end ++ rest))) h.0.gap (row_at_line d limit r (rows_text rs (end ++ rest)) h.0 (ltb-true r.column d next))
 
-behind_line : (d : ℕ) (rows : List Row) (i : ℕ) (limit : Limit) (r : Row) (end rest : List ℕ) → AreRows limit rows end rest →
+after_line : (d : ℕ) (rows : List Row) (i : ℕ) (limit : Limit) (r : Row) (end rest : List ℕ) → AreRows limit rows end rest →
     slice_get rows i ≡ Some r → allows_first (record { column = Some d }) (drop (suc i) rows) ≡ true → AtLine d rest →
     AtLine d (text_after_row i rows (end ++ rest))
-behind_line d [] i limit r end rest h is next a = cc
-behind_line d (x ∷ rows) zero limit r end rest h is next a = rows_line d rows (limit_after x) end rest h.1 next a
-behind_line d (x ∷ rows) (suc i) limit r end rest h is next a = behind_line d rows i (limit_after x) r end rest h.1 is next a
+after_line d [] i limit r end rest h is next a = cc
+after_line d (x ∷ rows) zero limit r end rest h is next a = rows_line d rows (limit_after x) end rest h.1 next a
+after_line d (x ∷ rows) (suc i) limit r end rest h is next a = after_line d rows i (limit_after x) r end rest h.1 is next a
 
-pub line_behind : (d : ℕ) (c : Cut) (i : ℕ) (started : Bool) (r : Row) → AreParts started c → slice_get (rows_of c) i ≡ Some r → allows_first (record { column = Some d }) (rows_behind i c) ≡ true → AtLine d (behind_row i c)
-line_behind d (last p) i started r h is next = behind_line d p.rows i unlimited r p.end [] h.rows is next (end_line d)
-line_behind d (marked p marker c) i started r h is next = elim (cases_Bool (ltb i (length p.rows))) [
+pub line_after : (d : ℕ) (c : Cut) (i : ℕ) (started : Bool) (r : Row) → AreParts started c → slice_get (rows_of c) i ≡ Some r → allows_first (record { column = Some d }) (following_rows i c) ≡ true → AtLine d (after_row i c)
+line_after d (last p) i started r h is next = after_line d p.rows i unlimited r p.end [] h.rows is next (end_line d)
+line_after d (marked p marker c) i started r h is next = elim (cases_Bool (ltb i (length p.rows))) [
   | inl e ↦ (
       let allowed : allows_first (record { column = Some d }) (drop (suc i) p.rows) ≡ true = rw e at next in
-      rw e (behind_line d p.rows i unlimited r p.end (marker ++ cut_text c) h.0.rows (slice_front p.rows (rows_of c) i r (ltb-true i (length p.rows) e) is) allowed (marker_line d (marker ++ cut_text c) h.1.marker)))
+      rw e (after_line d p.rows i unlimited r p.end (marker ++ cut_text c) h.0.rows (slice_front p.rows (rows_of c) i r (ltb-true i (length p.rows) e) is) allowed (marker_line d (marker ++ cut_text c) h.1.marker)))
   | inr e ↦ (
-      let allowed : allows_first (record { column = Some d }) (rows_behind (i - length p.rows) c) ≡ true = rw e at next in
-      rw e (line_behind d c (i - length p.rows) (begins_document marker) r h.2 (slice_back p.rows (rows_of c) i r (ltb-false i (length p.rows) e) is) allowed))
+      let allowed : allows_first (record { column = Some d }) (following_rows (i - length p.rows) c) ≡ true = rw e at next in
+      rw e (line_after d c (i - length p.rows) (begins_document marker) r h.2 (slice_back p.rows (rows_of c) i r (ltb-false i (length p.rows) e) is) allowed))
 ]
 
 -- where a plain scalar ends
@@ -187,22 +187,22 @@ ends_by d b w u none here f =
     let parts : cut no_gap ((b ∷ w) ++ u) ≡ (b ∷ w, u) = cut-append no_gap (b ∷ w) u none here in
     search (rules, not-false)
 
-ends_behind : (d : ℕ) (w u : List ℕ) → is_empty w ≡ false → NoneIn no_gap w u → no_gap u ≡ true → follows false (Some d) w u ≡ false → ends_plain false (Some d) (w ++ u) ≡ true
-ends_behind d w u some h4 here f = search (rules, false≢true, ends_by)
+following_ends : (d : ℕ) (w u : List ℕ) → is_empty w ≡ false → NoneIn no_gap w u → no_gap u ≡ true → follows false (Some d) w u ≡ false → ends_plain false (Some d) (w ++ u) ≡ true
+following_ends d w u some h4 here f = search (rules, false≢true, ends_by)
 
-some_white : (before behind : List ℕ) → is_empty (before ++ 10 ∷ behind) ≡ false
-some_white [] behind = refl
-some_white (b ∷ before) behind = refl
+some_white : (before after : List ℕ) → is_empty (before ++ 10 ∷ after) ≡ false
+some_white [] after = refl
+some_white (b ∷ before) after = refl
 
-line_follows : (d : ℕ) (before behind text : List ℕ) → stops d behind text ≡ true → follows false (Some d) (before ++ 10 ∷ behind) text ≡ false
-line_follows d before behind text h = simp (last_behind, not_follow)
+line_follows : (d : ℕ) (before after text : List ℕ) → stops d after text ≡ true → follows false (Some d) (before ++ 10 ∷ after) text ≡ false
+line_follows d before after text h = simp (following_last, not_follow)
 
 white_ends : (d : ℕ) (w : List ℕ) → IsWhite w → ends_plain false (Some d) w ≡ true
 white_ends d [] h = refl
 white_ends d (b ∷ w) h = subst (λ (l : List ℕ). ends_plain false (Some d) l ≡ true) (append-nil (b ∷ w)) (ends_by d b w [] (none_white (b ∷ w) [] h) refl refl)
 
 comment_ends : (d : ℕ) (w : List ℕ) (b : ℕ) (u : List ℕ) → IsWhite w → is_empty w ≡ false → eqb b 35 ≡ true → ends_plain false (Some d) (w ++ (b ∷ u)) ≡ true
-comment_ends d w b u blank some h = ends_behind d w (b ∷ u) some (none_white w (b ∷ u) blank) (hash_here b u h) (rw h refl)
+comment_ends d w b u blank some h = following_ends d w (b ∷ u) some (none_white w (b ∷ u) blank) (hash_here b u h) (rw h refl)
 
 pub tail_ends : (d : ℕ) (white comment p rest : List ℕ) → IsLineEnd white comment p rest → (is_empty comment || not (is_empty white)) ≡ true → AtLine d rest → ends_plain false (Some d) (p ++ rest) ≡ true
 tail_ends d white [] p rest e apart a = ⊎_elim {0, 0, 0}
@@ -210,7 +210,7 @@ tail_ends d white [] p rest e apart a = ⊎_elim {0, 0, 0}
     let b : Broken d white ((white ++ e.break) ++ rest) = broken d white e.break rest e.blank (breaks e.break x.0 x.1) a in
     subst (λ (l : List ℕ). ends_plain false (Some d) (l ++ rest) ≡ true) (sym e.spelled)
     (subst (λ (l : List ℕ). ends_plain false (Some d) l ≡ true) (sym b.spelled)
-    (ends_behind d (b.before ++ 10 ∷ b.behind) b.text (some_white b.before b.behind) b.inside b.here (line_follows d b.before b.behind b.text b.stop))))
+    (following_ends d (b.before ++ 10 ∷ b.after) b.text (some_white b.before b.after) b.inside b.here (line_follows d b.before b.after b.text b.stop))))
     (λ h. subst (λ (l : List ℕ). ends_plain false (Some d) l ≡ true)
     (sym (ap (λ l. l ++ rest) e.spelled
     ∙ (ap (λ l. (white ++ l) ++ rest) h.0 ∙ (ap (λ l. (white ++ []) ++ l) h.1 ∙ (append-nil (white ++ []) ∙ append-nil white)))))
@@ -219,6 +219,6 @@ tail_ends d white [] p rest e apart a = ⊎_elim {0, 0, 0}
 tail_ends d white (b ∷ c) p rest e apart a = search (rules, not-true, append_assoc, comment_ends)
 
 pub plain_ends : (t : List ℕ) (c : Cut) (i : ℕ) (r : Row) (tail : List ℕ) (d : ℕ) → IsCut t c → slice_get (rows_of c) i ≡ Some r →
-    IsTail tail (behind_row i c) → allows_first (record { column = Some d }) (rows_behind i c) ≡ true →
-    ends_plain false (Some d) (tail ++ behind_row i c) ≡ true
-plain_ends t c i r tail d h is end next = tail_ends d end.white end.comment tail (behind_row i c) end.line end.apart (line_behind d c i true r h.parts is next)
+    IsTail tail (after_row i c) → allows_first (record { column = Some d }) (following_rows i c) ≡ true →
+    ends_plain false (Some d) (tail ++ after_row i c) ≡ true
+plain_ends t c i r tail d h is end next = tail_ends d end.white end.comment tail (after_row i c) end.line end.apart (line_after d c i true r h.parts is next)

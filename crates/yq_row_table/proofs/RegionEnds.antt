@@ -5,9 +5,9 @@ use Rattle.yq_core.{specs.Block.{ends_block, is_empty_line}, specs.declared.bloc
 use Rattle.yq_core.{specs.Alike.Alike, proofs.Alikes.alike_append}
 use Rattle.yq_row_table.{specs.Gap.IsGap, specs.Grammar.{Limit, IsContent, IsRow, IsMarkerLine}}
 use Rattle.yq_row_table.specs.Items.{Item, row_item, end_item, items_of_cut, items_text, Asked, nothing_asked, asked_by, asked_of}
-use Rattle.yq_row_table.{specs.Items.AreRowItems, specs.Regions.{StandIn, ended, IsReadAlone}, specs.Rows.{Content, Row, parent_indent}}
+use Rattle.yq_row_table.{specs.Items.AreRowItems, specs.Regions.{AreItemsIn, ended, IsReadAlone}, specs.Rows.{Content, Row, parent_indent}}
 use Rattle.yq_row_table.{specs.Seams.{is_seam, TakesPlace}, proofs.AlikeRows.{marker_line_alike, row_alike, row_gap_alike, row_text_alike}}
-use Rattle.yq_row_table.{proofs.ItemLaws.{items_joined, parts_are_items}, proofs.NothingLaws.{gap_other, some_behind}}
+use Rattle.yq_row_table.{proofs.ItemLaws.{items_joined, parts_are_items}, proofs.NothingLaws.{gap_other, some_after}}
 use Rattle.yq_row_table.proofs.ItemCuts.{Ended, alone_read, cut_of_items, cut_of, last_items, no_last, no_marker}
 use Rattle.yq_row_table.{proofs.seams.GapSeams.{gap_lines_of, lines_before}, proofs.seams.MarkerSeams.{marker_line_is, marker_seam}}
 use Rattle.yq_row_table.{proofs.seams.SeamLaws.{plain_before, row_seam}, proofs.seams.FrontSeams.{closed_line, tail_any}}
@@ -22,7 +22,7 @@ ends_front keep f (l ∷ ls) ms h = ⊎_elim {0, 0, 0}
     (cases_Bool (is_empty_line f l))
 
 seam_cut : (n : ℤ) (c : Content) (gap t : List ℕ) → is_empty t ≡ false → IsGap gap t → IsContent n c (gap ++ t) → is_seam c (gap ++ []) ≡ true
-seam_cut n c gap t h1 h2 h3 = search (rules, tail_any, some_behind, lines_before, append-nil, gap_lines_of, ends_front)
+seam_cut n c gap t h1 h2 h3 = search (rules, tail_any, some_after, lines_before, append-nil, gap_lines_of, ends_front)
 
 row_cut : (limit : Limit) (r : Row) (gap t : List ℕ) → is_empty t ≡ false → IsGap gap t → IsGap gap [] → IsRow limit r (gap ++ t) → TakesPlace limit r (gap ++ t) r (gap ++ [])
 row_cut limit r gap t some g last h = row_seam limit r (gap ++ t) (gap ++ []) h (seam_cut (parent_indent r) r.content gap t some g h.content) (plain_before (parent_indent r) r.content [] gap [] last refl)
@@ -61,7 +61,7 @@ line_ended : (line : List ℕ) (xs : List Item) (gap marker : List ℕ) (back : 
     LineEnded line (items_text (xs ++ (end_item gap marker ∷ back)) []) (items_text (xs ++ cut_end gap) [])
 line_ended line [] gap marker back b h a =
     let t = gap ++ (marker ++ items_text back []) in
-    marker_seam line t (gap ++ []) h (closed_line line (gap ++ []) (marker_line_is line t h (some_behind gap (marker ++ items_text back []) b.some)))
+    marker_seam line t (gap ++ []) h (closed_line line (gap ++ []) (marker_line_is line t h (some_after gap (marker ++ items_text back []) b.some)))
 line_ended line (x ∷ xs) gap marker back b h a = search (rules, marker_line_alike, alike_append)
 
 pub cut_items : (xs : List Item) (asked : Asked) (gap marker : List ℕ) (back : List Item) → Before gap marker back → AreRowItems asked (xs ++ (end_item gap marker ∷ back)) [] → CutEnd asked xs gap marker back
@@ -94,14 +94,14 @@ some_marker : (marker t : List ℕ) → IsMarkerLine marker t → is_empty (mark
 some_marker marker t h = search (rules, false≢true, no_marker)
 
 -- Items and the end of their part, without the line of its marker, read alone.
-pub region_end : (xs back : List Item) (gap marker : List ℕ) → StandIn (ended xs gap marker) back → IsReadAlone (ended xs gap []) []
+pub region_end : (xs back : List Item) (gap marker : List ℕ) → AreItemsIn (ended xs gap marker) back → IsReadAlone (ended xs gap []) []
 region_end xs back gap marker s =
     let place : (xs ++ (end_item gap marker ∷ [])) ++ back ≡ xs ++ (end_item gap marker ∷ back) = append_assoc xs (end_item gap marker ∷ []) back in
     let own_items : items_of_cut s.cut ≡ s.front ++ (xs ++ (end_item gap marker ∷ back)) = s.items ∙ ap (λ l. s.front ++ l) place in
     let all : AreRowItems nothing_asked (s.front ++ (xs ++ (end_item gap marker ∷ back))) [] = subst (λ (l : List Item). AreRowItems nothing_asked l []) own_items (parts_are_items s.cut true s.is_cut.parts) in
     let asked = asked_of nothing_asked s.front in
-    let behind : AreRowItems asked (xs ++ (end_item gap marker ∷ back)) [] = items_joined s.front (xs ++ (end_item gap marker ∷ back)) nothing_asked [] all in
-    let own = items_joined xs (end_item gap marker ∷ back) asked [] behind in
+    let after : AreRowItems asked (xs ++ (end_item gap marker ∷ back)) [] = items_joined s.front (xs ++ (end_item gap marker ∷ back)) nothing_asked [] all in
+    let own = items_joined xs (end_item gap marker ∷ back) asked [] after in
     let mine : AreRowItems asked (xs ++ cut_end gap) [] = ⊎_elim {0, 0, 0}
     (λ line.
     let before : Before gap marker back =
@@ -112,7 +112,7 @@ region_end xs back gap marker s =
       last =
           end_last gap (marker ++ items_text back []) (some_marker marker (items_text back []) line) own.0.0;
     } in
-    (cut_items xs asked gap marker back before behind).0)
-    (λ none. subst (λ (m : List ℕ). AreRowItems asked (xs ++ (end_item gap m ∷ [])) []) none.0 (subst (λ (l : List Item). AreRowItems asked (xs ++ (end_item gap marker ∷ l)) []) none.1 behind))
+    (cut_items xs asked gap marker back before after).0)
+    (λ none. subst (λ (m : List ℕ). AreRowItems asked (xs ++ (end_item gap m ∷ [])) []) none.0 (subst (λ (l : List Item). AreRowItems asked (xs ++ (end_item gap marker ∷ l)) []) none.1 after))
     own.0.1 in
     record { cut = cut_of (xs ++ cut_end gap); read = alone_read (xs ++ cut_end gap) asked mine; text = (cut_of_items (xs ++ cut_end gap) asked mine).1; items = last_items (xs ++ cut_end gap) asked mine (end_ended xs gap) }

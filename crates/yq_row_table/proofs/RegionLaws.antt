@@ -5,7 +5,7 @@ use Rattle.yq_core.{specs.Answers.{Gives, ReadError}, specs.Block.ends_block, sp
 use Rattle.yq_core.{specs.Text.{is_line, text_lines}, specs.Alike.Alike, proofs.Alikes.alike_append}
 use Rattle.yq_row_table.specs.Grammar.{Limit, IsRow, IsMarkerLine}
 use Rattle.yq_row_table.specs.Items.{Item, row_item, end_item, items_text, Asked, nothing_asked, asked_by, asked_of, AreRowItems}
-use Rattle.yq_row_table.{specs.Items.view_of_items, specs.Regions.{StandIn, region_items, IsReadAlone}, specs.Slicing.read_view}
+use Rattle.yq_row_table.{specs.Items.view_of_items, specs.Regions.{AreItemsIn, region_items, IsReadAlone}, specs.Slicing.read_view}
 use Rattle.yq_row_table.{specs.Reading.all_parts, specs.Rows.{Content, Row, parent_indent}, specs.View.RowsView}
 use Rattle.yq_row_table.specs.Seams.{is_closed, is_seam, TakesPlace}
 use Rattle.yq_row_table.proofs.AlikeRows.{row_alike, row_gap_alike, row_text_alike, marker_line_alike}
@@ -63,7 +63,7 @@ shortened (end_item gap marker ∷ xs) z zs asked rest h =
     h.0.1
 
 -- The law of regions.
-pub region : (xs back : List Item) → StandIn xs back → IsReadAlone xs back
+pub region : (xs back : List Item) → AreItemsIn xs back → IsReadAlone xs back
 region xs [] s =
     let all : AreRowItems nothing_asked (s.front ++ (xs ++ [])) [] = subst (λ (l : List Item). AreRowItems nothing_asked l []) s.items (parts_are_items s.cut true s.is_cut.parts) in
     let own : xs ++ [] ≡ xs = append-nil xs in
@@ -73,7 +73,7 @@ region xs [] s =
 region xs (z ∷ zs) s =
     let all : AreRowItems nothing_asked (s.front ++ (xs ++ (z ∷ zs))) [] = subst (λ (l : List Item). AreRowItems nothing_asked l []) s.items (parts_are_items s.cut true s.is_cut.parts) in
     let asked = asked_of nothing_asked s.front in
-    let behind : AreRowItems asked (xs ++ (z ∷ zs)) [] = items_joined s.front (xs ++ (z ∷ zs)) nothing_asked [] all in
+    let after : AreRowItems asked (xs ++ (z ∷ zs)) [] = items_joined s.front (xs ++ (z ∷ zs)) nothing_asked [] all in
     search (rules, shortened, cut_of, alone_read, cut_of_items, inner_items)
 
 pub read_alone : {X : Type 0} (v : X → RowsView) (t : List ℕ) (xs back : List Item) (r : Result X ReadError) → IsReadAlone xs back →

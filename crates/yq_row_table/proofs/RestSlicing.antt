@@ -79,7 +79,7 @@ rest_sliced t i from to own order h =
     let ahead = drop from own in
     let count = to - from in
     let long = length-drop from own in
-    let behind : AllWithin (λ b. i ≤ b.rows) ahead 0 (length ahead) =
+    let after : AllWithin (λ b. i ≤ b.rows) ahead 0 (length ahead) =
     λ k d low lt. subst (λ (b : ends.EndPlace). i ≤ b.rows) (sym (get_or-drop from own k d)) (h.reached (from + k) d (omega arith) (omega (arith, lt, long))) in
     let here : AllWithin (λ b. b.rows ≤ i) ahead 0 count =
     λ k d low lt. subst (λ (b : ends.EndPlace). b.rows ≤ i) (sym (get_or-drop from own k d)) (h.here (from + k) d (omega arith) (omega (arith, lt, order))) in
@@ -87,4 +87,4 @@ rest_sliced t i from to own order h =
     λ k d low lt. subst (λ (b : ends.EndPlace). i < b.rows) (sym (get_or-drop from own k d)) (h.passed (from + k) d (omega (arith, low, order)) (omega (arith, lt, long))) in
     ap (take count) (drop-map (bound_in_half t) from own)
     ∙ (take-map (bound_in_half t) count ahead
-    ∙ (taken t i count ahead (omega (arith, long, h.within)) behind here passed ∙ sym (skipped t i from own (omega (arith, order, h.within)) h.before)))
+    ∙ (taken t i count ahead (omega (arith, long, h.within)) after here passed ∙ sym (skipped t i from own (omega (arith, order, h.within)) h.before)))

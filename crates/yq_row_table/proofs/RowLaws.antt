@@ -5,15 +5,15 @@ use Rattle.yq_core.{specs.Piece.deeper, specs.Text.{cut, no_space, is_marker}, p
 use Rattle.yq_core.{specs.Inline.depth_limit, specs.Nodes.{bare, node_text}, proofs.NodeAgain.item_longer}
 use Rattle.yq_row_table.{specs.Gap.IsGap, specs.Grammar.{IsRow, IsContent, IsMark, AreDashes, may_be_alone, Limit, allows}}
 use Rattle.yq_row_table.specs.Reading.{read_marks, read_content, fits, marked_row_at, row_at}
-use Rattle.yq_row_table.specs.Rows.{RowMark, Anchor, Content, Inline, dashes_text, anchor_text, content_text, Row, behind_indent}
-use Rattle.yq_row_table.{specs.Rows.{behind_gap, behind_columns, parent_of, parent_indent}, proofs.ContentLaws.content_takes}
+use Rattle.yq_row_table.specs.Rows.{RowMark, Anchor, Content, Inline, dashes_text, anchor_text, content_text, Row, after_indent}
+use Rattle.yq_row_table.{specs.Rows.{following_gap, after_columns, parent_of, parent_indent}, proofs.ContentLaws.content_takes}
 use Rattle.yq_row_table.proofs.MarkLaws.{spaces_are, IsMarked, marks_take}
 
 -- A row after its gap and its indentation.
 pub record Marked (gap : List ℕ) (column : ℕ) (t : List ℕ) (r : Row) (rest : List ℕ) : Type 0 where
   pub gap_is : r.gap ≡ gap
   pub column_is : r.column ≡ column
-  pub text : t ≡ behind_indent r rest
+  pub text : t ≡ after_indent r rest
   pub dashes : AreDashes r.dashes r.mark
   pub mark : IsMark r.mark r.content rest
   pub content : IsContent (parent_indent r) r.content rest
@@ -25,7 +25,7 @@ marked_takes : (gap : List ℕ) (column : ℕ) (t : List ℕ) (x : Row × List �
 unfolding marked_row_at
 marked_takes gap column t x h =
     let m = read_marks t in
-    let n = parent_of m.1 (behind_columns column m.0) in
+    let n = parent_of m.1 (after_columns column m.0) in
     let content = bind_some (read_content n m.2) h in
     let g = cond_some (fits m.1 content.0.0) _ _ content.2 in
     let marks = marks_take t in
@@ -35,14 +35,14 @@ marked_takes gap column t x h =
 -- A row that was read after its gap, before a rest.
 pub record RowCut (limit : Limit) (gap t : List ℕ) (r : Row) (rest : List ℕ) : Type 0 where
   pub gap_is : r.gap ≡ gap
-  pub text : t ≡ behind_gap r rest
+  pub text : t ≡ following_gap r rest
   pub dashes : AreDashes r.dashes r.mark
   pub mark : IsMark r.mark r.content rest
   pub content : IsContent (parent_indent r) r.content rest
   pub row : IsGap gap t → IsRow limit r rest
 
 row_parts : (limit : Limit) (gap : List ℕ) (column : ℕ) (t : List ℕ) (r : Row) (rest : List ℕ) → allows limit column ≡ true →
-    (eqb column 0 && is_marker t) ≡ false → Marked gap column t r rest → IsGap r.gap (behind_gap r rest) → IsRow limit r rest
+    (eqb column 0 && is_marker t) ≡ false → Marked gap column t r rest → IsGap r.gap (following_gap r rest) → IsRow limit r rest
 row_parts limit gap column t r rest a u m g = search rules
 
 pub row_takes : (limit : Limit) (gap t : List ℕ) (x : Row × List ℕ) → row_at limit gap t ≡ Some x → RowCut limit gap t x.0 x.1
@@ -77,7 +77,7 @@ dashes_le : (ns t : List ℕ) → length t ≤ length (dashes_text ns t)
 dashes_le [] t = omega arith
 dashes_le (n ∷ ns) t = let less = dashes_le ns t in omega (arith, suffix_le (replicate n 32) (dashes_text ns t))
 
-pub row_longer : (r : Row) (rest : List ℕ) → IsMark r.mark r.content rest → IsContent (parent_indent r) r.content rest → length rest < length (behind_gap r rest)
+pub row_longer : (r : Row) (rest : List ℕ) → IsMark r.mark r.content rest → IsContent (parent_indent r) r.content rest → length rest < length (following_gap r rest)
 row_longer r rest m h = search (rules, alone_longer, content_le, length-append, dashes_le, suffix_le)
 
 pub row_shorter : (limit : Limit) (gap t : List ℕ) (x : Row × List ℕ) → row_at limit gap t ≡ Some x → length x.1 < length t

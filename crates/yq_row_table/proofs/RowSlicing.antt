@@ -3,13 +3,13 @@ use Rattle.std.proofs.Common.{rules, if◌then◌else◌, ◌≡◌, ℕ, ◌<�
 use Rattle.std.proofs.Common.{length, Option, Some, None, sym, ap, ◌∙◌, subst, arith, append_assoc, append-nil, ℤ}
 use Rattle.std.{proofs.lemmas.Bool.false≢true, proofs.lemmas.List.take-append-drop, proofs.lemmas.Option.same_Some}
 use Rattle.yq_core.{specs.Answers.◌>>=◌, specs.Text.{cut, no_space, no_white, is_marker}, proofs.Bools.bind_some, specs.Nodes.begins_node}
-use Rattle.yq_row_table.specs.Grammar.{Limit, unlimited, allows, limit_behind, no_rows, ends_part}
+use Rattle.yq_row_table.specs.Grammar.{Limit, unlimited, allows, limit_after_content, no_rows, ends_part}
 use Rattle.yq_row_table.specs.Slicing.{Begun, begun, borrowed_content, filled_at, holds_plain, limit_by, SlicedRow, sliced, row_of}
 use Rattle.yq_row_table.specs.Slicing.{marked_sliced, row_sliced, rows_sliced, inline_sliced, block_sliced}
 use Rattle.yq_row_table.specs.Reading.{Marks, read_marks, read_content, begins_block, read_tail, marked_row_at, row_at, gap_len, cut_gap}
 use Rattle.yq_row_table.{specs.Reading.{all_rows, read_cut_part}, specs.Rows.{Content, Nothing, Row, Part}}
 use Rattle.yq_row_table.{specs.View.{Slices, slices, slices_text}, proofs.BeginSteps.columns_from, proofs.RowLaws.{row_takes, row_shorter}}
-use Rattle.yq_row_table.proofs.RowsLaws.{behind_le, with_front, no_more, rows_from, rows_cut, rows_step, rows_refused, rows_done}
+use Rattle.yq_row_table.proofs.RowsLaws.{after_le, with_front, no_more, rows_from, rows_cut, rows_step, rows_refused, rows_done}
 use Rattle.yq_row_table.proofs.SliceLaws.{slices_are}
 
 -- what comes after a mark
@@ -27,7 +27,7 @@ unfolding read_content
 content_nothing n t s u read e block begins h = search rules
 
 -- what a row asks of the next one
-limit_is : (n : ℤ) (c : Content) → limit_behind n c ≡ limit_by n (holds_plain c)
+limit_is : (n : ℤ) (c : Content) → limit_after_content n c ≡ limit_by n (holds_plain c)
 limit_is n c = search rules
 
 row_is : (gap : List ℕ) (column : ℕ) (m : Marks) (x : Content × List ℕ) → sliced (record { gap = gap; column = column; dashes = m.0; mark = m.1; content = x.0 }, x.1) ≡ row_of gap column (begun m) (borrowed_content x)
@@ -43,11 +43,11 @@ row_slicing : (limit : Limit) (gap t indent rest : List ℕ) → (indent, rest) 
 unfolding row_at
 row_slicing limit gap t indent rest e ok = search (rules, marked_slicing)
 
-pub row_as : (limit : Limit) (gap t indent rest bytes : List ℕ) (stands : Bool) (b : Begun) (o : Option SlicedRow) →
-    (indent, rest) ≡ cut no_space t → bytes ≡ rest → stands ≡ (allows limit (length indent) && not (eqb (length indent) 0 && is_marker bytes)) →
-    stands ≡ true →
+pub row_as : (limit : Limit) (gap t indent rest bytes : List ℕ) (is_located : Bool) (b : Begun) (o : Option SlicedRow) →
+    (indent, rest) ≡ cut no_space t → bytes ≡ rest → is_located ≡ (allows limit (length indent) && not (eqb (length indent) 0 && is_marker bytes)) →
+    is_located ≡ true →
     b ≡ begun (read_marks rest) → marked_sliced gap (length indent) b ≡ o → row_sliced limit gap t ≡ o
-row_as limit gap t indent rest bytes stands b o e same may is marks read = search (rules, row_slicing)
+row_as limit gap t indent rest bytes is_located b o e same may is marks read = search (rules, row_slicing)
 
 -- rows after others
 sliced_front : (front : List Slices) (r : Row) (o : Option (Part × List ℕ)) → rows_sliced front (with_front (r ∷ []) o) ≡ rows_sliced (front ++ slices r ∷ []) o
@@ -90,7 +90,7 @@ pub gap_joined : (t g r : List ℕ) → (g, r) ≡ cut_gap t → t ≡ g ++ r
 gap_joined t g r e = subst (λ (y : List ℕ × List ℕ). t ≡ y.0 ++ y.1) (sym e) (sym (take-append-drop (gap_len t) t))
 
 cut_within : (t g r : List ℕ) → (g, r) ≡ cut_gap t → length r ≤ length t
-cut_within t g r e = subst (λ (y : List ℕ × List ℕ). length y.1 ≤ length t) (sym e) (behind_le t)
+cut_within t g r e = subst (λ (y : List ℕ × List ℕ). length y.1 ≤ length t) (sym e) (after_le t)
 
 pub row_joined : (limit next : Limit) (t g r : List ℕ) (s : Slices) (after : List ℕ) → (g, r) ≡ cut_gap t → row_sliced limit g r ≡ Some (s, next, after) → t ≡ slices_text s after
 row_joined limit next t g r s after e h = gap_joined t g r e ∙ row_spelled limit g r s next after h

@@ -6,8 +6,8 @@ use Rattle.yq_row_table.specs.Grammar.{Limit, limit_after, ends_part}
 use Rattle.yq_row_table.{specs.Reading.{gap_len, cut_gap, row_at, with_rows, rows_at, all_rows}, specs.Rows.{Row, Part}}
 use Rattle.yq_row_table.proofs.RowLaws.{row_shorter}
 
-pub behind_le : (t : List ℕ) → length (cut_gap t).1 ≤ length t
-behind_le t = omega (arith, length-drop (gap_len t) t)
+pub after_le : (t : List ℕ) → length (cut_gap t).1 ≤ length t
+after_le t = omega (arith, length-drop (gap_len t) t)
 
 -- rows before those that are read
 abbrev pub with_front : List Row → Option (Part × List ℕ) → Option (Part × List ℕ)
@@ -27,7 +27,7 @@ rows_fuel (suc n) (suc m) limit t a b =
     ap (λ o. cond (ends_part (cut_gap t).1) (no_more (cut_gap t)) o)
     (bind_same (then_rows n) (then_rows m) (row_at limit (cut_gap t).0 (cut_gap t).1) (λ x e.
     let short = row_shorter limit (cut_gap t).0 (cut_gap t).1 x e in
-    let less = behind_le t in
+    let less = after_le t in
     ap (with_front (x.0 ∷ [])) (rows_fuel n m (limit_after x.0) x.1 (omega arith) (omega arith))))
 rows_fuel _ _ limit t a b = absurd (omega arith)
 
@@ -42,7 +42,7 @@ rows_cut limit t =
     ap (λ o. cond (ends_part (cut_gap t).1) (no_more (cut_gap t)) o)
     (bind_same (then_rows (length t)) (λ row. with_front (row.0 ∷ []) (all_rows (limit_after row.0) row.1)) (row_at limit (cut_gap t).0 (cut_gap t).1) (λ x e.
     let short = row_shorter limit (cut_gap t).0 (cut_gap t).1 x e in
-    let less = behind_le t in
+    let less = after_le t in
     ap (with_front (x.0 ∷ [])) (rows_fuel (length t) (suc (length x.1)) (limit_after x.0) x.1 (omega arith) (omega arith))))
 
 pub rows_step : (limit : Limit) (gap t : List ℕ) (x : Row × List ℕ) → ends_part t ≡ false → row_at limit gap t ≡ Some x → rows_from limit gap t ≡ with_front (x.0 ∷ []) (rows_from (limit_after x.0) (cut_gap x.1).0 (cut_gap x.1).1)

@@ -4,7 +4,7 @@ use Rattle.std.{proofs.Common.rules, proofs.lemmas.Bool.false≢true, proofs.lem
 use Rattle.yq_core.{specs.Text.is_marker, proofs.Bools.{at_byte, bind_some, chosen}}
 use Rattle.yq_row_table.{specs.Gap.IsGap, specs.Grammar.{Limit, limit_after, AreRows, ends_part}}
 use Rattle.yq_row_table.specs.Reading.{gap_len, cut_gap, begins_gap, row_at, rows_at}
-use Rattle.yq_row_table.{specs.Rows.{Row, Part, part_text, behind_gap, print_row, rows_text}, proofs.Fronts.{Starts, starts_by}}
+use Rattle.yq_row_table.{specs.Rows.{Row, Part, part_text, following_gap, print_row, rows_text}, proofs.Fronts.{Starts, starts_by}}
 use Rattle.yq_row_table.{proofs.GapLaws.{gap_takes, gap_again}, proofs.RowAgain.{no_gap_line, row_no_gap, row_no_end, row_again}}
 use Rattle.yq_row_table.{proofs.RowLaws.{row_takes, row_longer, suffix_le}, proofs.RowsLaws.no_more}
 
@@ -54,7 +54,7 @@ rows_again rs limit end rest zero h ends short = absurd (omega arith)
 rows_again [] limit end rest (suc n) h ends short = search (rules, gap_again, end_no_gap, row_no_gap, row_longer, suffix_le, row_no_end, row_again)
 rows_again (r ∷ rs) limit end rest (suc n) h ends short =
     let t = rows_text rs (end ++ rest) in
-    let gap : cut_gap (print_row r t) ≡ (r.gap, behind_gap r t) = gap_again r.gap (behind_gap r t) (h.0.gap, row_no_gap limit r t h.0) in
+    let gap : cut_gap (print_row r t) ≡ (r.gap, following_gap r t) = gap_again r.gap (following_gap r t) (h.0.gap, row_no_gap limit r t h.0) in
     let longer = row_longer r t h.0.mark h.0.content in
-    let less = suffix_le r.gap (behind_gap r t) in
+    let less = suffix_le r.gap (following_gap r t) in
     search (rules, row_no_end, row_again, rows_again rs (limit_after r) end rest n h.1 ends (omega arith))

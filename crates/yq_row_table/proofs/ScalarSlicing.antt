@@ -31,12 +31,12 @@ pub scalar_none : (n : ℤ) (space t : List ℕ) → begins_other t ≡ false �
 unfolding inline_content_at
 scalar_none n space t h s e = rw (node_scalar (Some (deeper n)) depth_limit t h s) (rw e refl)
 
-pub scalar_no_tail : (n : ℤ) (space t p behind : List ℕ) → begins_other t ≡ false → begins_scalar false t ≡ true → read_scalar false (Some (deeper n)) t ≡ Some (p, behind) → read_tail behind ≡ None → inline_sliced n space t ≡ None
+pub scalar_no_tail : (n : ℤ) (space t p after : List ℕ) → begins_other t ≡ false → begins_scalar false t ≡ true → read_scalar false (Some (deeper n)) t ≡ Some (p, after) → read_tail after ≡ None → inline_sliced n space t ≡ None
 unfolding inline_content_at
-scalar_no_tail n space t p behind h s e f = rw (node_scalar (Some (deeper n)) depth_limit t h s) (rw e (rw f refl))
+scalar_no_tail n space t p after h s e f = rw (node_scalar (Some (deeper n)) depth_limit t h s) (rw e (rw f refl))
 
-pub scalar_some : (n : ℤ) (space t p behind tail rest : List ℕ) (plain alone : Bool) → begins_other t ≡ false → begins_scalar false t ≡ true → read_scalar false (Some (deeper n)) t ≡ Some (p, behind) → read_tail behind ≡ Some (tail, rest) →
+pub scalar_some : (n : ℤ) (space t p after tail rest : List ℕ) (plain alone : Bool) → begins_other t ≡ false → begins_scalar false t ≡ true → read_scalar false (Some (deeper n)) t ≡ Some (p, after) → read_tail after ≡ Some (tail, rest) →
     plain ≡ not (is_quoted p) → alone ≡ (is_empty space && true) →
     inline_sliced n space t ≡ Some (record { space = space; anchor = []; apart = []; head = p; tail = tail; raw = []; plain = plain; alone = alone; rest = rest })
 unfolding inline_content_at node_text
-scalar_some n space t p behind tail rest plain alone h s e f plain_is alone_is = rw (node_scalar (Some (deeper n)) depth_limit t h s) (rw e (rw f (rw (append-nil p, plain_is, alone_is) refl)))
+scalar_some n space t p after tail rest plain alone h s e f plain_is alone_is = rw (node_scalar (Some (deeper n)) depth_limit t h s) (rw e (rw f (rw (append-nil p, plain_is, alone_is) refl)))

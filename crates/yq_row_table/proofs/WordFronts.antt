@@ -37,22 +37,22 @@ unfolding upto
 row_gap t h = elim (or_cases (front is_word_byte t) (begins_with 45 t) h) [ inl w ↦ (search (rules, isnt)) | inr d ↦ (search rules) ]
 
 -- past the spaces in front, and past the white space after them
-past_behind : (t : List ℕ) → past_white (drop (prefix_len (λ b. eqb b 32) t) t) ≡ past_white t
-past_behind [] = refl
-past_behind (b ∷ l) = elim (cases_Bool (eqb b 32)) [
-  | inl e ↦ ap past_white (prefix_drop (λ x. eqb x 32) b l ∙ rw e refl) ∙ past_behind l ∙ sym (white_drop b l ∙ rw e refl)
+past_after : (t : List ℕ) → past_white (drop (prefix_len (λ b. eqb b 32) t) t) ≡ past_white t
+past_after [] = refl
+past_after (b ∷ l) = elim (cases_Bool (eqb b 32)) [
+  | inl e ↦ ap past_white (prefix_drop (λ x. eqb x 32) b l ∙ rw e refl) ∙ past_after l ∙ sym (white_drop b l ∙ rw e refl)
   | inr e ↦ ap past_white (prefix_drop (λ x. eqb x 32) b l ∙ rw e refl)
 ]
 
-pub behind_spaces : (t u : List ℕ) (n : ℕ) → n ≡ prefix_len (λ b. eqb b 32) t → u ≡ drop n t → past_white t ≡ past_white u
-behind_spaces t u n e back = sym (ap past_white (back ∙ ap (λ k. drop k t) e) ∙ past_behind t)
+pub without_spaces : (t u : List ℕ) (n : ℕ) → n ≡ prefix_len (λ b. eqb b 32) t → u ≡ drop n t → past_white t ≡ past_white u
+without_spaces t u n e back = sym (ap past_white (back ∙ ap (λ k. drop k t) e) ∙ past_after t)
 
 row_past : (t : List ℕ) → row_front t ≡ true → (ends_line (past_white t) || is_hash (past_white t)) ≡ false
 row_past [] h = absurd (false≢true h)
 row_past (b ∷ bs) h = row_gap (b ∷ bs) h
 
 pub indented_gap : (t u : List ℕ) (n : ℕ) → n ≡ prefix_len (λ b. eqb b 32) t → u ≡ drop n t → row_front u ≡ true → begins_gap t ≡ false
-indented_gap t u n e back h = search (rules, behind_spaces, and_right, row_past)
+indented_gap t u n e back h = search (rules, without_spaces, and_right, row_past)
 
 pub feed_tail : (t : List ℕ) → begins_with 10 t ≡ true → read_tail t ≡ Some (take 1 t, drop 1 t)
 unfolding read_tail upto line_len

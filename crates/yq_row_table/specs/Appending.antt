@@ -2,7 +2,7 @@
 use Rattle.std.specs.Prelude.{◌≡◌, ℕ, Bool, true, false, ◌&&◌, List, [], ◌++◌}
 use Rattle.yq_core.specs.Text.{is_break, is_empty, is_line}
 use Rattle.yq_row_table.{specs.Grammar.{IsPart, begins_document}, specs.Rows.{Row, Part, Cut, last, marked}}
-use Rattle.yq_row_table.{specs.Seams.{tail_behind, retail, is_block}, specs.Splices.{nth_part, behind_part, StandsBetween}}
+use Rattle.yq_row_table.{specs.Seams.{tail_after, retail, is_block}, specs.Splices.{nth_part, after_part, IsRowAmong}}
 
 -- a break and nothing else (YAML 1.2.2, section 5.4)
 abbrev pub is_one_break : List ℕ → Bool
@@ -10,19 +10,19 @@ is_one_break break = is_break break && is_line break
 
 -- a row with a break after its tail (own)
 abbrev pub closed_by : List ℕ → Row → Row
-closed_by break r = retail (tail_behind r.content ++ break) r
+closed_by break r = retail (tail_after r.content ++ break) r
 
 -- A row may get a break: it holds no block scalar, and its tail has none (own).
 pub record TakesBreak (r : Row) (break : List ℕ) : Type 0 where
   pub inline : is_block r.content ≡ false
-  pub bare : is_line (tail_behind r.content) ≡ false
+  pub bare : is_line (tail_after r.content) ≡ false
   pub break_is : is_one_break break ≡ true
 
 -- After these rows of part k is a row, and nothing after that (own).
 pub record IsLastRow (k : ℕ) (front : List Row) (r : Row) (c : Cut) : Type 0 where
-  pub row : StandsBetween k front r [] c
+  pub row : IsRowAmong k front r [] c
   pub end : (nth_part k c).end ≡ []
-  pub nothing : behind_part k c ≡ []
+  pub nothing : after_part k c ≡ []
 
 -- the line of the last marker of a text, if it has one (YAML 1.2.2, section 9.1)
 abbrev pub last_marker : Cut → List ℕ

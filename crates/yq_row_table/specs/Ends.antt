@@ -17,12 +17,12 @@ abbrev pub bounds_in : List ℕ → List declared.EndPlace → List Bound
 bounds_in whole ends = map (bound_in whole) ends
 
 -- what comes before the end of a part, its gap and the marker's line are in a text, each cut between characters (own)
-unfoldable pub EndStands : List ℕ → declared.EndPlace → Type 0
-EndStands whole e = AreCuts whole (e.start ∷ e.gap ∷ e.marker ∷ [])
+unfoldable pub EndIsLocated : List ℕ → declared.EndPlace → Type 0
+EndIsLocated whole e = AreCuts whole (e.start ∷ e.gap ∷ e.marker ∷ [])
 
 -- the same of several parts (own)
-abbrev pub EndsStand : List ℕ → List declared.EndPlace → Type 0
-EndsStand whole ends = All (EndStands whole) ends
+abbrev pub EndsAreLocated : List ℕ → List declared.EndPlace → Type 0
+EndsAreLocated whole ends = All (EndIsLocated whole) ends
 
 -- what comes after so many bytes of a text, in the half in which they end; where both meet there, in the second one (own)
 abbrev pub half_from : Halves → ℕ → List ℕ

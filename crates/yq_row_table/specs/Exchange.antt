@@ -48,14 +48,15 @@ before_content i (last p) = before_at i p.rows
 before_content i (marked p marker c) = if nat_lt i (length p.rows) then before_at i p.rows else part_text p (marker ++ before_content (i - length p.rows) c)
 
 -- the text of a cut after row i (own)
-abbrev pub behind_row : ℕ → Cut → List ℕ
-behind_row i (last p) = text_after_row i p.rows (p.end ++ [])
-behind_row i (marked p marker c) = if nat_lt i (length p.rows) then text_after_row i p.rows (p.end ++ (marker ++ cut_text c)) else behind_row (i - length p.rows) c
+abbrev pub after_row : ℕ → Cut → List ℕ
+after_row i (last p) = text_after_row i p.rows (p.end ++ [])
+after_row i (marked p marker c) =
+    if nat_lt i (length p.rows) then text_after_row i p.rows (p.end ++ (marker ++ cut_text c)) else after_row (i - length p.rows) c
 
 -- the rows of the same part after row i (own)
-abbrev pub rows_behind : ℕ → Cut → List Row
-rows_behind i (last p) = drop (suc i) p.rows
-rows_behind i (marked p marker c) = if nat_lt i (length p.rows) then drop (suc i) p.rows else rows_behind (i - length p.rows) c
+abbrev pub following_rows : ℕ → Cut → List Row
+following_rows i (last p) = drop (suc i) p.rows
+following_rows i (marked p marker c) = if nat_lt i (length p.rows) then drop (suc i) p.rows else following_rows (i - length p.rows) c
 
 -- the first of these rows, if there is one, may be where this is asked (own)
 abbrev pub allows_first : Limit → List Row → Bool
@@ -63,21 +64,21 @@ allows_first limit [] = true
 allows_first limit (r ∷ rs) = allows limit r.column
 
 -- what is asked after rows of which that was asked (own)
-abbrev pub asked_behind : Limit → List Row → Limit
-asked_behind limit [] = limit
-asked_behind limit (r ∷ rs) = asked_behind (limit_after r) rs
+abbrev pub asked_after : Limit → List Row → Limit
+asked_after limit [] = limit
+asked_after limit (r ∷ rs) = asked_after (limit_after r) rs
 
 -- What is asked of a content that is in the place of a row's, after a dash or a key: it is there, after it the next row of the part may
 -- are, and white space, a break or the end is in front of it (own).
-pub record FitsRow (new : Content) (r : Row) (rest : List ℕ) (behind : List Row) : Type 0 where
+pub record FitsRow (new : Content) (r : Row) (rest : List ℕ) (after : List Row) : Type 0 where
   pub entry : is_entry r.mark ≡ true
   pub content : IsContent (parent_indent r) new rest
   pub apart : separates (content_text new rest) ≡ true
-  pub next : allows_first (limit_after (with_content new r)) behind ≡ true
+  pub next : allows_first (limit_after (with_content new r)) after ≡ true
 
 -- A text of three pieces, of which the first two are whole characters, and so is what comes after them (own).
-pub record HasPieces (t before old behind : List ℕ) : Type 0 where
-  pub text : t ≡ before ++ (old ++ behind)
+pub record HasPieces (t before old after : List ℕ) : Type 0 where
+  pub text : t ≡ before ++ (old ++ after)
   pub start : IsCharBoundary t (length before)
   pub end : IsCharBoundary t (length before + length old)
   pub before_utf8 : IsUtf8 before

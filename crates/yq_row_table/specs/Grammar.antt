@@ -7,8 +7,8 @@ use Rattle.yq_core.specs.Nodes.{FlowNode, empty, alias, scalar, coll, anchored, 
 use Rattle.yq_core.specs.Scalars.{IsScalarAt, is_quoted}
 use Rattle.yq_text.specs.Limit.{text_limit}
 use Rattle.yq_row_table.specs.Gap.{IsWhite, IsLineEnd, IsGap}
-use Rattle.yq_row_table.specs.Rows.{RowMark, Bare, Dash, Key, Anchor, Content, Nothing, Inline, content_text, Row, behind_indent}
-use Rattle.yq_row_table.specs.Rows.{behind_gap, parent_indent, rows_text, Part, Cut, last, marked, cut_text}
+use Rattle.yq_row_table.specs.Rows.{RowMark, Bare, Dash, Key, Anchor, Content, Nothing, Inline, content_text, Row, after_indent}
+use Rattle.yq_row_table.specs.Rows.{following_gap, parent_indent, rows_text, Part, Cut, last, marked, cut_text}
 use Rattle.yq_row_table.specs.Rows as rows
 
 -- white space and the `:` of a key, before white space, a break or the end (YAML 1.2.2, section 8.2.2)
@@ -101,20 +101,20 @@ is_plain_content (coll close gap items) = false
 is_plain_content (anchored name gap node) = is_plain_content node
 
 -- after a plain scalar the next row is indented by no more than the scalar's parent (YAML 1.2.2, section 7.3.3; own)
-abbrev pub limit_behind : ℤ → Content → Limit
-limit_behind n (Nothing tail) = unlimited
-limit_behind n (Inline space node tail) = if is_plain_content node then record { column = Some (deeper n) } else unlimited
-limit_behind n (rows.Block space anchor block) = unlimited
+abbrev pub limit_after_content : ℤ → Content → Limit
+limit_after_content n (Nothing tail) = unlimited
+limit_after_content n (Inline space node tail) = if is_plain_content node then record { column = Some (deeper n) } else unlimited
+limit_after_content n (rows.Block space anchor block) = unlimited
 
 -- what a row asks of the next one (own)
 abbrev pub limit_after : Row → Limit
-limit_after r = limit_behind (parent_indent r) r.content
+limit_after r = limit_after_content (parent_indent r) r.content
 
 -- A row, of which a limit was asked, before a rest; it doesn't begin with a document marker in column 0 (YAML 1.2.2, sections 8.2 and 9.1.2; own).
 pub record IsRow (limit : Limit) (r : Row) (rest : List ℕ) : Type 0 where
-  pub gap : IsGap r.gap (behind_gap r rest)
+  pub gap : IsGap r.gap (following_gap r rest)
   pub allowed : allows limit r.column ≡ true
-  pub unmarked : (r.column == 0 && is_marker (behind_indent r rest)) ≡ false
+  pub unmarked : (r.column == 0 && is_marker (after_indent r rest)) ≡ false
   pub dashes : AreDashes r.dashes r.mark
   pub mark : IsMark r.mark r.content rest
   pub content : IsContent (parent_indent r) r.content rest

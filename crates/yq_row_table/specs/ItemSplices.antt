@@ -10,10 +10,10 @@ items_before zero i (marked p marker c) = rows_items (take i p.rows) []
 items_before (suc k) i (marked p marker c) = rows_items p.rows (end_item p.end marker ∷ items_before k i c)
 
 -- the line of the marker after part k, if there is one (own)
-abbrev pub marker_behind : ℕ → Cut → List ℕ
-marker_behind k (last p) = []
-marker_behind zero (marked p marker c) = marker
-marker_behind (suc k) (marked p marker c) = marker_behind k c
+abbrev pub marker_after : ℕ → Cut → List ℕ
+marker_after k (last p) = []
+marker_after zero (marked p marker c) = marker
+marker_after (suc k) (marked p marker c) = marker_after k c
 
 -- the first item of rows and of the end after them (own)
 abbrev pub first_item : List Row → (gap marker : List ℕ) → Item
@@ -29,5 +29,7 @@ regapped gap (r ∷ rs) marker = row_item (with_row_gap gap r)
 -- them, whose gap that is, are replaced, and all others stay (own).
 pub record SplicedItems (k i j : ℕ) (new : List Row) (gap : List ℕ) (c : Cut) : Type 0 where
   pub back : List Item
-  pub old : items_of_cut c ≡ items_before k i c ++ (rows_items (rows_between k i j c) (first_item (back_rows k j c) (nth_part k c).end (marker_behind k c) ∷ []) ++ back)
-  pub new_items : items_of_cut (splice k i j new gap c) ≡ items_before k i c ++ (rows_items new (regapped gap (back_rows k j c) (marker_behind k c) ∷ []) ++ back)
+  pub old : items_of_cut c ≡
+      items_before k i c ++ (rows_items (rows_between k i j c) (first_item (back_rows k j c) (nth_part k c).end (marker_after k c) ∷ []) ++ back)
+  pub new_items : items_of_cut (splice k i j new gap c) ≡
+      items_before k i c ++ (rows_items new (regapped gap (back_rows k j c) (marker_after k c) ∷ []) ++ back)

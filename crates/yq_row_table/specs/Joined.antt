@@ -1,7 +1,7 @@
 -- Rows joined from pieces of two, where collections are compact (YAML 1.2.2, section 8.2.1).
 use Rattle.std.specs.Prelude.{◌≡◌, ℕ, suc, ◌+◌, ◌≤◌, pos, true, false, List, ◌∷◌, ◌++◌}
 use Rattle.yq_core.specs.Text.{is_empty, separates}
-use Rattle.yq_row_table.{specs.Grammar.{IsContent, is_entry}, specs.Rows.{Dash, Content, content_text, Row, behind_columns, mark_column}}
+use Rattle.yq_row_table.{specs.Grammar.{IsContent, is_entry}, specs.Rows.{Dash, Content, content_text, Row, after_columns, mark_column}}
 
 -- The row in which what comes after the dashes of a row is what comes after the indentation of another one (own).
 abbrev pub joined_row : Row → Row → Row
@@ -21,7 +21,7 @@ dashed_row dashes new r = record { gap = r.gap; column = r.column; dashes = dash
 -- A content may come after that dash of a row, before a rest: the row has a dash there, and it is apart (YAML 1.2.2, section 8.2.1; own).
 pub record DashFits (r : Row) (dashes : List ℕ) (n : ℕ) (more : List ℕ) (new : Content) (rest : List ℕ) : Type 0 where
   pub dash : r.dashes ≡ dashes ++ (n ∷ more)
-  pub content : IsContent (pos (behind_columns r.column dashes)) new rest
+  pub content : IsContent (pos (after_columns r.column dashes)) new rest
   pub apart : separates (content_text new rest) ≡ true
 
 -- The row in which after the dash of a row, and n spaces, is what is after the indentation of another one (own).

@@ -59,43 +59,43 @@ moved_end rows start e = record e { rows = rows; start = start }
 
 -- the rows in front of the split and those after it, as they are kept (own)
 abbrev pub kept_rows : Places → List declared.Offsets
-kept_rows p = p.front.items ++ reverse p.behind.items
+kept_rows p = p.front.items ++ reverse p.after.items
 
 -- the same by their places in a text of so many bytes (own)
 abbrev pub placed_rows : ℕ → Places → List declared.Offsets
-placed_rows n p = p.front.items ++ map (row_from_end n) (reverse p.behind.items)
+placed_rows n p = p.front.items ++ map (row_from_end n) (reverse p.after.items)
 
 -- Rows and ends of parts are kept where those of items in front of the split and after it are, one after the other, whose pieces are characters (own).
-pub record ArePlaced (p : Places) (before behind : List Item) : Type 0 where
+pub record ArePlaced (p : Places) (before after : List Item) : Type 0 where
   pub split_is : p.split ≡ length (items_text before [])
   pub front_are : p.front.items ≡ near 0 before
-  pub behind_are : reverse p.behind.items ≡ far behind
-  pub ends_are : p.ends ≡ ends_near 0 0 (before ++ behind)
-  pub texts : TextsIn (before ++ behind)
-  pub small : length (items_text (before ++ behind) []) < 2 ^ 32
+  pub after_are : reverse p.after.items ≡ far after
+  pub ends_are : p.ends ≡ ends_near 0 0 (before ++ after)
+  pub texts : TextsIn (before ++ after)
+  pub small : length (items_text (before ++ after) []) < 2 ^ 32
 
 -- These are the rows and ends of a text that are kept so (own).
 pub record IsPlaced (p : Places) (s : RowsView) : Type 0 where
   pub before : List Item
-  pub behind : List Item
-  pub placed : ArePlaced p before behind
-  pub rows_view_is : s ≡ view_of_items (before ++ behind)
+  pub after : List Item
+  pub placed : ArePlaced p before after
+  pub rows_view_is : s ≡ view_of_items (before ++ after)
 
 -- Rows and ends of parts are kept where those of the two halves of a text are (own).
 pub record HavePlaces (text : Halves) (p : Places) : Type 0 where
   pub before : List Item
-  pub behind : List Item
-  pub placed : ArePlaced p before behind
+  pub after : List Item
+  pub placed : ArePlaced p before after
   pub front_is : text.front.now ≡ items_text before []
-  pub back_is : text.back.now ≡ items_text behind []
+  pub back_is : text.back.now ≡ items_text after []
 
 -- the pieces of a row after the split, in the second half of the text (own)
-abbrev pub slices_behind : List ℕ → declared.Offsets → Slices
-slices_behind back o = pieces_of (drop (length back - o.start) back) o
+abbrev pub slices_after : List ℕ → declared.Offsets → Slices
+slices_after back o = pieces_of (drop (length back - o.start) back) o
 
 -- rows and ends of parts, by where they are kept, of a text in two halves (own)
 abbrev pub halves_view : Halves → Places → RowsView
 halves_view text p = record {
-  rows = rows_in text.front.now p.front.items ++ map (slices_behind text.back.now) (reverse p.behind.items);
+  rows = rows_in text.front.now p.front.items ++ map (slices_after text.back.now) (reverse p.after.items);
   bounds = bounds_in_halves text p.ends;
 }

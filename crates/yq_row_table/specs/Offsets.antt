@@ -63,8 +63,8 @@ abbrev pub IsCutIn : List ℕ → declared.Offsets → Type 0
 IsCutIn whole o = AreCuts whole (o.start ∷ lengths o)
 
 -- the same of several rows (own)
-abbrev pub Stand : List ℕ → List declared.Offsets → Type 0
-Stand whole offsets = All (IsCutIn whole) offsets
+abbrev pub AreRowsIn : List ℕ → List declared.Offsets → Type 0
+AreRowsIn whole offsets = All (IsCutIn whole) offsets
 
 -- the pieces of a row tell the parent indentation of what comes after its mark (own)
 abbrev pub ParentAgrees : Slices → Type 0
@@ -87,7 +87,8 @@ pub record AreTexts (s : Slices) : Type 0 where
 -- how long a row is (own)
 abbrev pub row_length : Slices → ℕ
 row_length s =
-    length s.gap + (s.column + (length s.dashes + (length s.key + (length s.colon + (length s.space + (length s.anchor + (length s.apart + (length s.head + (length s.tail + length s.raw)))))))))
+    length s.gap + (s.column + (length s.dashes + (length s.key + (length s.colon
+    + (length s.space + (length s.anchor + (length s.apart + (length s.head + (length s.tail + length s.raw)))))))))
 
 -- a row that begins after so many bytes, by its lengths (own)
 abbrev pub offsets_of : ℕ → Slices → declared.Offsets

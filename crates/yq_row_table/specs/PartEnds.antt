@@ -16,8 +16,8 @@ abbrev pub both_shifts : Shift → Shift → Shift
 both_shifts a b = record { rows = (a.rows + b.rows) % 2 ^ 64; bytes = (a.bytes + b.bytes) % 2 ^ 32 }
 
 -- ends in front of a split, and those after it, the last one first, which are to be shifted (own)
-abbrev pub both_ends : Shift → (front behind : List EndPlace) → List EndPlace
-both_ends by front behind = front ++ map (shifted by) (reverse behind)
+abbrev pub both_ends : Shift → (front after : List EndPlace) → List EndPlace
+both_ends by front after = front ++ map (shifted by) (reverse after)
 
 -- how many rows or bytes come before the end of a part (own)
 abbrev pub measure_of : Measure → EndPlace → ℕ

@@ -8,7 +8,7 @@ use Rattle.yq_core.{specs.Nodes.{begins_with, in_name, begins_node}, specs.Readi
 use Rattle.yq_core.specs.FitKeys.{key_limit}
 use Rattle.yq_text.specs.Limit.{text_limit}
 use Rattle.yq_row_table.specs.Grammar.{is_entry, may_be_alone, Limit, unlimited, allows, limit_after, no_rows, begins_document, ends_part}
-use Rattle.yq_row_table.specs.Rows.{RowMark, Bare, Dash, Key, Anchor, Content, Nothing, Inline, Block, Row, behind_columns, parent_of, Part}
+use Rattle.yq_row_table.specs.Rows.{RowMark, Bare, Dash, Key, Anchor, Content, Nothing, Inline, Block, Row, after_columns, parent_of, Part}
 use Rattle.yq_row_table.specs.Rows.{Cut, last, marked}
 
 -- a blank line or a comment line in front (own)
@@ -149,7 +149,7 @@ fits mark content = is_entry mark || may_be_alone content
 -- a row after its gap and indentation, whose marks were read, and what follows (own)
 unfoldable pub marked_row_at : List ℕ → ℕ → Marks → Option (Row × List ℕ)
 marked_row_at gap column m = do
-  content ← read_content (parent_of m.1 (behind_columns column m.0)) m.2
+  content ← read_content (parent_of m.1 (after_columns column m.0)) m.2
   if fits m.1 content.0 then Some (record { gap = gap; column = column; dashes = m.0; mark = m.1; content = content.0 }, content.1) else None
 
 -- a row after its gap, and what follows (own)

@@ -9,7 +9,7 @@ no_items [] = true
 no_items (x ∷ xs) = false
 
 -- These items are in the cut of a text, after some and before others; one of the two last lists isn't empty (own).
-pub record StandIn (xs back : List Item) : Type 0 where
+pub record AreItemsIn (xs back : List Item) : Type 0 where
   pub text : List ℕ
   pub cut : Cut
   pub is_cut : IsCut text cut

@@ -37,9 +37,9 @@ next_column [] = 0
 next_column (r ∷ rs) = r.column
 
 -- A column is less than the indentation of a block scalar's text, if there is one (own).
-abbrev pub StandsLess : Option BlockText → (column : ℕ) → Type 0
-StandsLess None column = Unit {0}
-StandsLess (Some b) column = column < b.indent.columns
+abbrev pub IsLessDeep : Option BlockText → (column : ℕ) → Type 0
+IsLessDeep None column = Unit {0}
+IsLessDeep (Some b) column = column < b.indent.columns
 
 -- the gap where rows from i up to j of a part are taken away, and these lines of the gap before them stay (own)
 abbrev pub removed_gap : (i j : ℕ) → (kept : List (List ℕ)) → Part → List ℕ
@@ -55,4 +55,4 @@ pub record RepairFits (k i j : ℕ) (kept run : List (List ℕ)) (c : Cut) : Typ
   pub some : no_rows (back_rows k i c) ≡ false
   pub lines : text_lines (gap_before k i c) ≡ kept ++ run
   pub next : allows_first (asked_at k i c) (back_rows k j c) ≡ true
-  pub less : StandsLess (last_block (front_rows k i c)) (next_column (back_rows k j c))
+  pub less : IsLessDeep (last_block (front_rows k i c)) (next_column (back_rows k j c))

@@ -53,20 +53,20 @@ content_text (Inline space node tail) rest = space ++ node_text node (tail ++ re
 content_text (Block space anchor block) rest = space ++ anchor_text anchor (block_text block rest)
 
 -- what comes after a row's dashes, before a rest (own)
-abbrev pub behind_dashes : Row → List ℕ → List ℕ
-behind_dashes r rest = mark_text r.mark (content_text r.content rest)
+abbrev pub after_dashes : Row → List ℕ → List ℕ
+after_dashes r rest = mark_text r.mark (content_text r.content rest)
 
 -- what comes after a row's indentation, before a rest (own)
-abbrev pub behind_indent : Row → List ℕ → List ℕ
-behind_indent r rest = dashes_text r.dashes (behind_dashes r rest)
+abbrev pub after_indent : Row → List ℕ → List ℕ
+after_indent r rest = dashes_text r.dashes (after_dashes r rest)
 
 -- what comes after a row's gap, before a rest (own)
-abbrev pub behind_gap : Row → List ℕ → List ℕ
-behind_gap r rest = replicate r.column 32 ++ behind_indent r rest
+abbrev pub following_gap : Row → List ℕ → List ℕ
+following_gap r rest = replicate r.column 32 ++ after_indent r rest
 
 -- the text of a row, before a rest (own)
 abbrev pub print_row : Row → List ℕ → List ℕ
-print_row r rest = r.gap ++ behind_gap r rest
+print_row r rest = r.gap ++ following_gap r rest
 
 -- the text of rows, before a rest (own)
 abbrev pub rows_text : List Row → List ℕ → List ℕ
@@ -74,13 +74,13 @@ rows_text [] rest = rest
 rows_text (r ∷ rs) rest = print_row r (rows_text rs rest)
 
 -- the column after dashes that begin at a column (own)
-abbrev pub behind_columns : ℕ → List ℕ → ℕ
-behind_columns column [] = column
-behind_columns column (n ∷ ns) = behind_columns (suc (column + n)) ns
+abbrev pub after_columns : ℕ → List ℕ → ℕ
+after_columns column [] = column
+after_columns column (n ∷ ns) = after_columns (suc (column + n)) ns
 
 -- the column of a row's mark (own)
 abbrev pub mark_column : Row → ℕ
-mark_column r = behind_columns r.column r.dashes
+mark_column r = after_columns r.column r.dashes
 
 -- one column less, from -1 on (own)
 abbrev pub before_column : ℕ → ℤ

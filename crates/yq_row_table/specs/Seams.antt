@@ -2,7 +2,7 @@
 use Rattle.std.specs.Prelude.{◌≡◌, ℕ, ℤ, Bool, true, false, ◌||◌, List, [], ◌∷◌, ◌++◌, Some, if◌then◌else◌}
 use Rattle.yq_core.{specs.Block.{ends_block, keeps}, specs.Piece.deeper, specs.Plain.ends_plain, specs.Text.{is_empty, is_line, text_lines}}
 use Rattle.yq_core.specs.Alike.{Alike}
-use Rattle.yq_row_table.specs.Exchange.{asked_behind, with_content}
+use Rattle.yq_row_table.specs.Exchange.{asked_after, with_content}
 use Rattle.yq_row_table.specs.Grammar.{IsTail, is_plain_content, IsRow, Limit, AreRows, no_rows, ends_part}
 use Rattle.yq_row_table.specs.Rows.{Content, Nothing, Inline, Block, Row, print_row, rows_text}
 
@@ -25,7 +25,7 @@ are_seamed (r ∷ rs) rest = if no_rows rs then is_seam r.content rest else are_
 -- Rows with a gap may come after others, of which a limit was asked: they begin where those allow, their text may be there, and after them the
 -- part ends (own).
 pub record MayFollowRows (limit : Limit) (front new : List Row) (end rest : List ℕ) : Type 0 where
-  pub rows : AreRows (asked_behind limit front) new end rest
+  pub rows : AreRows (asked_after limit front) new end rest
   pub seam : are_seamed front (rows_text new (end ++ rest)) ≡ true
   pub ends : ends_part rest ≡ true
 
@@ -35,10 +35,10 @@ pub record TakesPlace (limit : Limit) (r : Row) (t : List ℕ) (s : Row) (u : Li
   pub alike : Alike (Some false) (print_row r t) (print_row s u)
 
 -- the tail after a content; a block scalar has none (YAML 1.2.2, section 6.6)
-abbrev pub tail_behind : Content → List ℕ
-tail_behind (Nothing tail) = tail
-tail_behind (Inline space node tail) = tail
-tail_behind (Block space anchor block) = []
+abbrev pub tail_after : Content → List ℕ
+tail_after (Nothing tail) = tail
+tail_after (Inline space node tail) = tail
+tail_after (Block space anchor block) = []
 
 -- a content with another tail; a block scalar has none after it (own)
 abbrev pub with_tail : List ℕ → Content → Content
@@ -71,4 +71,4 @@ ends_in_block (r ∷ rs) = if no_rows rs then is_block r.content else ends_in_bl
 -- the last of these rows has a break after its tail (own)
 abbrev pub ends_in_line : List Row → Bool
 ends_in_line [] = true
-ends_in_line (r ∷ rs) = if no_rows rs then is_line (tail_behind r.content) else ends_in_line rs
+ends_in_line (r ∷ rs) = if no_rows rs then is_line (tail_after r.content) else ends_in_line rs

@@ -6,7 +6,7 @@ use Rattle.yq_core.{specs.declared.style.Style.Style, specs.Nodes.{begins_with, 
 use Rattle.yq_core.specs.Places.{Placed, placed, nothing, name, text, sequence, mapping, bare_in, CoreNode as PlacedNode}
 use Rattle.yq_row_table.specs.Grammar.{Limit, unlimited, limit_after, is_entry, is_plain_content, may_be_alone}
 use Rattle.yq_row_table.specs.Reading.{Marks, block_content_at, inline_content_at, read_content, row_at}
-use Rattle.yq_row_table.specs.Rows.{RowMark, Content, Nothing, Inline, Block, Row, dashes_text, behind_columns, parent_of, Part, Cut}
+use Rattle.yq_row_table.specs.Rows.{RowMark, Content, Nothing, Inline, Block, Row, dashes_text, after_columns, parent_of, Part, Cut}
 use Rattle.yq_row_table.specs.View.{Slices, Bound, RowsView, last_dash, key_of_mark, colon_of, content_cut, slices, rows_of, bounds_from}
 use Rattle.yq_row_table.specs.View.{rows_view}
 use Rattle.yq_core.specs.declared.style.Style.TheVariants as styles
@@ -20,7 +20,7 @@ pub record Begun : Type 0 where
 
 -- dashes and the mark that were read, as the code lends them (own)
 abbrev pub begun : Marks → Begun
-begun m = record { dashes = dashes_text m.0 (last_dash m.1); columns = behind_columns 0 m.0; mark = m.1; rest = m.2 }
+begun m = record { dashes = dashes_text m.0 (last_dash m.1); columns = after_columns 0 m.0; mark = m.1; rest = m.2 }
 
 -- dashes before those that are read (own)
 abbrev pub with_dashes : List ℕ → Begun → Begun
@@ -109,12 +109,12 @@ abbrev pub SlicedPart : Type 0
 SlicedPart = List Slices × List ℕ × List ℕ
 
 -- the rows of a part after others, its gap, and what follows (own)
-abbrev pub part_behind : List Slices → Part × List ℕ → SlicedPart
-part_behind rows x = (rows ++ map slices x.0.rows, x.0.end, x.1)
+abbrev pub following_part : List Slices → Part × List ℕ → SlicedPart
+following_part rows x = (rows ++ map slices x.0.rows, x.0.end, x.1)
 
 -- the same, if there is one (own)
 abbrev pub rows_sliced : List Slices → Option (Part × List ℕ) → Option SlicedPart
-rows_sliced rows read = read >>= λ x. Some (part_behind rows x)
+rows_sliced rows read = read >>= λ x. Some (following_part rows x)
 
 -- how long an anchor in front is with its `&` (own)
 abbrev pub anchor_len : List ℕ → ℕ
@@ -173,9 +173,9 @@ abbrev pub block_sliced : ℤ → List ℕ → List ℕ → Option Filled
 block_sliced n space t = block_content_at n space t >>= λ x. Some (borrowed_content x)
 
 -- parts after rows and bounds (own)
-abbrev pub behind_parts : List Slices → List Bound → Cut → RowsView
-behind_parts rows bounds c = record { rows = rows ++ map slices (rows_of c); bounds = bounds ++ bounds_from (length rows) c }
+abbrev pub after_parts : List Slices → List Bound → Cut → RowsView
+after_parts rows bounds c = record { rows = rows ++ map slices (rows_of c); bounds = bounds ++ bounds_from (length rows) c }
 
 -- the same, if there are any (own)
 abbrev pub parts_sliced : List Slices → List Bound → Option Cut → Option RowsView
-parts_sliced rows bounds read = read >>= λ c. Some (behind_parts rows bounds c)
+parts_sliced rows bounds read = read >>= λ c. Some (after_parts rows bounds c)

@@ -2,8 +2,8 @@
 use Rattle.std.specs.Prelude.{◌≡◌, ◌≤◌, ℕ, zero, suc, Bool, true, List, [], ◌∷◌, ◌++◌, length, take, drop}
 use Rattle.yq_core.specs.Characters.{is_text}
 use Rattle.yq_text.specs.Limit.{text_limit}
-use Rattle.yq_row_table.{specs.Exchange.asked_behind, specs.Grammar.{Limit, unlimited, begins_document, IsCut}}
-use Rattle.yq_row_table.specs.Rows.{Row, behind_gap, rows_text, Part, part_text, Cut, last, marked, cut_text}
+use Rattle.yq_row_table.{specs.Exchange.asked_after, specs.Grammar.{Limit, unlimited, begins_document, IsCut}}
+use Rattle.yq_row_table.specs.Rows.{Row, following_gap, rows_text, Part, part_text, Cut, last, marked, cut_text}
 
 -- a row with another gap (own)
 abbrev pub with_row_gap : List ℕ → Row → Row
@@ -25,9 +25,9 @@ first_gap [] end = end
 first_gap (r ∷ rs) end = r.gap
 
 -- what comes after the gap in front of rows (own)
-abbrev pub behind_first : List Row → List ℕ → List ℕ → List ℕ
-behind_first [] end rest = rest
-behind_first (r ∷ rs) end rest = behind_gap r (rows_text rs (end ++ rest))
+abbrev pub after_first : List Row → List ℕ → List ℕ → List ℕ
+after_first [] end rest = rest
+after_first (r ∷ rs) end rest = following_gap r (rows_text rs (end ++ rest))
 
 -- a part, whose rows from i up to j are others, with this gap after them (own)
 abbrev pub splice_part : (i j : ℕ) → List Row → List ℕ → Part → Part
@@ -46,10 +46,10 @@ nth_part zero (marked p marker c) = p
 nth_part (suc k) (marked p marker c) = nth_part k c
 
 -- the text after that part (own)
-abbrev pub behind_part : ℕ → Cut → List ℕ
-behind_part k (last p) = []
-behind_part zero (marked p marker c) = marker ++ cut_text c
-behind_part (suc k) (marked p marker c) = behind_part k c
+abbrev pub after_part : ℕ → Cut → List ℕ
+after_part k (last p) = []
+after_part zero (marked p marker c) = marker ++ cut_text c
+after_part (suc k) (marked p marker c) = after_part k c
 
 -- the marker before that part; before the first one is this text (own)
 abbrev pub marker_before : List ℕ → ℕ → Cut → List ℕ
@@ -81,7 +81,7 @@ gap_before k j c = first_gap (back_rows k j c) (nth_part k c).end
 
 -- what the rows of part k before row i ask of the next one (own)
 abbrev pub asked_at : (k i : ℕ) → Cut → Limit
-asked_at k i c = asked_behind unlimited (front_rows k i c)
+asked_at k i c = asked_after unlimited (front_rows k i c)
 
 -- the text of a cut before row i of part k (own)
 abbrev pub before_rows : (k i : ℕ) → Cut → List ℕ
@@ -90,16 +90,16 @@ before_rows zero i (marked p marker c) = rows_text (take i p.rows) []
 before_rows (suc k) i (marked p marker c) = part_text p (marker ++ before_rows k i c)
 
 -- the text of a cut after the gap before row j of part k (own)
-abbrev pub behind_rows : (k j : ℕ) → Cut → List ℕ
-behind_rows k j c = behind_first (back_rows k j c) (nth_part k c).end (behind_part k c)
+abbrev pub after_rows : (k j : ℕ) → Cut → List ℕ
+after_rows k j c = after_first (back_rows k j c) (nth_part k c).end (after_part k c)
 
 -- a row of part k is between the rows before it and those after it (own)
-abbrev pub StandsBetween : (k : ℕ) → List Row → Row → List Row → Cut → Type 0
-StandsBetween k front r back c = (nth_part k c).rows ≡ front ++ (r ∷ back)
+abbrev pub IsRowAmong : (k : ℕ) → List Row → Row → List Row → Cut → Type 0
+IsRowAmong k front r back c = (nth_part k c).rows ≡ front ++ (r ∷ back)
 
 -- the text of a cut after a row of part k, where these rows of the part are after it (own)
-abbrev pub rest_behind : (k : ℕ) → List Row → Cut → List ℕ
-rest_behind k back c = rows_text back ((nth_part k c).end ++ behind_part k c)
+abbrev pub following_rest : (k : ℕ) → List Row → Cut → List ℕ
+following_rest k back c = rows_text back ((nth_part k c).end ++ after_part k c)
 
 -- a cut, in which rows, with a gap after them, are in the place of the row after these in part k (own)
 abbrev pub replace_row : (k : ℕ) → List Row → List Row → List ℕ → Cut → Cut

@@ -8,9 +8,9 @@ item_text (row_item r) = print_row r []
 item_text (end_item gap marker) = gap ++ marker
 
 -- the items that end in front of an offset of their text (own)
-abbrev pub in_front : ℕ → List Item → List Item
-in_front n [] = []
-in_front n (i ∷ is) = if nat_lt (length (item_text i)) n then i ∷ in_front (n - length (item_text i)) is else []
+abbrev pub before_offset : ℕ → List Item → List Item
+before_offset n [] = []
+before_offset n (i ∷ is) = if nat_lt (length (item_text i)) n then i ∷ before_offset (n - length (item_text i)) is else []
 
 -- the items that begin after the place that is so many bytes in front of the end of their text (own)
 abbrev pub in_back : ℕ → List Item → List Item
@@ -22,7 +22,7 @@ in_back n (i ∷ is) = if nat_lt (length (items_text (i ∷ is) [])) n then i �
 pub record TouchesOnly (front_kept back_kept : ℕ) (c new : Cut) : Type 0 where
   pub touched : List Item
   pub written : List Item
-  pub old_are : items_of_cut c ≡ in_front front_kept (items_of_cut c) ++ (touched ++ in_back back_kept (items_of_cut c))
-  pub new_are : items_of_cut new ≡ in_front front_kept (items_of_cut c) ++ (written ++ in_back back_kept (items_of_cut c))
-  pub front_same : in_front front_kept (items_of_cut new) ≡ in_front front_kept (items_of_cut c)
+  pub old_are : items_of_cut c ≡ before_offset front_kept (items_of_cut c) ++ (touched ++ in_back back_kept (items_of_cut c))
+  pub new_are : items_of_cut new ≡ before_offset front_kept (items_of_cut c) ++ (written ++ in_back back_kept (items_of_cut c))
+  pub front_same : before_offset front_kept (items_of_cut new) ≡ before_offset front_kept (items_of_cut c)
   pub back_same : in_back back_kept (items_of_cut new) ≡ in_back back_kept (items_of_cut c)

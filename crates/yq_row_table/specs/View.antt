@@ -63,7 +63,8 @@ apart_of (Some a) = a.gap
 abbrev pub content_cut : Content → List ℕ × List ℕ × List ℕ × List ℕ × List ℕ × List ℕ
 content_cut (Nothing tail) = ([], [], [], [], tail, [])
 content_cut (Inline space node tail) = (space, (anchor_cut node).0, (anchor_cut node).1, (anchor_cut node).2, tail, [])
-content_cut (Block space anchor block) = (space, anchor_with_sign anchor, apart_of anchor, style_indicator block.style ∷ block.indicators, block.tail, joined block.raw)
+content_cut (Block space anchor block) =
+    (space, anchor_with_sign anchor, apart_of anchor, style_indicator block.style ∷ block.indicators, block.tail, joined block.raw)
 
 -- the pieces of a row as texts (own)
 abbrev pub slices : Row → Slices

@@ -28,10 +28,10 @@ fn columns_at(least: usize, digit: Option<u8>, raw: &str) -> Option<usize>
 pub(crate) fn block_numbers_of(head: &str, raw: &str, parent: i64) -> Option<(bool, usize)>
     ensures { option_map (λ b. (b.0, b.1)) result ≡ spec.block_numbers_of parent head.now raw.now }
 {
-    let [b'|' | b'>', behind @ ..] = head.as_bytes() else {
+    let [b'|' | b'>', after @ ..] = head.as_bytes() else {
         return None;
     };
-    let (digit, chomping, _) = split_indicators(behind);
+    let (digit, chomping, _) = split_indicators(after);
     let least = further_spaces(Place::Block, parent)?;
     let columns = columns_at(least, digit, raw)?;
     Some((keeps(chomping), columns))

@@ -149,7 +149,7 @@ impl EndPlace {
 pub fn end_of(whole: &str, rows: usize, end: &str, marker: &str, rest: &str) -> EndPlace
     requires small { length whole.now < 2 ^ 32 }
     requires ends { Ends (end.now ++ (marker.now ++ rest.now)) whole.now }
-    ensures stands { spec.EndStands whole.now result }
+    ensures is_located { spec.EndIsLocated whole.now result }
     ensures same { spec.bound_in whole.now result ≡
         record { rows = rows; end = end.now; marker = marker.now } }
     ensures place { result ≡ spec.end_at (length whole.now - length

@@ -14,7 +14,7 @@ pub struct PartEnds {
     /// Those in front of the split.
     front: Vec<EndPlace>,
     /// Those after it, the last one first, each as it is before the shift.
-    behind: Vec<EndPlace>,
+    after: Vec<EndPlace>,
     shift: Shift,
 }
 
@@ -25,24 +25,24 @@ impl Model for PartEnds {
 
     ghost Value = { List EndPlace };
 
-    ghost view = { λ e. both_ends e.shift e.front.items e.behind.items };
+    ghost view = { λ e. both_ends e.shift e.front.items e.after.items };
 }
 
 /// Moves ends to the other side of the split, until no more than so many are in front of it.
-fn to_behind(
+fn to_after(
     front: &mut Vec<EndPlace>,
-    behind: &mut Vec<EndPlace>,
+    after: &mut Vec<EndPlace>,
     shift: Shift,
     at: usize,
 ) -> Result<(), AllocError>
-    ensures same { spec.both_ends shift front.new.items behind.new.items ≡
-        spec.both_ends shift front.old.items behind.old.items }
+    ensures same { spec.both_ends shift front.new.items after.new.items ≡
+        spec.both_ends shift front.old.items after.old.items }
     ensures ok { OnOk result (length front.new.items ≤ at) }
 {
     let back = Shift::between(shift.rows, shift.bytes as usize, 0, 0);
     'ends: while front.len() > at {
         let end = front[front.len() - 1];
-        behind.push(end.shifted(back))?;
+        after.push(end.shifted(back))?;
         let _ = front.pop();
     }
     Ok(())
@@ -51,20 +51,20 @@ fn to_behind(
 /// Moves ends to the front of the split, until so many are there.
 fn to_front(
     front: &mut Vec<EndPlace>,
-    behind: &mut Vec<EndPlace>,
+    after: &mut Vec<EndPlace>,
     shift: Shift,
     at: usize,
 ) -> Result<(), AllocError>
     requires few { length front.old.items ≤ at }
-    requires within { at ≤ length (spec.both_ends shift front.old.items behind.old.items) }
-    ensures same { spec.both_ends shift front.new.items behind.new.items ≡
-        spec.both_ends shift front.old.items behind.old.items }
+    requires within { at ≤ length (spec.both_ends shift front.old.items after.old.items) }
+    ensures same { spec.both_ends shift front.new.items after.new.items ≡
+        spec.both_ends shift front.old.items after.old.items }
     ensures ok { OnOk result (length front.new.items ≡ at) }
 {
     'ends: while front.len() < at {
-        let end = behind[behind.len() - 1];
+        let end = after[after.len() - 1];
         front.push(end.shifted(shift))?;
-        let _ = behind.pop();
+        let _ = after.pop();
     }
     Ok(())
 }
@@ -72,17 +72,17 @@ fn to_front(
 /// Moves the split in front of the end of a part, counted from 0, or after the last one.
 fn move_split(
     front: &mut Vec<EndPlace>,
-    behind: &mut Vec<EndPlace>,
+    after: &mut Vec<EndPlace>,
     shift: Shift,
     at: usize,
 ) -> Result<(), AllocError>
-    requires { at ≤ length (spec.both_ends shift front.old.items behind.old.items) }
-    ensures same { spec.both_ends shift front.new.items behind.new.items ≡
-        spec.both_ends shift front.old.items behind.old.items }
+    requires { at ≤ length (spec.both_ends shift front.old.items after.old.items) }
+    ensures same { spec.both_ends shift front.new.items after.new.items ≡
+        spec.both_ends shift front.old.items after.old.items }
     ensures ok { OnOk result (length front.new.items ≡ at) }
 {
-    to_behind(front, behind, shift, at)?;
-    to_front(front, behind, shift, at)
+    to_after(front, after, shift, at)?;
+    to_front(front, after, shift, at)
 }
 
 /// Adds others, shifted; there is room for them.
@@ -110,7 +110,7 @@ impl PartEnds {
     {
         PartEnds {
             front: ends,
-            behind: Vec::new(alloc),
+            after: Vec::new(alloc),
             shift: Shift { rows: 0, bytes: 0 },
         }
     }
@@ -120,7 +120,7 @@ impl PartEnds {
     pub fn len(&self) -> usize
         ensures { result ≡ length self.now }
     {
-        self.front.len() + self.behind.len()
+        self.front.len() + self.after.len()
     }
 
     /// The end at an index.
@@ -132,7 +132,7 @@ impl PartEnds {
         if i < self.front.len() {
             return self.front[i];
         }
-        self.behind[self.behind.len() - 1 - (i - self.front.len())].shifted(self.shift)
+        self.after[self.after.len() - 1 - (i - self.front.len())].shifted(self.shift)
     }
 
     /// The end at an index, if there is one.
@@ -172,9 +172,9 @@ impl PartEnds {
         requires { 1 ≤ length self.old }
         ensures { self.new ≡ slice_set self.old (length self.old - 1) end }
     {
-        if self.behind.len() > 0 {
+        if self.after.len() > 0 {
             let back = Shift::between(self.shift.rows, self.shift.bytes as usize, 0, 0);
-            self.behind[0] = end.shifted(back);
+            self.after[0] = end.shifted(back);
         } else {
             let last = self.front.len() - 1;
             self.front[last] = end;
@@ -186,8 +186,8 @@ impl PartEnds {
         requires { 1 ≤ length self.old }
         ensures { self.new ≡ take (length self.old - 1) self.old }
     {
-        if self.behind.len() > 0 {
-            let _ = self.behind.remove(0);
+        if self.after.len() > 0 {
+            let _ = self.after.remove(0);
         } else {
             let _ = self.front.pop();
         }
@@ -213,11 +213,11 @@ impl PartEnds {
             spec.ends_exchanged from to place later self.old found.now) }
         ensures err { OnErr result (self.new ≡ self.old) }
     {
-        move_split(&mut self.front, &mut self.behind, self.shift, from)?;
+        move_split(&mut self.front, &mut self.after, self.shift, from)?;
         self.front.reserve(found.len())?;
         push_shifted(&mut self.front, found, place);
-        let left = self.behind.len() - (to - from);
-        self.behind.truncate(left);
+        let left = self.after.len() - (to - from);
+        self.after.truncate(left);
         self.shift = self.shift.then(later);
         Ok(())
     }

@@ -19,7 +19,7 @@ pub struct Places {
     /// The rows in front of the split, each by how far from the beginning of the text it begins.
     pub front: Vec<Offsets>,
     /// The rows after the split, the last one first, each by how far from the end of the text it begins.
-    pub behind: Vec<Offsets>,
+    pub after: Vec<Offsets>,
     /// The ends of all parts, in order.
     pub ends: PartEnds,
     /// How many bytes of the text are in front of the split.
@@ -33,7 +33,7 @@ impl Places {
     {
         Places {
             front: Vec::new(alloc),
-            behind: Vec::new(alloc),
+            after: Vec::new(alloc),
             ends: PartEnds::new(alloc),
             split: 0,
         }
@@ -43,7 +43,7 @@ impl Places {
     pub fn len(&self) -> usize
         ensures { result ≡ length (kept_rows self.now) }
     {
-        self.front.len() + self.behind.len()
+        self.front.len() + self.after.len()
     }
 
     /// Where row `i`, counted from 0, is, as it is kept.
@@ -55,7 +55,7 @@ impl Places {
         if i < self.front.len() {
             &self.front[i]
         } else {
-            &self.behind[self.behind.len() - 1 - (i - self.front.len())]
+            &self.after[self.after.len() - 1 - (i - self.front.len())]
         }
     }
 
@@ -68,7 +68,7 @@ impl Places {
         if i < self.front.len() {
             return self.front[i];
         }
-        self.behind[self.behind.len() - 1 - (i - self.front.len())].turned(len)
+        self.after[self.after.len() - 1 - (i - self.front.len())].turned(len)
     }
 
     /// The rows of the text in which they are, borrowed in two halves at the split.

@@ -14,7 +14,7 @@ use Rattle.yq_core.specs.declared.path.Step as declared
 -- The line of a document to which all of these steps lead.
 pub record IsLineAt (s : RowsView) (d : Stretch) (steps : List Step) (q : Position) : Type 0 where
   pub line : IsLine s d q
-  pub leads : (h : HasDocument s d) → reached steps (lines_of_rows h.stand.rows) ≡ Some (line_number d h.stand.rows q, [])
+  pub leads : (h : HasDocument s d) → reached steps (lines_of_rows h.are_there.rows) ≡ Some (line_number d h.are_there.rows q, [])
 
 -- It is known to which line the steps of a path lead.
 abbrev pub IsKnownLine : RowsView → KnownLine → Type 0
@@ -24,7 +24,7 @@ IsKnownLine s k = IsLineAt s k.document (map tree_step k.steps.now) k.at
 pub record LeadOnBy (s : RowsView) (d : Stretch) (steps left : List Step) (from : Option Position) : Type 0 where
   pub line : IfSome from (IsLine s d)
   pub leads : (h : HasDocument s d) (more : List Step) →
-      reach_from (lines_of_rows h.stand.rows) (option_map (line_number d h.stand.rows) from) (left ++ more) ≡ reached (steps ++ more) (lines_of_rows h.stand.rows)
+      reach_from (lines_of_rows h.are_there.rows) (option_map (line_number d h.are_there.rows) from) (left ++ more) ≡ reached (steps ++ more) (lines_of_rows h.are_there.rows)
 
 -- Steps lead to a line, or to the root, and others that begin with them lead on from there.
 abbrev pub ArriveAt : RowsView → Stretch → List declared.Step → Option Position → Type 0
@@ -99,7 +99,7 @@ OfWalkLines w said = OfLines w.rows.now w.document said
 
 -- What is said of its rows.
 abbrev pub OfWalkRows : Walk → (Stretch → List Row → Type 0) → Type 0
-OfWalkRows w said = (h : HasDocument w.rows.now w.document) → said w.document h.stand.rows
+OfWalkRows w said = (h : HasDocument w.rows.now w.document) → said w.document h.are_there.rows
 
 -- its rows as two numbers: how many rows of the text come before them, and before what is after them
 abbrev pub walked_rows : Walk → ℕ × ℕ

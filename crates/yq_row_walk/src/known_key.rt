@@ -13,7 +13,7 @@ use yq_outline::{KnownItem, Position};
 use yq_row_table::Rows;
 
 /// The item after one that is known, before the row where a document ends.
-fn item_behind(rows: &Rows<'_>, known: KnownItem, end: usize) -> Option<KnownItem>
+fn item_after(rows: &Rows<'_>, known: KnownItem, end: usize) -> Option<KnownItem>
     requires known { IsKnown rows.now.rows known }
     requires within { end ≤ length rows.now.rows }
     requires rows_view { IsRowsView rows.now }
@@ -82,7 +82,7 @@ pub fn key_near(walk: &Walk<'_, '_>, under: Position, floor: usize, key: &str) -
             if at.is_some() {
                 return at;
             }
-            ahead = item_behind(walk.rows, known, walk.document.end);
+            ahead = item_after(walk.rows, known, walk.document.end);
         }
         if let Some(known) = back {
             let at = keyed(walk, under, floor, known, key);

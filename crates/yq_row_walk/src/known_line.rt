@@ -32,14 +32,14 @@ fn are_same(steps: &[Step], others: &[Step]) -> bool
     let mut left = steps;
     let mut rest = others;
     'steps: while let [step, more @ ..] = left {
-        let [other, behind @ ..] = rest else {
+        let [other, after @ ..] = rest else {
             return false;
         };
         if !is_same(step, other) {
             return false;
         }
         left = more;
-        rest = behind;
+        rest = after;
     }
     rest.is_empty()
 }
@@ -65,19 +65,19 @@ pub fn if_along(walk: &Walk<'_, '_>, steps: &[Step]) -> Option<Position>
 
 /// The steps that come after others, if these are the first of them.
 #[inline(always)]
-fn steps_behind<'s>(front: &[Step], steps: &'s [Step]) -> Option<&'s [Step]>
+fn steps_after<'s>(front: &[Step], steps: &'s [Step]) -> Option<&'s [Step]>
     ensures { IfSome result (λ left. ComeAfter front.now steps.now left.now) }
 {
     let mut left = steps;
     let mut rest = front;
     'steps: while let [step, more @ ..] = rest {
-        let [other, behind @ ..] = left else {
+        let [other, after @ ..] = left else {
             return None;
         };
         if !is_same(step, other) {
             return None;
         }
-        left = behind;
+        left = after;
         rest = more;
     }
     Some(left)
@@ -97,7 +97,7 @@ pub fn walk_start<'s>(walk: &Walk<'_, '_>, steps: &'s [Step]) -> (Option<Positio
     if above.document.first != document.first || above.document.end != document.end {
         return (None, steps);
     }
-    match steps_behind(above.steps, steps) {
+    match steps_after(above.steps, steps) {
         Some(left) => (Some(above.at), left),
         None => (None, steps),
     }

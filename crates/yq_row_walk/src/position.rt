@@ -23,7 +23,7 @@ pub fn line_column(row: &Row<'_>, line: usize) -> usize
 
 /// How deep a line of a row with dashes is, by how deep the row begins: three for each column, and 3 for a
 /// dash, 2 for a key, or 1 for a node itself.
-fn level_behind(first: usize, dashes: &[u8], line: usize, has_colon: bool) -> usize
+fn level_after(first: usize, dashes: &[u8], line: usize, has_colon: bool) -> usize
     requires { first + 3 * length dashes.now ≤ 3 * text_limit + 3 }
     ensures { result ≡ ((first + 3 * extents.dash_at line dashes.now) - 3) +
         (if nat_lt (extents.dash_at line dashes.now) (length dashes.now) then 3
@@ -50,7 +50,7 @@ fn level_within(rows: &Rows<'_>, position: Position) -> usize
         return first;
     }
     let dashes = rows.dashes(position.row).as_bytes();
-    level_behind(first, dashes, position.line, rows.has_colon(position.row))
+    level_after(first, dashes, position.line, rows.has_colon(position.row))
 }
 
 /// How deep a line is.
@@ -111,7 +111,7 @@ pub fn level_or_end(rows: &Rows<'_>, document: Stretch, position: Position) -> u
 /// The first row from one on, before another one, that doesn't begin deeper than a level, with how deep it
 /// begins; the other one and 0 where there is none.
 #[inline(always)]
-fn row_behind(rows: &Rows<'_>, from: usize, end: usize, level: usize) -> (usize, usize)
+fn following_row(rows: &Rows<'_>, from: usize, end: usize, level: usize) -> (usize, usize)
     requires order { from ≤ end }
     requires within { end ≤ length rows.now.rows }
     requires rows_view { IsRowsView rows.now }
@@ -137,7 +137,7 @@ pub fn rows_under(rows: &Rows<'_>, from: usize, end: usize, level: usize) -> usi
     ensures value { result ≡ from + deeper_rows level (take (end - from) (drop from rows.now.rows)) }
     ensures within { result ≤ end }
 {
-    row_behind(rows, from, end, level).0
+    following_row(rows, from, end, level).0
 }
 
 /// Whether a line is there, and is deeper than a level, by how deep it is.
@@ -174,7 +174,7 @@ pub fn is_deeper(rows: &Rows<'_>, document: Stretch, position: Position, floor: 
 
 /// What is after a line and those under it, by how deep the line is; with how deep what is after them is.
 #[inline(always)]
-pub(crate) fn behind_level(
+pub(crate) fn after_level(
     rows: &Rows<'_>,
     document: Stretch,
     position: Position,
@@ -190,12 +190,12 @@ pub(crate) fn behind_level(
     ensures later { position.row < result.0.row }
     ensures level { IsLevelAt rows.now document result.0 result.1 }
 {
-    let (row, level) = row_behind(rows, position.row + 1, document.end, level);
+    let (row, level) = following_row(rows, position.row + 1, document.end, level);
     (Position { row, line: 0 }, level)
 }
 
 /// What is after a line and those under it.
-pub fn behind(rows: &Rows<'_>, document: Stretch, position: Position) -> Position
+pub fn position_after(rows: &Rows<'_>, document: Stretch, position: Position) -> Position
     requires rows_view { IsRowsView rows.now }
     requires document { HasRows rows.now document }
     requires position { IsLine rows.now document position }
@@ -204,7 +204,7 @@ pub fn behind(rows: &Rows<'_>, document: Stretch, position: Position) -> Positio
     ensures line { result.line ≡ 0 }
     ensures later { position.row < result.row }
 {
-    behind_level(rows, document, position, level_at(rows, position)).0
+    after_level(rows, document, position, level_at(rows, position)).0
 }
 
 /// The line after a line.

@@ -6,7 +6,7 @@ ghost use Rattle.yq_core.specs.Paths as steps;
 
 use crate::known_item::walk_begin;
 use crate::known_key::key_near;
-use crate::position::{behind_level, is_level_deeper, level_or_end};
+use crate::position::{after_level, is_level_deeper, level_or_end};
 use crate::position_marks::{is_item, is_key};
 use crate::walk::Walk;
 use yq_core::Step;
@@ -25,7 +25,7 @@ pub fn find_key(walk: &Walk<'_, '_>, under: Position, floor: usize, key: &str) -
         if is_key(walk.rows, walk.document, at, level, key) {
             return Some(at);
         }
-        (at, level) = behind_level(walk.rows, walk.document, at, level);
+        (at, level) = after_level(walk.rows, walk.document, at, level);
     }
     None
 }
@@ -68,7 +68,7 @@ pub fn find_item(
             return Some(at);
         }
         left = left.saturating_sub(1);
-        (at, level) = behind_level(walk.rows, walk.document, at, level);
+        (at, level) = after_level(walk.rows, walk.document, at, level);
     }
     None
 }

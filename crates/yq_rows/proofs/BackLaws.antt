@@ -46,72 +46,72 @@ all_unmapped n P Q f [] h = All-nil Q
 all_unmapped n P Q f (o ∷ os) h = All-cons Q o os (f o (All-head P (row_from_end n o) (map (row_from_end n) os) h)) (all_unmapped n P Q f os (All-tail P (row_from_end n o) (map (row_from_end n) os) h))
 
 -- Items near the end of their text, by the rows after the gap, which are there as they do at the end of any text, and by the ends of parts.
-pub record BackKept (p : Places) (front behind : List Item) (len back : ℕ) : Type 0 where
+pub record BackKept (p : Places) (front after : List Item) (len back : ℕ) : Type 0 where
   pub before : List declared.Offsets
   pub rows : List declared.Offsets
-  pub split : reverse p.behind.items ≡ before ++ rows
-  pub rows_are : nearer back (reverse p.behind.items) ≡ rows
+  pub split : reverse p.after.items ≡ before ++ rows
+  pub rows_are : nearer back (reverse p.after.items) ≡ rows
   pub front_rows : near 0 front ≡ p.front.items ++ map (row_from_end len) before
-  pub back_rows : map (row_from_end len) rows ≡ near (text_length front) behind
-  pub far_rows : rows ≡ far behind
-  pub ends_are : p.ends ≡ ends_near 0 0 front ++ ends_near (text_length front) (length (near 0 front)) behind
+  pub back_rows : map (row_from_end len) rows ≡ near (text_length front) after
+  pub far_rows : rows ≡ far after
+  pub ends_are : p.ends ≡ ends_near 0 0 front ++ ends_near (text_length front) (length (near 0 front)) after
   pub count_is : ends_before ((len - back) + 1) p.ends ≡ length (ends_near 0 0 front)
 
-pub back_kept : (p : Places) (xs : List Item) (at back : ℕ) → AreAt p xs → IsSplitAt at (text_length xs) p → at + back ≤ text_length xs → (h : BackFound 0 back xs) → BackKept p h.front h.behind (text_length xs) back
+pub back_kept : (p : Places) (xs : List Item) (at back : ℕ) → AreAt p xs → IsSplitAt at (text_length xs) p → at + back ≤ text_length xs → (h : BackFound 0 back xs) → BackKept p h.front h.after (text_length xs) back
 back_kept p xs at back placed gap apart h =
     let len : ℕ = text_length xs in
     let m : ℕ = 0 + text_length h.front in
     let bytes : m ≡ text_length h.front = omega arith in
     let count : 0 + length (near 0 h.front) ≡ length (near 0 h.front) = omega arith in
-    let behind : List declared.Offsets = map (row_from_end len) (reverse p.behind.items) in
-    let all : p.front.items ++ behind ≡ near 0 h.front ++ near m h.behind = placed.rows_are ∙ (ap (near 0) h.split ∙ near_joined 0 h.front h.behind) in
-    let last = rows_begin (λ s. 0 + len < s + back) m h.behind h.later in
-    let cut = prefix (λ o. o.start < at) (λ o. 0 + len < o.start + back) (λ o a b. omega (arith, a, b, apart)) p.front.items behind (near 0 h.front) (near m h.behind) all gap.0 last in
-    let two = map_split len (reverse p.behind.items) cut.more (near m h.behind) cut.second in
+    let after : List declared.Offsets = map (row_from_end len) (reverse p.after.items) in
+    let all : p.front.items ++ after ≡ near 0 h.front ++ near m h.after = placed.rows_are ∙ (ap (near 0) h.split ∙ near_joined 0 h.front h.after) in
+    let last = rows_begin (λ s. 0 + len < s + back) m h.after h.later in
+    let cut = prefix (λ o. o.start < at) (λ o. 0 + len < o.start + back) (λ o a b. omega (arith, a, b, apart)) p.front.items after (near 0 h.front) (near m h.after) all gap.0 last in
+    let two = map_split len (reverse p.after.items) cut.more (near m h.after) cut.second in
     let first = all_second (λ o. o.start + back ≤ 0 + len) p.front.items cut.more (subst (All (λ o. o.start + back ≤ 0 + len)) cut.first (rows_begin (λ s. s + back ≤ 0 + len) 0 h.front h.begun)) in
     let low = all_unmapped len (λ o. o.start + back ≤ 0 + len) (λ o. back ≤ o.start) (λ o l. omega (arith, l, apart)) two.first (subst (All (λ o. o.start + back ≤ 0 + len)) (sym two.first_is) first) in
     let high = all_unmapped len (λ o. 0 + len < o.start + back) (λ o. o.start < back) (λ o l. omega (arith, l, apart)) two.second (subst (All (λ o. 0 + len < o.start + back)) (sym two.second_is) last) in
     let within = All-weaker (λ o. o.start < back) (Within len) (λ o l. omega (arith, l, apart)) two.second high in
-    let text : items_text xs [] ≡ items_text h.front [] ++ items_text h.behind [] = ap (λ (l : List Item). items_text l []) h.split ∙ (items_text-append h.front h.behind [] ∙ items_apart h.front (items_text h.behind [])) in
-    let turned_far : map (row_from_end len) (far h.behind) ≡ near (text_length h.front) h.behind = far_near h.behind (items_text h.front []) (items_text xs []) text in
-    let mine : map (row_from_end len) two.second ≡ near (text_length h.front) h.behind = two.second_is ∙ ap (λ (n : ℕ). near n h.behind) bytes in
-    let size : text_length h.behind ≤ len = omega (arith, ap text_length h.split, joined_long h.front h.behind) in
-    let ends : p.ends ≡ ends_near 0 0 h.front ++ ends_near m (0 + length (near 0 h.front)) h.behind = placed.ends_are ∙ (ap (ends_near 0 0) h.split ∙ ends_joined 0 0 h.front h.behind) in
+    let text : items_text xs [] ≡ items_text h.front [] ++ items_text h.after [] = ap (λ (l : List Item). items_text l []) h.split ∙ (items_text-append h.front h.after [] ∙ items_apart h.front (items_text h.after [])) in
+    let turned_far : map (row_from_end len) (far h.after) ≡ near (text_length h.front) h.after = far_near h.after (items_text h.front []) (items_text xs []) text in
+    let mine : map (row_from_end len) two.second ≡ near (text_length h.front) h.after = two.second_is ∙ ap (λ (n : ℕ). near n h.after) bytes in
+    let size : text_length h.after ≤ len = omega (arith, ap text_length h.split, joined_long h.front h.after) in
+    let ends : p.ends ≡ ends_near 0 0 h.front ++ ends_near m (0 + length (near 0 h.front)) h.after = placed.ends_are ∙ (ap (ends_near 0 0) h.split ∙ ends_joined 0 0 h.front h.after) in
     let ends_low = begin_where (λ s. s + back ≤ 0 + len) (λ s. s < (len - back) + 1) (λ s l. omega (arith, l, apart)) 0 h.front h.begun in
-    let ends_high = begin_where (λ s. 0 + len < s + back) (λ s. (len - back) + 1 ≤ s) (λ s l. omega (arith, l, apart)) m h.behind h.later in
+    let ends_high = begin_where (λ s. 0 + len < s + back) (λ s. (len - back) + 1 ≤ s) (λ s l. omega (arith, l, apart)) m h.after h.later in
     record {
       before = two.first;
       rows = two.second;
       split = two.split;
-      rows_are = nearer_split back (reverse p.behind.items) two.first two.second two.split low high;
+      rows_are = nearer_split back (reverse p.after.items) two.first two.second two.split low high;
       front_rows = cut.first ∙ ap (λ l. p.front.items ++ l) {y = map (row_from_end len) two.first} (sym two.first_is);
       back_rows = mine;
-      far_rows = sym (turned_twice len two.second within) ∙ (ap (map (row_from_end len)) (mine ∙ sym turned_far) ∙ turned_twice len (far h.behind) (far_within len h.behind size));
-      ends_are = ends ∙ (ap (λ (n : ℕ). ends_near 0 0 h.front ++ ends_near n (0 + length (near 0 h.front)) h.behind) bytes ∙ ap (λ (k : ℕ). ends_near 0 0 h.front ++ ends_near (text_length h.front) k h.behind) count);
+      far_rows = sym (turned_twice len two.second within) ∙ (ap (map (row_from_end len)) (mine ∙ sym turned_far) ∙ turned_twice len (far h.after) (far_within len h.after size));
+      ends_are = ends ∙ (ap (λ (n : ℕ). ends_near 0 0 h.front ++ ends_near n (0 + length (near 0 h.front)) h.after) bytes ∙ ap (λ (k : ℕ). ends_near 0 0 h.front ++ ends_near (text_length h.front) k h.after) count);
       count_is = ap (ends_before ((len - back) + 1)) ends
-          ∙ ends_counted ((len - back) + 1) (ends_near 0 0 h.front) (ends_near m (0 + length (near 0 h.front)) h.behind)
+          ∙ ends_counted ((len - back) + 1) (ends_near 0 0 h.front) (ends_near m (0 + length (near 0 h.front)) h.after)
           (ends_begin (λ s. s < (len - back) + 1) 0 0 h.front ends_low)
-          (ends_begin (λ s. (len - back) + 1 ≤ s) m (0 + length (near 0 h.front)) h.behind ends_high);
+          (ends_begin (λ s. (len - back) + 1 ≤ s) m (0 + length (near 0 h.front)) h.after ends_high);
     }
 
 -- where the first of them begins
-pub first_row : (p : Places) (front behind : List Item) (len back count : ℕ) (o : declared.Offsets) → BackKept p front behind len back →
-    count ≡ length (nearer back (reverse p.behind.items)) → 0 < count → o ≡ get_or p.behind.items (count - 1) o →
-    (rest : List declared.Offsets) × (near (text_length front) behind ≡ row_from_end len o ∷ rest)
-first_row p front behind len back count o h many some own = go h.rows (h.split) (many ∙ ap length h.rows_are) h.back_rows where
-  go : (rows : List declared.Offsets) → reverse p.behind.items ≡ h.before ++ rows → count ≡ length rows →
-      map (row_from_end len) rows ≡ near (text_length front) behind → (rest : List declared.Offsets)
-      × (near (text_length front) behind ≡ row_from_end len o ∷ rest)
+pub first_row : (p : Places) (front after : List Item) (len back count : ℕ) (o : declared.Offsets) → BackKept p front after len back →
+    count ≡ length (nearer back (reverse p.after.items)) → 0 < count → o ≡ get_or p.after.items (count - 1) o →
+    (rest : List declared.Offsets) × (near (text_length front) after ≡ row_from_end len o ∷ rest)
+first_row p front after len back count o h many some own = go h.rows (h.split) (many ∙ ap length h.rows_are) h.back_rows where
+  go : (rows : List declared.Offsets) → reverse p.after.items ≡ h.before ++ rows → count ≡ length rows →
+      map (row_from_end len) rows ≡ near (text_length front) after → (rest : List declared.Offsets)
+      × (near (text_length front) after ≡ row_from_end len o ∷ rest)
   go [] split long is = absurd (omega (arith, long, some))
   go (q ∷ rows) split long is =
-      let all : p.behind.items ≡ reverse rows ++ q ∷ reverse h.before =
-      sym (reverse-reverse p.behind.items) ∙ (ap reverse split ∙ (reverse-append h.before (q ∷ rows) ∙ (ap (λ l. l ++ reverse h.before) (reverse-append (q ∷ []) rows) ∙ append_assoc (reverse rows) (q ∷ []) (reverse h.before)))) in
+      let all : p.after.items ≡ reverse rows ++ q ∷ reverse h.before =
+      sym (reverse-reverse p.after.items) ∙ (ap reverse split ∙ (reverse-append h.before (q ∷ rows) ∙ (ap (λ l. l ++ reverse h.before) (reverse-append (q ∷ []) rows) ∙ append_assoc (reverse rows) (q ∷ []) (reverse h.before)))) in
       let same : o ≡ q = search (rules, length-reverse, get_or_at, all) in
       (map (row_from_end len) rows, sym is ∙ ap (λ (x : declared.Offsets). row_from_end len x ∷ map (row_from_end len) rows) (sym same))
 
-pub first_end : (p : Places) (front behind : List Item) (len back count : ℕ) (e : EndPlace) → BackKept p front behind len back → count ≡ length (ends_near 0 0 front) → count < length p.ends → e ≡ get_or p.ends count e →
-    (rest : List EndPlace) × (ends_near (text_length front) (length (near 0 front)) behind ≡ e ∷ rest)
-first_end p front behind len back count e h is less own = go (ends_near (text_length front) (length (near 0 front)) behind) h.ends_are where
+pub first_end : (p : Places) (front after : List Item) (len back count : ℕ) (e : EndPlace) → BackKept p front after len back → count ≡ length (ends_near 0 0 front) → count < length p.ends → e ≡ get_or p.ends count e →
+    (rest : List EndPlace) × (ends_near (text_length front) (length (near 0 front)) after ≡ e ∷ rest)
+first_end p front after len back count e h is less own = go (ends_near (text_length front) (length (near 0 front)) after) h.ends_are where
   go : (es : List EndPlace) → p.ends ≡ ends_near 0 0 front ++ es → (rest : List EndPlace) × (es ≡ e ∷ rest)
   go [] all = absurd (omega (arith, less, is, ap length all, ap length (append-nil (ends_near 0 0 front))))
   go (x ∷ es) all = (es, ap (λ y. y ∷ es) (sym (own ∙ (ap (λ (l : List EndPlace). get_or l count e) all ∙ get_or_at (ends_near 0 0 front) x es e count (sym is)))))
@@ -160,44 +160,44 @@ first_bytes m len k z rows ends bytes long h = go z long h.rows_are h.ends_are h
 -- ---- what is in front of them
 
 abbrev pub ByRows : Places → (len rows bytes : ℕ) → Type 0
-ByRows p len rows bytes = ((rows ≡ 0) × (bytes ≡ len)) ⊎ ((o : declared.Offsets) × (0 < rows) × (o ≡ get_or p.behind.items (rows - 1) o) × (bytes ≡ len - o.start))
+ByRows p len rows bytes = ((rows ≡ 0) × (bytes ≡ len)) ⊎ ((o : declared.Offsets) × (0 < rows) × (o ≡ get_or p.after.items (rows - 1) o) × (bytes ≡ len - o.start))
 
 abbrev pub ByEnds : Places → (ends before bytes : ℕ) → Type 0
 ByEnds p ends before bytes = ((length p.ends ≤ ends) × (bytes ≡ before)) ⊎ ((e : EndPlace) × (ends < length p.ends) × (e ≡ get_or p.ends ends e) × (bytes ≡ min before e.start))
 
-pub behind_is : (p : Places) (xs : List Item) (at back rows ends before bytes : ℕ) → AreAt p xs → IsSplitAt at (text_length xs) p → at + back ≤ text_length xs → rows ≡ length (nearer back (reverse p.behind.items)) →
+pub following_is : (p : Places) (xs : List Item) (at back rows ends before bytes : ℕ) → AreAt p xs → IsSplitAt at (text_length xs) p → at + back ≤ text_length xs → rows ≡ length (nearer back (reverse p.after.items)) →
     ends ≡ ends_before ((text_length xs - back) + 1) p.ends → ByRows p (text_length xs) rows before → ByEnds p ends before bytes →
-    record { rows = length p.front.items + (length p.behind.items - rows); ends = ends; bytes = bytes } ≡ side_of (not_in_back back xs)
-behind_is p xs at back rows ends before bytes placed gap apart many count by_rows by_ends =
+    record { rows = length p.front.items + (length p.after.items - rows); ends = ends; bytes = bytes } ≡ side_of (not_in_back back xs)
+following_is p xs at back rows ends before bytes placed gap apart many count by_rows by_ends =
     let len : ℕ = text_length xs in
     let h = back_found xs 0 back in
     let k = back_kept p xs at back placed gap apart h in
     let m : ℕ = text_length h.front in
     let j : ℕ = length (near 0 h.front) in
-    let long : m + text_length h.behind ≡ len = omega (arith, ap text_length h.split, joined_long h.front h.behind) in
-    let there : rows ≡ length (near m h.behind) = many ∙ (ap length k.rows_are ∙ (sym (length-map k.rows (row_from_end len)) ∙ ap length k.back_rows)) in
+    let long : m + text_length h.after ≡ len = omega (arith, ap text_length h.split, joined_long h.front h.after) in
+    let there : rows ≡ length (near m h.after) = many ∙ (ap length k.rows_are ∙ (sym (length-map k.rows (row_from_end len)) ∙ ap length k.back_rows)) in
     let in_ends : ends ≡ length (ends_near 0 0 h.front) = count ∙ k.count_is in
-    let later : length p.ends - ends ≡ length (ends_near m j h.behind) = search (rules, length-append, m, k, j, in_ends, h) in
-    let in_front : length p.front.items + (length p.behind.items - rows) ≡ j = search (rules, length-append, length-map, length-reverse, len, k) in
-    let first : FirstBytes m len j h.behind rows (length p.ends - ends) bytes = record {
+    let later : length p.ends - ends ≡ length (ends_near m j h.after) = search (rules, length-append, m, k, j, in_ends, h) in
+    let before_offset : length p.front.items + (length p.after.items - rows) ≡ j = search (rules, length-append, length-map, length-reverse, len, k) in
+    let first : FirstBytes m len j h.after rows (length p.ends - ends) bytes = record {
       rows_are = there;
       ends_are = later;
       row_bytes = before;
       by_rows = ⊎_elim {0, 0, 0}
           (λ (n : (rows ≡ 0) × (before ≡ len)). inl n)
-          (λ (n : (o : declared.Offsets) × (0 < rows) × (o ≡ get_or p.behind.items (rows - 1) o) × (before ≡ len - o.start)). let f = first_row p h.front h.behind len back rows n.0 k many n.1 n.2 in inr (n.0, f.0, f.1, n.3))
+          (λ (n : (o : declared.Offsets) × (0 < rows) × (o ≡ get_or p.after.items (rows - 1) o) × (before ≡ len - o.start)). let f = first_row p h.front h.after len back rows n.0 k many n.1 n.2 in inr (n.0, f.0, f.1, n.3))
           by_rows;
       by_ends = ⊎_elim {0, 0, 0}
           (λ (n : (length p.ends ≤ ends) × (bytes ≡ before)). inl (omega (arith, n.0), n.1))
-          (λ (n : (e : EndPlace) × (ends < length p.ends) × (e ≡ get_or p.ends ends e) × (bytes ≡ min before e.start)). let f = first_end p h.front h.behind len back ends n.0 k in_ends n.1 n.2 in inr (n.0, f.0, f.1, n.3))
+          (λ (n : (e : EndPlace) × (ends < length p.ends) × (e ≡ get_or p.ends ends e) × (bytes ≡ min before e.start)). let f = first_end p h.front h.after len back ends n.0 k in_ends n.1 n.2 in inr (n.0, f.0, f.1, n.3))
           by_ends;
     } in
-    sides_same (length p.front.items + (length p.behind.items - rows)) ends bytes (side_of h.front) in_front in_ends (first_bytes m len j h.behind rows (length p.ends - ends) bytes long first) ∙ ap side_of (sym h.is_front)
+    sides_same (length p.front.items + (length p.after.items - rows)) ends bytes (side_of h.front) before_offset in_ends (first_bytes m len j h.after rows (length p.ends - ends) bytes long first) ∙ ap side_of (sym h.is_front)
 
 -- the rows that stay on either side
-pub back_taken : (p : Places) (xs : List Item) (at back : ℕ) → AreAt p xs → IsSplitAt at (text_length xs) p → at + back ≤ text_length xs → reverse (take (length (near 0 (in_back back xs))) p.behind.items) ≡ far (in_back back xs)
+pub back_taken : (p : Places) (xs : List Item) (at back : ℕ) → AreAt p xs → IsSplitAt at (text_length xs) p → at + back ≤ text_length xs → reverse (take (length (near 0 (in_back back xs))) p.after.items) ≡ far (in_back back xs)
 back_taken p xs at back placed gap apart =
     let h = back_found xs 0 back in
     let k = back_kept p xs at back placed gap apart h in
-    let all : p.behind.items ≡ reverse k.rows ++ reverse k.before = sym (reverse-reverse p.behind.items) ∙ (ap reverse k.split ∙ reverse-append k.before k.rows) in
+    let all : p.after.items ≡ reverse k.rows ++ reverse k.before = sym (reverse-reverse p.after.items) ∙ (ap reverse k.split ∙ reverse-append k.before k.rows) in
     search (rules, take_at, reverse-reverse, length-reverse, length-map, near_count, all, k, h)

@@ -3,8 +3,8 @@ use Rattle.std.proofs.Common.{◌≡◌, ℕ, ◌+◌, ◌-◌, ◌<◌, ◌≤�
 use Rattle.std.proofs.Common.{subst, arith, append_assoc, length-append, ltb-true, ltb-false}
 use Rattle.std.{proofs.lemmas.List.Elements.{All-cons, All-nil}, specs.List.All}
 use Rattle.yq_row_table.{specs.Ends.end_at, specs.Items.{Item, row_item, end_item, items_text}, specs.Kept.{near, ends_near}}
-use Rattle.yq_row_table.{specs.Offsets.offsets_of, specs.Rows.print_row, specs.Touched.{item_text, in_front, in_back}, specs.View.slices}
-use Rattle.yq_row_table.{specs.declared.ends.EndPlace.EndPlace, proofs.ItemLaws.items_text-append}
+use Rattle.yq_row_table.{specs.Offsets.offsets_of, specs.Rows.print_row, specs.Touched.{item_text, before_offset, in_back}}
+use Rattle.yq_row_table.{specs.View.slices, specs.declared.ends.EndPlace.EndPlace, proofs.ItemLaws.items_text-append}
 use Rattle.yq_row_table.proofs.KeptLaws.{items_apart, print_then}
 use Rattle.yq_rows.specs.Sides.{not_in_back, text_length}
 use Rattle.yq_row_table.specs.declared.offsets.Offsets as declared
@@ -49,7 +49,7 @@ pub record FrontFound (n at : ℕ) (xs : List Item) : Type 0 where
   pub front : List Item
   pub first : Item
   pub rest : List Item
-  pub is : in_front at xs ≡ front
+  pub is : before_offset at xs ≡ front
   pub split : xs ≡ (front ++ (first ∷ [])) ++ rest
   pub begun : AllBegin (λ s. s < n + at) n (front ++ (first ∷ []))
   pub later : AllBegin (λ s. n + at ≤ s) (n + text_length (front ++ (first ∷ []))) rest
@@ -73,7 +73,7 @@ front_found (i ∷ xs) n at some within =
           front = i ∷ more.front;
           first = more.first;
           rest = more.rest;
-          is = ap (λ (b : Bool). cond b (i ∷ in_front (at - own) xs) []) e ∙ ap (λ (l : List Item). i ∷ l) more.is;
+          is = ap (λ (b : Bool). cond b (i ∷ before_offset (at - own) xs) []) e ∙ ap (λ (l : List Item). i ∷ l) more.is;
           split = ap (λ (l : List Item). i ∷ l) more.split;
           begun = (omega (arith, some), subst (λ (a : ℕ). AllBegin (λ s. s < a) (n + own) f) here more.begun);
           later = subst (λ (m : ℕ). AllBegin (λ s. n + at ≤ s) m more.rest) size (subst (λ (a : ℕ). AllBegin (λ s. a ≤ s) ((n + own) + text_length f) more.rest) here more.later);
@@ -84,7 +84,7 @@ front_found (i ∷ xs) n at some within =
           front = [];
           first = i;
           rest = xs;
-          is = ap (λ (b : Bool). cond b (i ∷ in_front (at - own) xs) []) e;
+          is = ap (λ (b : Bool). cond b (i ∷ before_offset (at - own) xs) []) e;
           split = refl;
           begun = (omega (arith, some), tt);
           later = begin_from (n + at) (n + text_length (i ∷ [])) xs (omega (arith, long, first_long i []));
@@ -93,15 +93,15 @@ front_found (i ∷ xs) n at some within =
 -- The items that are nearer to the end than so many bytes, and those in front of them.
 pub record BackFound (n back : ℕ) (xs : List Item) : Type 0 where
   pub front : List Item
-  pub behind : List Item
+  pub after : List Item
   pub is_front : not_in_back back xs ≡ front
-  pub is_behind : in_back back xs ≡ behind
-  pub split : xs ≡ front ++ behind
+  pub comes_later : in_back back xs ≡ after
+  pub split : xs ≡ front ++ after
   pub begun : AllBegin (λ s. s + back ≤ n + text_length xs) n front
-  pub later : AllBegin (λ s. n + text_length xs < s + back) (n + text_length front) behind
+  pub later : AllBegin (λ s. n + text_length xs < s + back) (n + text_length front) after
 
 pub back_found : (xs : List Item) (n back : ℕ) → BackFound n back xs
-back_found [] n back = record { front = []; behind = []; is_front = refl; is_behind = refl; split = refl; begun = tt; later = tt }
+back_found [] n back = record { front = []; after = []; is_front = refl; comes_later = refl; split = refl; begun = tt; later = tt }
 back_found (i ∷ xs) n back = go (back_found xs (n + length (item_text i)) back) (ltb (text_length (i ∷ xs)) back) refl
   where
     own : ℕ
@@ -113,9 +113,9 @@ back_found (i ∷ xs) n back = go (back_found xs (n + length (item_text i)) back
         let all : AllBegin (λ s. n ≤ s) (n + text_length []) (i ∷ xs) = begin_from n (n + text_length []) (i ∷ xs) (omega arith) in
         record {
           front = [];
-          behind = i ∷ xs;
+          after = i ∷ xs;
           is_front = ap (λ (b : Bool). cond b [] (i ∷ not_in_back back xs)) e;
-          is_behind = ap (λ (b : Bool). cond b (i ∷ xs) (in_back back xs)) e;
+          comes_later = ap (λ (b : Bool). cond b (i ∷ xs) (in_back back xs)) e;
           split = refl;
           begun = tt;
           later = begin_where (λ s. n ≤ s) (λ s. n + text_length (i ∷ xs) < s + back) (λ s h. omega (arith, h, less)) (n + text_length []) (i ∷ xs) all;
@@ -126,10 +126,10 @@ back_found (i ∷ xs) n back = go (back_found xs (n + length (item_text i)) back
         let size : (n + own) + text_length more.front ≡ n + text_length (i ∷ more.front) = omega (arith, first_long i more.front) in
         record {
           front = i ∷ more.front;
-          behind = more.behind;
+          after = more.after;
           is_front = ap (λ (b : Bool). cond b [] (i ∷ not_in_back back xs)) e ∙ ap (λ (l : List Item). i ∷ l) more.is_front;
-          is_behind = ap (λ (b : Bool). cond b (i ∷ xs) (in_back back xs)) e ∙ more.is_behind;
+          comes_later = ap (λ (b : Bool). cond b (i ∷ xs) (in_back back xs)) e ∙ more.comes_later;
           split = ap (λ (l : List Item). i ∷ l) more.split;
           begun = (omega (arith, long), subst (λ (a : ℕ). AllBegin (λ s. s + back ≤ a) (n + own) more.front) here more.begun);
-          later = subst (λ (m : ℕ). AllBegin (λ s. n + text_length (i ∷ xs) < s + back) m more.behind) size (subst (λ (a : ℕ). AllBegin (λ s. a < s + back) ((n + own) + text_length more.front) more.behind) here more.later);
+          later = subst (λ (m : ℕ). AllBegin (λ s. n + text_length (i ∷ xs) < s + back) m more.after) size (subst (λ (a : ℕ). AllBegin (λ s. a < s + back) ((n + own) + text_length more.front) more.after) here more.later);
         }

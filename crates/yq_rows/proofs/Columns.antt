@@ -12,8 +12,8 @@ pub column_small : (t s rest whole : List ℕ) (columns : ℕ) → (s, rest) ≡
 column_small t s rest whole columns e within short small = omega (arith, spaces_length t s rest e, within, short, small)
 
 -- what follows the dash in front and the spaces after it
-pub behind_dash : (t behind s next : List ℕ) → length behind + 1 ≡ length t → (s, next) ≡ cut no_space behind → length next < length t
-behind_dash t behind s next one e = omega (arith, one, spaces_length behind s next e)
+pub after_dash : (t after s next : List ℕ) → length after + 1 ≡ length t → (s, next) ≡ cut no_space after → length next < length t
+after_dash t after s next one e = omega (arith, one, spaces_length after s next e)
 
 pub ends_within : (t whole : List ℕ) → Ends t whole → length t ≤ length whole
 ends_within t whole h =

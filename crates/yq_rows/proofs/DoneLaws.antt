@@ -39,7 +39,7 @@ gives_way t new kept p x come k read = record {
   before = k.before;
   touched = k.touched;
   written = k.read.written;
-  behind = k.read.behind;
+  after = k.read.after;
   placed = k.placed;
   are_read = read;
   front_is = k.front_is;
@@ -53,7 +53,7 @@ new_sides : (t new : List ℕ) (kept : Kept) (p q : Places) (x : Touched) (come 
     ArePlacesRead k.read.written come → RowsExchanged p x come q → IsCut (exchanged kept t new) d → BothSides q (items_of_cut d)
 unfolding gives_way
 new_sides t new kept p q x come d k read done is =
-    (k.before ++ k.read.written, k.read.behind, append_assoc k.before k.read.written k.read.behind ∙ k.items d is, done (gives_way t new kept p x come k read))
+    (k.before ++ k.read.written, k.read.after, append_assoc k.before k.read.written k.read.after ∙ k.items d is, done (gives_way t new kept p x come k read))
 
 pub new_places : (t u v new : List ℕ) (kept : Kept) (p q : Places) (x : Touched) (come : NewRows) (d : Cut) → u ≡ t → v ≡ exchanged kept u new →
     (k : TextChange t new kept p x) → ArePlacesRead k.read.written come → RowsExchanged p x come q → IsCut (exchanged kept t new) d → ArePlacesOf v q

@@ -36,9 +36,9 @@ first_there n m (o ∷ os) tail r e =
     let first : row_from_end n o ≡ offsets_of m (slices r) = cc in
     ap (λ (x : declared.Offsets). x.start) first
 
-none_behind : (l : List Item) → false ≡ not (no_items l) → l ≡ []
-none_behind [] e = refl
-none_behind (i ∷ l) e = absurd cc
+none_following : (l : List Item) → false ≡ not (no_items l) → l ≡ []
+none_following [] e = refl
+none_following (i ∷ l) e = absurd cc
 
 -- items with one text are read alone as the same ones
 read_same : (w z xs ys : List Item) → IsReadAlone w z → IsReadAlone xs ys → items_text w [] ≡ items_text xs [] → region_items w z ≡ region_items xs ys
@@ -57,8 +57,8 @@ module _ (t : List ℕ) (kept : Kept) (p : Places) (x : Touched) (last : EndPlac
   front_ends = ap (λ (s : Side). s.ends) k.front_is
 
   -- the row in front, and the next one
-  pub own : (r : Row) × (rest : List Item) × (k.touched ++ k.read.behind ≡ row_item r ∷ rest)
-  own = row_next p b (k.touched ++ k.read.behind) d.end k.placed (subst (λ (n : ℕ). slice_get p.ends n ≡ Some d.end) front_ends d.end_is) (omega (arith, front_rows, d.one_row, d.later))
+  pub own : (r : Row) × (rest : List Item) × (k.touched ++ k.read.after ≡ row_item r ∷ rest)
+  own = row_next p b (k.touched ++ k.read.after) d.end k.placed (subst (λ (n : ℕ). slice_get p.ends n ≡ Some d.end) front_ends d.end_is) (omega (arith, front_rows, d.one_row, d.later))
 
   abbrev one : List Item
   one = row_item own.0 ∷ []
@@ -69,7 +69,7 @@ module _ (t : List ℕ) (kept : Kept) (p : Places) (x : Touched) (last : EndPlac
   abbrev f : List Item
   f = b ++ one
 
-  group : b ++ (k.touched ++ k.read.behind) ≡ f ++ rest
+  group : b ++ (k.touched ++ k.read.after) ≡ f ++ rest
   group = ap (λ l. b ++ l) own.2 ∙ sym (append_assoc b one rest)
 
   placed : AreAt p (f ++ rest)
@@ -86,7 +86,7 @@ module _ (t : List ℕ) (kept : Kept) (p : Places) (x : Touched) (last : EndPlac
 
   -- the split
   abbrev back : List declared.Offsets
-  back = map (row_from_end (text_length (f ++ rest))) (reverse p.behind.items)
+  back = map (row_from_end (text_length (f ++ rest))) (reverse p.after.items)
 
   sides : p.front.items ++ back ≡ near 0 f ++ near (0 + text_length f) rest
   sides = placed.rows_are ∙ near_joined 0 f rest
@@ -94,13 +94,13 @@ module _ (t : List ℕ) (kept : Kept) (p : Places) (x : Touched) (last : EndPlac
   front_are : p.front.items ≡ near 0 f
   front_are = sym (take_at p.front.items back (length p.front.items) refl) ∙ (ap (take (length p.front.items)) sides ∙ take_at (near 0 f) (near (0 + text_length f) rest) (length p.front.items) rows_f)
 
-  behind_are : back ≡ near (0 + text_length f) rest
-  behind_are = sym (drop_at p.front.items back (length p.front.items) refl) ∙ (ap (drop (length p.front.items)) sides ∙ drop_at (near 0 f) (near (0 + text_length f) rest) (length p.front.items) rows_f)
+  after_are : back ≡ near (0 + text_length f) rest
+  after_are = sym (drop_at p.front.items back (length p.front.items) refl) ∙ (ap (drop (length p.front.items)) sides ∙ drop_at (near 0 f) (near (0 + text_length f) rest) (length p.front.items) rows_f)
 
   begins : kept.front ≡ text_length f
   begins =
       let m : ℕ = 0 + text_length f in
-      let there = first_there (text_length (f ++ rest)) m (reverse p.behind.items) _ next.0 (behind_are ∙ ap (near m) next.2) in
+      let there = first_there (text_length (f ++ rest)) m (reverse p.after.items) _ next.0 (after_are ∙ ap (near m) next.2) in
       search (rules, cut_long, group, m, there)
 
   -- what would be read
@@ -117,8 +117,8 @@ module _ (t : List ℕ) (kept : Kept) (p : Places) (x : Touched) (last : EndPlac
       let none : drop (length t - kept.back) (take x.old.bytes t) ≡ [] = drop_all (length t - kept.back) (take x.old.bytes t) (omega (arith, d.nothing_kept, length-take x.old.bytes t)) in
       ap (λ l. drop x.front.bytes (take kept.front t) ++ l) none ∙ append-nil (drop x.front.bytes (take kept.front t))
 
-  nothing : k.read.behind ≡ []
-  nothing = none_behind k.read.behind (sym d.more ∙ k.read.more)
+  nothing : k.read.after ≡ []
+  nothing = none_following k.read.after (sym d.more ∙ k.read.more)
 
   abbrev final : List Item
   final = end_item [] [] ∷ []
@@ -127,7 +127,7 @@ module _ (t : List ℕ) (kept : Kept) (p : Places) (x : Touched) (last : EndPlac
   written =
       let mine : IsReadAlone one rest = region one rest (record { text = t; cut = c; is_cut = is; front = b; items = sym (k.old_items c is) ∙ ap (λ l. b ++ l) own.2; some = refl }) in
       ap (region_items k.read.written) (sym nothing)
-      ∙ (read_same k.read.written k.read.behind one rest k.read.read mine (sym k.read.text ∙ (region_is ∙ front_text)) ∙ ap (region_items one) next.2)
+      ∙ (read_same k.read.written k.read.after one rest k.read.read mine (sym k.read.text ∙ (region_is ∙ front_text)) ∙ ap (region_items one) next.2)
 
   -- the places that stay
   ends_final : ends_near 0 0 (f ++ final) ≡ ends_near 0 0 f ++ end_at (0 + text_length f) (0 + length (near 0 f)) [] [] ∷ []
@@ -141,20 +141,20 @@ module _ (t : List ℕ) (kept : Kept) (p : Places) (x : Touched) (last : EndPlac
       let first : take n p.ends ≡ ends_near 0 0 f = ap (take n) (placed.ends_are ∙ ends_joined 0 0 f rest) ∙ take_at (ends_near 0 0 f) (ends_near (0 + text_length f) (0 + length (near 0 f)) rest) n (omega (arith, ends_f, d.one_end)) in
       search (rules, rows_f, begins, set_split, ends_final, first, n, some, gone)
 
-  final_placed : (q : Places) → q.front.items ≡ p.front.items → q.behind.items ≡ [] → q.ends ≡ slice_set p.ends (length p.ends - 1) last → q.split ≡ kept.front → ArePlaced q (f ++ final) []
-  final_placed q rows behind ends split =
+  final_placed : (q : Places) → q.front.items ≡ p.front.items → q.after.items ≡ [] → q.ends ≡ slice_set p.ends (length p.ends - 1) last → q.split ≡ kept.front → ArePlaced q (f ++ final) []
+  final_placed q rows after ends split =
       let all : f ++ final ≡ (f ++ final) ++ [] = sym (append-nil (f ++ final)) in
       record {
         split_is = omega (arith, split, begins, joined_long f final);
         front_are = rows ∙ (front_are ∙ sym (near_joined 0 f final ∙ append-nil (near 0 f)));
-        behind_are = ap reverse behind;
+        after_are = ap reverse after;
         ends_are = ends ∙ (ends_set ∙ ap (ends_near 0 0) all);
         texts = subst TextsIn all (texts_joined f final (texts_first f rest placed.texts) (IsUtf8-nil, IsUtf8-nil, tt));
         small = omega (arith, ap text_length (sym all), joined_long f final, joined_long f rest, placed.small);
       }
 
-  pub rows_dropped : (q : Places) → q.front.items ≡ p.front.items → q.behind.items ≡ [] → q.ends ≡ slice_set p.ends (length p.ends - 1) last → q.split ≡ kept.front → ArePlaced q (b ++ k.read.written) k.read.behind
-  rows_dropped q rows behind ends split = search (rules, nothing, final_placed, append_assoc, written)
+  pub rows_dropped : (q : Places) → q.front.items ≡ p.front.items → q.after.items ≡ [] → q.ends ≡ slice_set p.ends (length p.ends - 1) last → q.split ≡ kept.front → ArePlaced q (b ++ k.read.written) k.read.after
+  rows_dropped q rows after ends split = search (rules, nothing, final_placed, append_assoc, written)
 
   -- the text that stays
   pub kept_text : take kept.front t ≡ exchanged kept t []
@@ -163,9 +163,9 @@ module _ (t : List ℕ) (kept : Kept) (p : Places) (x : Touched) (last : EndPlac
       sym (ap (λ l. take kept.front t ++ l) none ∙ append-nil (take kept.front t))
 
   pub dropped_places : (u : List ℕ) (q : Places) (new : Cut) → IsCut (exchanged kept t []) new → u ≡ take kept.front t →
-      q.front.items ≡ p.front.items → q.behind.items ≡ [] → q.ends ≡ slice_set p.ends (length p.ends - 1) last → q.split ≡ kept.front → ArePlacesOf u q
-  dropped_places u q new new_is text_is rows behind ends split =
-      let both : BothSides q (items_of_cut new) = (b ++ k.read.written, k.read.behind, append_assoc b k.read.written k.read.behind ∙ k.items new new_is, rows_dropped q rows behind ends split) in
+      q.front.items ≡ p.front.items → q.after.items ≡ [] → q.ends ≡ slice_set p.ends (length p.ends - 1) last → q.split ≡ kept.front → ArePlacesOf u q
+  dropped_places u q new new_is text_is rows after ends split =
+      let both : BothSides q (items_of_cut new) = (b ++ k.read.written, k.read.after, append_assoc b k.read.written k.read.after ∙ k.items new new_is, rows_dropped q rows after ends split) in
       subst (λ (l : List ℕ). ArePlacesOf l q) (sym (text_is ∙ kept_text)) (places_of (exchanged kept t []) q (placed_in (exchanged kept t []) q new new_is both))
 
   -- what is counted

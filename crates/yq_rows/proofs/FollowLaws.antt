@@ -6,19 +6,19 @@ use Rattle.std.{proofs.lemmas.Str.IsUtf8-nil, specs.Str.IsUtf8}
 use Rattle.yq_row_table.specs.Grammar.{IsCut, IsMarkerLine}
 use Rattle.yq_row_table.specs.Items.{Item, end_item, items_of_cut, items_text, nothing_asked, asked_of, AreRowItems}
 use Rattle.yq_row_table.{specs.Kept.{kept_rows, near, ends_near, TextsIn}, specs.Meter.begins_line}
-use Rattle.yq_row_table.{specs.Regions.{StandIn, ended, no_items}, specs.Rows.Cut, specs.Touched.{TouchesOnly, in_back, in_front}}
+use Rattle.yq_row_table.{specs.Regions.{AreItemsIn, ended, no_items}, specs.Rows.Cut, specs.Touched.{TouchesOnly, in_back, before_offset}}
 use Rattle.yq_row_table.{specs.declared.ends.EndPlace.EndPlace, specs.declared.places.Places.Places}
 use Rattle.yq_row_table.{proofs.ItemLaws.{items_joined, items_of_text, parts_are_items}, proofs.KeptLaws.{items_texts, near_joined}}
 use Rattle.yq_row_table.{proofs.RegionEnds.region_end, proofs.RegionLaws.region, proofs.ScanLaws.one_cut}
 use Rattle.yq_rows.specs.Exchanging.{TextChange}
-use Rattle.yq_rows.specs.Following.{Follows, behind_end, exchanged, keeps_end, read_text, text_read, without_line}
+use Rattle.yq_rows.specs.Following.{Follows, after_end_item, exchanged, keeps_end, read_text, text_read, without_line}
 use Rattle.yq_rows.specs.Reading.{AreEdges, IsRead, IsUnread, read_part, region_text, unread_end}
-use Rattle.yq_rows.specs.Sides.{AreAt, IsSplitAt, IsSideBehind, marked_end, not_in_back, side_of, text_length}
+use Rattle.yq_rows.specs.Sides.{AreAt, IsSplitAt, IsSideAfter, marked_end, not_in_back, side_of, text_length}
 use Rattle.yq_rows.{specs.declared.kept.Kept.Kept, specs.declared.sides.Side.Side, specs.declared.touched.Touched.Touched}
 use Rattle.yq_rows.{proofs.BackLaws.back_taken, proofs.BeginLaws.{back_found, joined_long}}
 use Rattle.yq_rows.proofs.CountLaws.{near_count, ends_count, ends_joined}
 use Rattle.yq_rows.proofs.EdgeLaws.{Pieces, begin_edge, back_edge, end_edge, region_ends, region_is}
-use Rattle.yq_rows.{proofs.ExchangeLaws.{kept_count, texts_first, texts_second}, proofs.KeptSides.{back_long, last_long, some_behind}}
+use Rattle.yq_rows.{proofs.ExchangeLaws.{kept_count, texts_first, texts_second}, proofs.KeptSides.{back_long, last_long, some_after}}
 use Rattle.yq_rows.{proofs.ItemPlaces.{cut_long, cut_places, text_split}, proofs.MarkedLaws.{KeepsEnd, KeepsMarker, agrees}}
 use Rattle.yq_rows.{proofs.MarkerLaws.{marker_stays, marker_there}, proofs.ReadLaws.{unread_is, without, without_none}}
 use Rattle.yq_rows.proofs.PassedLaws.{FrontStays}
@@ -27,7 +27,7 @@ use Rattle.yq_rows.proofs.PassedLaws.{FrontStays}
 three : (a b c : List Item) → items_text (a ++ (b ++ c)) [] ≡ items_text a [] ++ (items_text b [] ++ items_text c [])
 three a b c = text_split a (b ++ c) ∙ ap (λ l. items_text a [] ++ l) (text_split b c)
 
-module _ (t new : List ℕ) (kept : Kept) (p : Places) (x : Touched) (h : Follows t p kept new) (split : IsSplitAt kept.front (length t) p) (s : FrontStays t new kept p h x.front) (behind : IsSideBehind p (length t) kept.back x.old)
+module _ (t new : List ℕ) (kept : Kept) (p : Places) (x : Touched) (h : Follows t p kept new) (split : IsSplitAt kept.front (length t) p) (s : FrontStays t new kept p h x.front) (after : IsSideAfter p (length t) kept.back x.old)
     (marked_is : x.marked ≡ marked_end p.ends x.front x.old (length t - kept.back)) (more_is : x.more ≡ (ltb x.old.rows (length (kept_rows p)) || ltb x.old.ends (length p.ends))) where
   abbrev xs : List Item
   xs = items_of_cut h.old_cut
@@ -63,8 +63,8 @@ module _ (t new : List ℕ) (kept : Kept) (p : Places) (x : Touched) (h : Follow
   old_is =
       let b = back_found xs 0 kept.back in
       let y : List Item = not_in_back kept.back xs in
-      let all : y ++ z ≡ (f ++ tch) ++ z = (λ i. b.is_front i ++ b.is_behind i) ∙ (sym b.split ∙ group) in
-      behind xs kept.front at_xs split h.within long ∙ ap side_of (append_cancel_right y (f ++ tch) z all)
+      let all : y ++ z ≡ (f ++ tch) ++ z = (λ i. b.is_front i ++ b.comes_later i) ∙ (sym b.split ∙ group) in
+      after xs kept.front at_xs split h.within long ∙ ap side_of (append_cancel_right y (f ++ tch) z all)
 
   placed : AreAt p (f ++ (tch ++ z))
   placed = subst (AreAt p) s.old_are at_xs
@@ -141,11 +141,11 @@ module _ (t new : List ℕ) (kept : Kept) (p : Places) (x : Touched) (h : Follow
           ∙ ap (λ (n : ℕ). length (ends_near 0 0 (f ++ tch)) + n) (ends_count m k 0 0 z))))
 
       go : (l : List Item) → length (kept_rows p) ≡ x.old.rows + length (near 0 l) → length p.ends ≡ x.old.ends + length (ends_near 0 0 l) → (ltb x.old.rows (length (kept_rows p)) || ltb x.old.ends (length p.ends)) ≡ not (no_items l)
-      go l h1 h2 = search (rules, le-ltb, ⊎_elim, lt-ltb, some_behind, cases_lt, or_right)
+      go l h1 h2 = search (rules, le-ltb, ⊎_elim, lt-ltb, some_after, cases_lt, or_right)
 
   -- the items that are read
-  stand_in : (a b : List Item) → w ++ z ≡ a ++ b → StandIn a b
-  stand_in a b is = record {
+  are_items_in : (a b : List Item) → w ++ z ≡ a ++ b → AreItemsIn a b
+  are_items_in a b is = record {
     text = exchanged kept t new;
     cut = h.new_cut;
     is_cut = h.new_is;
@@ -192,23 +192,23 @@ module _ (t new : List ℕ) (kept : Kept) (p : Places) (x : Touched) (h : Follow
     stays begins =
         let lead = ends_so.0 in
         let place : length (items_text w []) - e.marker ≡ length lead = omega (arith, k.long, ap length ends_so.1, length-append lead k.marker) in
-        let behind = items_joined f (w ++ z) nothing_asked [] (subst (λ (l : List Item). AreRowItems nothing_asked l []) s.new_are (parts_are_items h.new_cut true h.new_is.parts)) in
-        marker_stays (asked_of nothing_asked f) w z lead k.marker behind line ends_so.1 (subst (λ (n : ℕ). begins_line (items_text w []) n ≡ true) place begins) k.some
+        let after = items_joined f (w ++ z) nothing_asked [] (subst (λ (l : List Item). AreRowItems nothing_asked l []) s.new_are (parts_are_items h.new_cut true h.new_is.parts)) in
+        marker_stays (asked_of nothing_asked f) w z lead k.marker after line ends_so.1 (subst (λ (n : ℕ). begins_line (items_text w []) n ≡ true) place begins) k.some
         (λ u i is. omega (arith, k.within, pieces.last, last_long kept.back f u z i (ap (λ (l : List Item). in_back kept.back (f ++ (l ++ z))) (sym is) ∙ (ap (in_back kept.back) (sym s.new_are) ∙ h.touches.back_same))))
 
     unread : begins_line (items_text w []) (length (items_text w []) - e.marker) ≡ true → IsUnread w e
     unread begins =
         let y = stays begins in
         let texts = texts_second k.front (end_item k.gap k.marker ∷ []) (subst TextsIn k.items (texts_first tch z (texts_second f (tch ++ z) placed.texts))) in
-        record { front = y.0; gap = y.1; marker = k.marker; items = y.2; long = k.long; text = texts.1; read = region_end y.0 z y.1 k.marker (stand_in (ended y.0 y.1 k.marker) z (ap (λ (l : List Item). l ++ z) y.2)) }
+        record { front = y.0; gap = y.1; marker = k.marker; items = y.2; long = k.long; text = texts.1; read = region_end y.0 z y.1 k.marker (are_items_in (ended y.0 y.1 k.marker) z (ap (λ (l : List Item). l ++ z) y.2)) }
 
   read : IsRead part x
   read =
       record {
         written = w;
-        behind = z;
+        after = z;
         text = part_is;
-        read = region w z (stand_in w z refl);
+        read = region w z (are_items_in w z refl);
         more = more;
         unread = λ d is. go x.marked reports d (ap (λ (l : List ℕ). unread_end l x.marked) (sym part_is) ∙ is);
         small = omega (arith, ap length part_is, new_size, h.new_is.size);
@@ -228,12 +228,12 @@ module _ (t new : List ℕ) (kept : Kept) (p : Places) (x : Touched) (h : Follow
   -- of what is touched and written there are no two
   same_read : (j : TouchesOnly kept.front kept.back h.old_cut h.new_cut) → read_text kept h.old_cut h.new_cut j ≡ read_text kept h.old_cut h.new_cut h.touches
   same_read j =
-      let y : List Item = in_front kept.front xs in
+      let y : List Item = before_offset kept.front xs in
       let old : j.touched ≡ h.touches.touched =
       append_cancel_right j.touched h.touches.touched z (append_cancel_left y (j.touched ++ z) (h.touches.touched ++ z) (sym j.old_are ∙ h.touches.old_are)) in
       let come : j.written ≡ h.touches.written =
       append_cancel_right j.written h.touches.written z (append_cancel_left y (j.written ++ z) (h.touches.written ++ z) (sym j.new_are ∙ h.touches.new_are)) in
-      λ i. text_read m (behind_end (keeps_end kept h.old_cut (old i)) (old i)) (behind_end (keeps_end kept h.old_cut (old i)) (come i))
+      λ i. text_read m (after_end_item (keeps_end kept h.old_cut (old i)) (old i)) (after_end_item (keeps_end kept h.old_cut (old i)) (come i))
 
   once : (c d : Cut) → IsCut t c → IsCut (exchanged kept t new) d → (j : TouchesOnly kept.front kept.back c d) → read_text kept c d j ≡ read_part part x.marked
   once c d was is =

@@ -2,20 +2,20 @@
 use Rattle.std.proofs.Common.{◌≡◌, ⊎_elim, ltb, cond, Bool, true, false, ℕ, ◌+◌, ◌-◌, ◌<◌, ◌≤◌, List, [], ◌∷◌, ◌++◌, length, refl, sym, ap}
 use Rattle.std.{proofs.Common.{◌∙◌, arith, append_assoc, length-append, ltb-true, rules}, proofs.lemmas.Bool.{cases_lt, lt-ltb}}
 use Rattle.yq_row_table.{specs.Items.{Item, row_item, end_item, items_of_cut, rows_items}, specs.Kept.{near, ends_near}}
-use Rattle.yq_row_table.{specs.Regions.no_items, specs.Rows.{Row, Cut, last, marked}, specs.Touched.{in_back, in_front, item_text}}
+use Rattle.yq_row_table.{specs.Regions.no_items, specs.Rows.{Row, Cut, last, marked}, specs.Touched.{in_back, before_offset, item_text}}
 use Rattle.yq_rows.{specs.Sides.text_length, proofs.BeginLaws.first_long}
 
 -- a cut has items, and not all of them are in front of an offset within its text
-pub all_in_front : (xs : List Item) (n : ℕ) → in_front n xs ≡ xs → no_items xs ≡ false → text_length xs < n
-all_in_front [] n all some = absurd cc
-all_in_front (i ∷ xs) n all some = go (λ rest more. all_in_front xs (n - length (item_text i)) rest more) (ltb (length (item_text i)) n) refl where
+pub all_before_offset : (xs : List Item) (n : ℕ) → before_offset n xs ≡ xs → no_items xs ≡ false → text_length xs < n
+all_before_offset [] n all some = absurd cc
+all_before_offset (i ∷ xs) n all some = go (λ rest more. all_before_offset xs (n - length (item_text i)) rest more) (ltb (length (item_text i)) n) refl where
   tail : (j k : Item) (ys zs : List Item) → j ∷ ys ≡ k ∷ zs → ys ≡ zs
   tail j k ys zs e = cc
 
   one : (ys : List Item) → (no_items ys ≡ false → text_length ys < n - length (item_text i)) → length (item_text i) < n → text_length (i ∷ ys) < n
   one ys h1 h2 = search (rules, first_long)
 
-  go : (in_front (n - length (item_text i)) xs ≡ xs → no_items xs ≡ false → text_length xs < n - length (item_text i)) → (b : Bool) → ltb (length (item_text i)) n ≡ b → text_length (i ∷ xs) < n
+  go : (before_offset (n - length (item_text i)) xs ≡ xs → no_items xs ≡ false → text_length xs < n - length (item_text i)) → (b : Bool) → ltb (length (item_text i)) n ≡ b → text_length (i ∷ xs) < n
   go h1 b h2 = search (rules, ltb-true, tail, one)
 
 rows_some : (rs : List Row) (i : Item) (xs : List Item) → no_items (rows_items rs (i ∷ xs)) ≡ false
@@ -27,11 +27,11 @@ cut_some (last p) = rows_some p.rows (end_item p.end []) []
 cut_some (marked p marker c) = rows_some p.rows (end_item p.end marker) (items_of_cut c)
 
 -- how long what is kept on either side is
-pub front_long : (n : ℕ) (xs : List Item) → text_length (in_front n xs) ≤ n
+pub front_long : (n : ℕ) (xs : List Item) → text_length (before_offset n xs) ≤ n
 front_long n [] = omega arith
 front_long n (i ∷ xs) = go (front_long (n - length (item_text i)) xs) (ltb (length (item_text i)) n) refl
   where
-    go : text_length (in_front (n - length (item_text i)) xs) ≤ n - length (item_text i) → (b : Bool) → ltb (length (item_text i)) n ≡ b → text_length (cond b (i ∷ in_front (n - length (item_text i)) xs) []) ≤ n
+    go : text_length (before_offset (n - length (item_text i)) xs) ≤ n - length (item_text i) → (b : Bool) → ltb (length (item_text i)) n ≡ b → text_length (cond b (i ∷ before_offset (n - length (item_text i)) xs) []) ≤ n
     go h1 b h2 = search (rules, first_long, ltb-true)
 
 pub back_long : (n : ℕ) (xs : List Item) → text_length (in_back n xs) ≤ n
@@ -42,9 +42,9 @@ back_long n (i ∷ xs) = go (back_long n xs) (ltb (text_length (i ∷ xs)) n) re
     go h1 b h2 = search (rules, ltb-true)
 
 -- something comes after, as a row or as the end of a part
-pub some_behind : (i : Item) (z : List Item) → length (near 0 (i ∷ z)) + length (ends_near 0 0 (i ∷ z)) ≡ 0 → ⊥
-some_behind (row_item r) z h = omega (arith, h)
-some_behind (end_item gap marker) z h = omega (arith, h)
+pub some_after : (i : Item) (z : List Item) → length (near 0 (i ∷ z)) + length (ends_near 0 0 (i ∷ z)) ≡ 0 → ⊥
+some_after (row_item r) z h = omega (arith, h)
+some_after (end_item gap marker) z h = omega (arith, h)
 
 -- items that are kept after, where others in front of them would be kept too
 abbrev BackMore : List Item → List Item → ℕ → Type 0

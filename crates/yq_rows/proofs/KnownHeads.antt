@@ -15,5 +15,5 @@ pub head_known : (d : ℕ) (t rest lead head : List ℕ) (nothing : Bool) → Ma
 head_known d t rest lead head nothing may lead_is head_is more =
     let p = may more in
     let front : (cut_lead nothing (cut_anchor t).1).1 ≡ t =
-    subst (λ (u : List ℕ). (cut_lead nothing (cut_anchor u).1).1 ≡ u) (sym p.1.stands) (ap (λ (y : List ℕ × List ℕ). y.1) (opened p.1.close p.1.after nothing)) in
+    subst (λ (u : List ℕ). (cut_lead nothing (cut_anchor u).1).1 ≡ u) (sym p.1.is_located) (ap (λ (y : List ℕ × List ℕ). y.1) (opened p.1.close p.1.after nothing)) in
     (p.0, subst (IsWholeCollection d) (sym (head_is ∙ ap (λ (l : List ℕ). take (length l - length rest) l) (lead_is ∙ front))) (passed_whole d t rest p.1))

@@ -40,10 +40,10 @@ no_fresh : (p : List ℕ) → NoFeed p → fresh false p ≡ false
 no_fresh [] h = refl
 no_fresh (b ∷ p) h = ap (λ (x : Bool). fresh x p) h.0 ∙ no_fresh p h.1
 
-line_behind : (p q : List ℕ) → NoFeed p → is_line q ≡ true → is_line (p ++ q) ≡ true
+line_after : (p q : List ℕ) → NoFeed p → is_line q ≡ true → is_line (p ++ q) ≡ true
 unfolding is_line
-line_behind [] q h line = line
-line_behind (b ∷ p) q h line = rw h.0 (line_behind p q h.1 line)
+line_after [] q h line = line
+line_after (b ∷ p) q h line = rw h.0 (line_after p q h.1 line)
 
 tail_is_line : (p rest : List ℕ) → IsTail p rest → fresh false p ≡ true → is_line p ≡ true
 tail_is_line p rest h last =
@@ -52,7 +52,7 @@ tail_is_line p rest h last =
     let comment : NoFeed h.comment = comment_all h.comment b h.line.as_comment in
     ⊎_elim {0, 0, 0}
     (λ (e : (is_break b && is_line b) ≡ true).
-    subst (λ (l : List ℕ). is_line l ≡ true) (sym h.line.spelled) (line_behind h.white (h.comment ++ b) white (line_behind h.comment b comment (and_parts (is_break b) (is_line b) e).1)))
+    subst (λ (l : List ℕ). is_line l ≡ true) (sym h.line.spelled) (line_after h.white (h.comment ++ b) white (line_after h.comment b comment (and_parts (is_break b) (is_line b) e).1)))
     (λ (none : (b ≡ []) × (rest ≡ [])).
     let all : NoFeed p = subst NoFeed (sym h.line.spelled) (both_all h.white (h.comment ++ b) white (both_all h.comment b comment (subst NoFeed (sym none.0) tt))) in
     absurd (false≢true (sym (no_fresh p all) ∙ last)))
@@ -60,7 +60,7 @@ tail_is_line p rest h last =
 
 three_is_line : (a b c : ℕ) (p rest : List ℕ) → is_feed a ≡ false → is_feed b ≡ false → is_feed c ≡ false → IsTail p rest → fresh false (a ∷ (b ∷ (c ∷ p))) ≡ true → is_line (a ∷ (b ∷ (c ∷ p))) ≡ true
 three_is_line a b c p rest x y z tail last =
-    line_behind (a ∷ (b ∷ (c ∷ []))) p (x, (y, (z, tt))) (tail_is_line p rest tail (subst (λ (s : Bool). fresh s p ≡ true) z last))
+    line_after (a ∷ (b ∷ (c ∷ []))) p (x, (y, (z, tt))) (tail_is_line p rest tail (subst (λ (s : Bool). fresh s p ≡ true) z last))
 
 marker_is_line : (m rest : List ℕ) → IsMarkerLine m rest → fresh false m ≡ true → is_line m ≡ true
 marker_is_line [] rest h last = absurd (let l = h.long in omega (arith, l))

@@ -113,15 +113,15 @@ marker_stays asked w z lead marker h line text begins some last = ⊎_elim {0, 0
     fresh_last : (u : List Item) (i : Item) → (c : Cuts (items_text u []) (item_text i) lead marker) → fresh true c.0 ≡ true
     fresh_last u i c = search (rules, begins_fresh, fresh_any, fresh_joined)
 
-    behind : (u : List Item) (i : Item) → w ≡ u ++ (i ∷ []) → AreRowItems (asked_of asked u) (i ∷ z) []
-    behind u i is = items_joined u (i ∷ z) asked [] (subst (λ (l : List Item). AreRowItems asked l []) (ap (λ (l : List Item). l ++ z) is ∙ append_assoc u (i ∷ []) z) h)
+    after : (u : List Item) (i : Item) → w ≡ u ++ (i ∷ []) → AreRowItems (asked_of asked u) (i ∷ z) []
+    after u i is = items_joined u (i ∷ z) asked [] (subst (λ (l : List Item). AreRowItems asked l []) (ap (λ (l : List Item). l ++ z) is ∙ append_assoc u (i ∷ []) z) h)
 
     by_last : (u : List Item) (i : Item) → w ≡ u ++ (i ∷ []) → (front : List Item) × (gap : List ℕ) × (w ≡ ended front gap marker)
     by_last u (row_item r) is =
         let c = cut_last u (row_item r) is in
-        absurd (row_ends _ r c.0 marker (items_text z []) (behind u (row_item r) is).0.1 line c.1 (fresh_last u (row_item r) c) some)
+        absurd (row_ends _ r c.0 marker (items_text z []) (after u (row_item r) is).0.1 line c.1 (fresh_last u (row_item r) c) some)
     by_last u (end_item gap m) is =
         let c = cut_last u (end_item gap m) is in
-        let b = behind u (end_item gap m) is in
+        let b = after u (end_item gap m) is in
         let same : m ≡ marker = end_ends u z gap m c.0 marker b.0.0 b.0.1 line c.1 (fresh_last u (end_item gap m) c) some in
         (u, gap, is ∙ ap (λ (l : List ℕ). ended u gap l) same)

@@ -6,14 +6,15 @@ use Rattle.yq_core.specs.Text.{is_line}
 use Rattle.yq_row_table.{specs.Ends.end_at, specs.Grammar.IsMarkerLine}
 use Rattle.yq_row_table.specs.Items.{Item, end_item, items_of_cut, items_text, nothing_asked, asked_of, AreRowItems}
 use Rattle.yq_row_table.{specs.Kept.{near, ends_near}, specs.Meter.begins_line, specs.Reading.all_parts}
-use Rattle.yq_row_table.{specs.Regions.{IsReadAlone, no_items}, specs.Rows.{Cut, marked}, specs.Touched.{in_back, in_front}}
+use Rattle.yq_row_table.{specs.Regions.{IsReadAlone, no_items}, specs.Rows.{Cut, marked}, specs.Touched.{in_back, before_offset}}
 use Rattle.yq_row_table.{specs.declared.ends.EndPlace.EndPlace, specs.declared.places.Places.Places}
 use Rattle.yq_row_table.{proofs.ItemLaws.{items_joined, items_of_text, parts_are_items}, proofs.RegionLaws.region}
-use Rattle.yq_rows.specs.Following.{Follows, exchanged, behind_end, is_end_of, keeps_end, read_text, text_read}
+use Rattle.yq_rows.specs.Following.{Follows, exchanged, after_end_item, is_end_of, keeps_end, read_text, text_read}
 use Rattle.yq_rows.{specs.Sides.{AreAt, IsSideBefore, IsSplitAt, past_end, side_of, text_length}, specs.declared.kept.Kept.Kept}
 use Rattle.yq_rows.{specs.declared.sides.Side.Side, proofs.BeginLaws.{first_long, joined_long}, proofs.CountLaws.ends_joined}
-use Rattle.yq_rows.{proofs.ItemPlaces.{cut_long, cut_places, text_split}, proofs.KeptSides.{all_in_front, back_long, cut_some, front_long}}
-use Rattle.yq_rows.{proofs.LineStarts.line_of_marker, proofs.SideLaws.{ends_end, front_taken, rows_end, sides_same}}
+use Rattle.yq_rows.proofs.ItemPlaces.{cut_long, cut_places, text_split}
+use Rattle.yq_rows.{proofs.KeptSides.{all_before_offset, back_long, cut_some, front_long}, proofs.LineStarts.line_of_marker}
+use Rattle.yq_rows.proofs.SideLaws.{ends_end, front_taken, rows_end, sides_same}
 use Rattle.yq_rows.proofs.PassedEnds.{FirstEnd, end_joined, end_read, first_end, past_is, slice_next, test, uncons}
 
 -- ---- items in front
@@ -37,7 +38,7 @@ module _ (t new : List ℕ) (kept : Kept) (p : Places) (h : Follows t p kept new
   xs = items_of_cut h.old_cut
 
   abbrev f : List Item
-  f = in_front kept.front xs
+  f = before_offset kept.front xs
 
   abbrev z : List Item
   z = in_back kept.back xs
@@ -73,7 +74,7 @@ module _ (t new : List ℕ) (kept : Kept) (p : Places) (h : Follows t p kept new
   some_left (i ∷ l) e = refl
   some_left [] e =
       let all : items_of_cut h.new_cut ≡ f = e ∙ append-nil f in
-      let less = all_in_front (items_of_cut h.new_cut) kept.front (h.touches.front_same ∙ sym all) (cut_some h.new_cut) in
+      let less = all_before_offset (items_of_cut h.new_cut) kept.front (h.touches.front_same ∙ sym all) (cut_some h.new_cut) in
       absurd (omega (arith, less, cut_long (exchanged kept t new) h.new_cut h.new_is, length-append (take kept.front t) (new ++ drop (length t - kept.back) t), length-take kept.front t, h.within))
 
   -- whether an end is kept
@@ -118,7 +119,7 @@ module _ (t new : List ℕ) (kept : Kept) (p : Places) (h : Follows t p kept new
         some = some_left (w ++ z) h.touches.new_are;
         side = side;
         rows = ap (λ (k : ℕ). take k p.front.items) (ap (λ (s : Side). s.rows) side) ∙ front_taken p xs kept.front at_xs here (omega (arith, fits));
-        read_is = ap (λ (b : Bool). text_read (kept.back - text_length z) (behind_end b tch) (behind_end b w)) (keeps_is ∙ e);
+        read_is = ap (λ (b : Bool). text_read (kept.back - text_length z) (after_end_item b tch) (after_end_item b w)) (keeps_is ∙ e);
       }
 
   -- one is
@@ -219,7 +220,7 @@ module _ (t new : List ℕ) (kept : Kept) (p : Places) (h : Follows t p kept new
       some = subst (λ (l : List Item). no_items l ≡ false) (sym later.2) (cut_some read.0);
       side = side;
       rows = ap (λ (k : ℕ). take k p.front.items) (ap (λ (s : Side). s.rows) side ∙ ap length (rows_end f i.gap i.marker)) ∙ (front_taken p xs kept.front at_xs here (omega (arith, fits)) ∙ sym (rows_end f i.gap i.marker));
-      read_is = ap (λ (b : Bool). text_read (kept.back - text_length z) (behind_end b tch) (behind_end b w)) (keeps_is ∙ e)
+      read_is = ap (λ (b : Bool). text_read (kept.back - text_length z) (after_end_item b tch) (after_end_item b w)) (keeps_is ∙ e)
           ∙ (λ j. text_read (kept.back - text_length z) (drop 1 (i.items j)) (drop 1 (later.1 j)));
     }
 

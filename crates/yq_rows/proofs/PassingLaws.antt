@@ -11,11 +11,11 @@ pub popped : (old new : List declared.Offsets) (n m : ℕ) (r : Option declared.
     m ≡ n → 0 < n → o ≡ slice_index_or old (m - 1) o → old ≡ new ++ o ∷ []
 popped old new n m r o all last same some own = search (rules, slice_index_or, option_to_list)
 
-pub passed_front : (n : ℕ) (front behind : List declared.Offsets) (o : declared.Offsets) → both_sides n (front ++ row_from_end n o ∷ []) behind ≡ both_sides n front (behind ++ o ∷ [])
-passed_front n front behind o = append_assoc front (row_from_end n o ∷ []) (map (row_from_end n) (reverse behind)) ∙ ap (λ l. front ++ map (row_from_end n) l) (sym (reverse-append behind (o ∷ [])))
+pub passed_front : (n : ℕ) (front after : List declared.Offsets) (o : declared.Offsets) → both_sides n (front ++ row_from_end n o ∷ []) after ≡ both_sides n front (after ++ o ∷ [])
+passed_front n front after o = append_assoc front (row_from_end n o ∷ []) (map (row_from_end n) (reverse after)) ∙ ap (λ l. front ++ map (row_from_end n) l) (sym (reverse-append after (o ∷ [])))
 
-pub passed_behind : (n : ℕ) (front behind : List declared.Offsets) (o : declared.Offsets) → Within n o → both_sides n front (behind ++ row_from_end n o ∷ []) ≡ both_sides n (front ++ o ∷ []) behind
-passed_behind n front behind o h = sym (passed_front n front behind (row_from_end n o)) ∙ ap (λ (p : declared.Offsets). both_sides n (front ++ p ∷ []) behind) (turned_one n o h)
+pub passed_after : (n : ℕ) (front after : List declared.Offsets) (o : declared.Offsets) → Within n o → both_sides n front (after ++ row_from_end n o ∷ []) ≡ both_sides n (front ++ o ∷ []) after
+passed_after n front after o h = sym (passed_front n front after (row_from_end n o)) ∙ ap (λ (p : declared.Offsets). both_sides n (front ++ p ∷ []) after) (turned_one n o h)
 
 pub last_pushed : (at : ℕ) (front : List declared.Offsets) (o : declared.Offsets) → o.start < at → LastBefore at (front ++ o ∷ [])
 last_pushed at front o less x e =

@@ -34,14 +34,14 @@ borrows_both p quoted borrows = ap (λ (x : Bool). x && borrows_text p) quoted �
 pub head_in_quotes : (h : List ℕ) → borrows_quoted h ≡ true → is_word_head h ≡ true
 head_in_quotes h borrows = or_right (is_empty h) _ (or_right (front is_word_byte h && not (holds_break h)) (borrows_quoted h) borrows)
 
-pub quoted_front : (spaces : Option ℕ) (t head behind : List ℕ) (is_word : Bool) → begins_with 34 t ≡ true → is_word ≡ is_quoted head → IsShortScalar t head behind →
-    IsFrontScalar spaces t head behind is_word
-quoted_front spaces t head behind is_word quote is s =
+pub quoted_front : (spaces : Option ℕ) (t head after : List ℕ) (is_word : Bool) → begins_with 34 t ≡ true → is_word ≡ is_quoted head → IsShortScalar t head after →
+    IsFrontScalar spaces t head after is_word
+quoted_front spaces t head after is_word quote is s =
     let quoted = quote_quoted t quote in
     record {
       block = quote_block t quote;
       other = quote_other t quote;
       begins = rw quoted refl;
-      read = quoted_outside spaces t head behind quote s;
+      read = quoted_outside spaces t head after quote s;
       word = λ yes. head_in_quotes head (borrows_both head (sym is ∙ yes) s.borrows);
     }

@@ -101,7 +101,7 @@ whole_parted region w (i ∷ z) more text read is =
 
 whole_or_marked : (region : List ℕ) (x : Touched) (h : IsRead region x) (u : Option EndPlace) → u ≡ unread_end region x.marked → Parted (without_marker region u) h.written u x.more
 whole_or_marked region x h (Some e) is = marked_parted region h.written e x.more h.text (h.unread e (sym is))
-whole_or_marked region x h None is = whole_parted region h.written h.behind x.more h.text h.read h.more
+whole_or_marked region x h None is = whole_parted region h.written h.after x.more h.text h.read h.more
 
 pub parted : (region text : List ℕ) (x : Touched) (h : IsRead region x) (u : Option EndPlace) → text ≡ without_marker region u → u ≡ unread_end region x.marked → Parted text h.written u x.more
 parted region text x h u part is = subst (λ (t : List ℕ). Parted t h.written u x.more) (sym part) (whole_or_marked region x h u is)
@@ -113,9 +113,9 @@ part_short region (Some e) = omega (arith, length-take (length region - e.marker
 -- the places that come of it
 pub comes : (region text : List ℕ) (x : Touched) (u : Option EndPlace) (p : Places) (s : RowsView) (ends : List EndPlace) (come : NewRows)
     (h : IsRead region x) → (k : Parted text h.written u x.more) → IsPlaced p s → s ≡ view_of_items (region_items k.items k.back) →
-    ends ≡ settled_ends p.ends u x.more → come.places.front.items ≡ p.front.items → come.places.behind.items ≡ p.behind.items →
+    ends ≡ settled_ends p.ends u x.more → come.places.front.items ≡ p.front.items → come.places.after.items ≡ p.after.items →
     come.places.ends ≡ ends → come.read ≡ length text → come.len ≡ length region → text ≡ without_marker region u → ArePlacesRead h.written come
-comes region text x u p s ends come h k placed shows ends_are front behind own read long part =
+comes region text x u p s ends come h k placed shows ends_are front after own read long part =
     let at = places_are p s (region_items k.items k.back) placed shows in
     search (rules, part_short, alone_are, at)
 

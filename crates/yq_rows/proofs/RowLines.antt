@@ -8,8 +8,8 @@ use Rattle.yq_core.{specs.declared.block_header.Chomping.Chomping, specs.declare
 use Rattle.yq_core.{specs.Text.{ends_line, is_break, is_empty, is_feed, is_line, is_marker, joined, NoneIn}, specs.Nodes.node_text}
 use Rattle.yq_row_table.specs.Gap.{AreGapLines, IsBreak, IsComment, IsGap, IsLineEnd, IsWhite}
 use Rattle.yq_row_table.specs.Grammar.{IsAnchor, IsContent, IsMark, IsMarkerLine, IsRow, IsTail, Limit, may_be_alone}
-use Rattle.yq_row_table.specs.Rows.{Anchor, Bare, Content, Dash, Inline, Key, RowMark, Nothing, Row, anchor_text, behind_gap, behind_indent}
-use Rattle.yq_row_table.specs.Rows.{content_text, dashes_text, mark_column, mark_text, parent_of, print_row}
+use Rattle.yq_row_table.specs.Rows.{Anchor, Bare, Content, Dash, Inline, Key, RowMark, Nothing, Row, anchor_text, following_gap}
+use Rattle.yq_row_table.specs.Rows.{after_indent, content_text, dashes_text, mark_column, mark_text, parent_of, print_row}
 use Rattle.yq_row_table.proofs.seams.MarkerSeams.{marker_byte}
 use Rattle.yq_rows.proofs.LineLaws.{NoFeed, Upto, line_lines, no_marker_byte, space_no_marker, upto_byte, upto_inside, upto_line, upto_none}
 use Rattle.yq_rows.{proofs.LineLaws.upto_piece, proofs.NodeLines.{name_no_feed, node_lines, scalar_lines, two_bytes}}
@@ -155,7 +155,7 @@ pub row_lines : (limit : Limit) (r : Row) (rest : List ℕ) → IsRow limit r re
 row_lines limit r rest h =
     let content = content_lines r.mark r.content (mark_column r) rest h.mark h.content in
     let indent = dashes_lines r.dashes (mark_text r.mark (content_text r.content rest)) rest (mark_lines r.mark r.content rest h.mark content) in
-    gap_lines r.gap (behind_gap r rest) rest h.gap (indent_lines r.column (behind_indent r rest) rest h.unmarked indent)
+    gap_lines r.gap (following_gap r rest) rest h.gap (indent_lines r.column (after_indent r rest) rest h.unmarked indent)
 
 -- a marker's line is one line
 pub marker_lines : (p rest : List ℕ) → IsMarkerLine p rest → Upto false (p ++ rest) rest

@@ -5,7 +5,7 @@ use Rattle.std.{proofs.Common.{take_at, rules}, specs.List.Sorted.{IsNonDecreasi
 use Rattle.std.{proofs.lemmas.List.{get_or_append_left, get_or_at}, proofs.lemmas.Option.{get_or_from_slice_get, slice_get-get_or}}
 use Rattle.std.specs.Prelude.{Some, slice_get}
 use Rattle.yq_row_table.{specs.Ends.end_at, specs.Items.{Item, row_item, end_item}, specs.Kept.{near, ends_near, row_from_end}}
-use Rattle.yq_row_table.{specs.Offsets.offsets_of, specs.Rows.Row, specs.Touched.{in_front, item_text}, specs.View.slices}
+use Rattle.yq_row_table.{specs.Offsets.offsets_of, specs.Rows.Row, specs.Touched.{before_offset, item_text}, specs.View.slices}
 use Rattle.yq_row_table.{specs.declared.ends.EndPlace.EndPlace, specs.declared.places.Places.Places, proofs.KeptLaws.near_joined}
 use Rattle.yq_row_table.proofs.RestSlicing.{starts_rise}
 use Rattle.yq_rows.{specs.Sides.{AreAt, IsSplitAt, LastBefore, ends_before, side_of, text_length}, specs.declared.sides.Side.Side}
@@ -33,8 +33,8 @@ front_kept p xs at placed gap h =
     let ends = placed.ends_are ∙ (ap (ends_near 0 0) h.split ∙ ends_joined 0 0 f h.rest) in
     record {
       rows_are = one_split (λ o. o.start < at) (λ o. at ≤ o.start) (λ o a b. omega (arith, a, b)) p.front.items
-          (map (row_from_end (text_length xs)) (reverse p.behind.items)) (near 0 f) (near m h.rest) rows gap.0
-          (first_turned at (text_length xs) p.behind.items gap.1)
+          (map (row_from_end (text_length xs)) (reverse p.after.items)) (near 0 f) (near m h.rest) rows gap.0
+          (first_turned at (text_length xs) p.after.items gap.1)
           (rows_begin (λ s. s < at) 0 f begun) (rows_begin (λ s. at ≤ s) m h.rest later);
       rest = ends_near m k h.rest;
       ends_are = ends;
@@ -58,8 +58,9 @@ pub sides_same : (a b c : ℕ) (s : Side) → a ≡ s.rows → b ≡ s.ends → 
 sides_same a b c s p q r = λ i. record { rows = p i; ends = q i; bytes = r i }
 
 -- the last end of a part that begins in front of an offset, where the last item there is a row
-end_in_front : (front : List Item) (rest es : List EndPlace) (e : EndPlace) (count : ℕ) → es ≡ ends_near 0 0 front ++ rest → count ≡ length (ends_near 0 0 front) → 0 < count → e ≡ get_or es (count - 1) e → e.rows ≤ length (near 0 front)
-end_in_front front rest es e count all is some own = search (rules, get_or_append_left, ends_rows)
+end_before_offset : (front : List Item) (rest es : List EndPlace) (e : EndPlace) (count : ℕ) → es ≡ ends_near 0 0 front ++ rest →
+    count ≡ length (ends_near 0 0 front) → 0 < count → e ≡ get_or es (count - 1) e → e.rows ≤ length (near 0 front)
+end_before_offset front rest es e count all is some own = search (rules, get_or_append_left, ends_rows)
 
 -- where it is that end of a part
 end_there : (front : List Item) (gap marker : List ℕ) (rest es : List EndPlace) (e : EndPlace) (count : ℕ) →
@@ -77,27 +78,27 @@ pub at_end : (front : List Item) (first : Item) (rows : List declared.Offsets) (
     FrontKept front first rows es count → n ≡ length rows → 0 < count → e ≡ get_or es (count - 1) e → n ≤ e.rows →
     record { rows = n; ends = count - 1; bytes = e.start } ≡ side_of front
 at_end front (row_item r) rows es e n count h long some own high =
-    let low = end_in_front front h.rest es e count (h.ends_are ∙ ap (λ (l : List EndPlace). l ++ h.rest) (ends_row front r)) (h.count_is ∙ ap length (ends_row front r)) some own in
+    let low = end_before_offset front h.rest es e count (h.ends_are ∙ ap (λ (l : List EndPlace). l ++ h.rest) (ends_row front r)) (h.count_is ∙ ap length (ends_row front r)) some own in
     absurd (omega (arith, low, high, long, ap length h.rows_are, ap length (rows_row front r), length-append (near 0 front) (offsets_of (text_length front) (slices r) ∷ [])))
 at_end front (end_item gap marker) rows es e n count h long some own high =
     let there = end_there front gap marker h.rest es e count h.ends_are h.count_is own in
     sides_same n (count - 1) e.start (side_of front) (long ∙ (ap length h.rows_are ∙ ap length (rows_end front gap marker))) (omega (arith, there.1)) (ap (λ (x : EndPlace). x.start) there.0)
 
 -- no end of a part comes after the last row there
-abbrev pub NoEndBehind : ℕ → List EndPlace → ℕ → Type 0
-NoEndBehind n es count = 0 < count → (e : EndPlace) × (e ≡ get_or es (count - 1) e) × (e.rows < n)
+abbrev pub NoEndAfter : ℕ → List EndPlace → ℕ → Type 0
+NoEndAfter n es count = 0 < count → (e : EndPlace) × (e ≡ get_or es (count - 1) e) × (e.rows < n)
 
-no_end : (front : List Item) (gap marker : List ℕ) (rows : List declared.Offsets) (es : List EndPlace) (n count : ℕ) → FrontKept front (end_item gap marker) rows es count → n ≡ length rows → NoEndBehind n es count → ⊥
+no_end : (front : List Item) (gap marker : List ℕ) (rows : List declared.Offsets) (es : List EndPlace) (n count : ℕ) → FrontKept front (end_item gap marker) rows es count → n ≡ length rows → NoEndAfter n es count → ⊥
 no_end front gap marker rows es n count h long none = search (rules, ends_end, length-append, end_there, rows_end)
 
 pub at_row : (front : List Item) (first : Item) (rows : List declared.Offsets) (es : List EndPlace) (o : declared.Offsets) (n count : ℕ) →
-    FrontKept front first rows es count → n ≡ length rows → NoEndBehind n es count → o ≡ get_or rows (n - 1) o →
+    FrontKept front first rows es count → n ≡ length rows → NoEndAfter n es count → o ≡ get_or rows (n - 1) o →
     record { rows = n - 1; ends = count; bytes = o.start } ≡ side_of front
 at_row front (row_item r) rows es o n count h long none own = search (rules, rows_row, length-append, get_or_at, sides_same, ends_row, no_end)
 at_row front (end_item gap marker) rows es o n count h long none own = absurd (no_end front gap marker rows es n count h long none)
 
 -- nothing begins in front
-pub at_none : (front : List Item) (first : Item) (rows : List declared.Offsets) (es : List EndPlace) (n count : ℕ) → FrontKept front first rows es count → n ≡ length rows → n ≡ 0 → NoEndBehind n es count → ⊥
+pub at_none : (front : List Item) (first : Item) (rows : List declared.Offsets) (es : List EndPlace) (n count : ℕ) → FrontKept front first rows es count → n ≡ length rows → n ≡ 0 → NoEndAfter n es count → ⊥
 at_none front (row_item r) rows es n count h long empty none = omega (arith, long, empty, ap length h.rows_are, ap length (rows_row front r), length-append (near 0 front) (offsets_of (text_length front) (slices r) ∷ []))
 at_none front (end_item gap marker) rows es n count h long empty none = no_end front gap marker rows es n count h long none
 
@@ -126,25 +127,25 @@ ends_counted_at p xs n at h placed = h (subst (IsNonDecreasingBy (λ (e : EndPla
 pub own_end : (p : Places) (e : EndPlace) (i : ℕ) → slice_get p.ends i ≡ Some e → e ≡ get_or p.ends i e
 own_end p e i at = sym (get_or_from_slice_get p.ends i e e at)
 
-none_in_front : (xs : List Item) → in_front 0 xs ≡ []
-none_in_front [] = refl
-none_in_front (i ∷ xs) = rw (le-ltb (length (item_text i)) 0 (omega arith)) refl
+none_before_offset : (xs : List Item) → before_offset 0 xs ≡ []
+none_before_offset [] = refl
+none_before_offset (i ∷ xs) = rw (le-ltb (length (item_text i)) 0 (omega arith)) refl
 
 abbrev Kept : Places → List Item → ℕ → Type 0
-Kept p xs at = (front : List Item) × (first : Item) × (in_front at xs ≡ front) × FrontKept front first p.front.items p.ends (ends_before at p.ends)
+Kept p xs at = (front : List Item) × (first : Item) × (before_offset at xs ≡ front) × FrontKept front first p.front.items p.ends (ends_before at p.ends)
 
 -- Either nothing begins in front of the offset, or there is a last item that does so.
 abbrev Nothing : Places → List Item → ℕ → Type 0
-Nothing p xs at = (length p.front.items ≡ 0) × (ends_before at p.ends ≡ 0) × (in_front at xs ≡ [])
+Nothing p xs at = (length p.front.items ≡ 0) × (ends_before at p.ends ≡ 0) × (before_offset at xs ≡ [])
 
 found : (p : Places) (xs : List Item) (at : ℕ) → AreAt p xs → IsSplitAt at (text_length xs) p → at ≤ text_length xs → Nothing p xs at ⊎ Kept p xs at
-found p xs zero placed gap within = inl (none_before p.front.items gap.0, no_ends_before p.ends, none_in_front xs)
+found p xs zero placed gap within = inl (none_before p.front.items gap.0, no_ends_before p.ends, none_before_offset xs)
 found p xs (suc at) placed gap within =
     let h = front_found xs 0 (suc at) (omega arith) within in
     inr (h.front, h.first, h.is, front_kept p xs (suc at) placed gap h)
 
 pub before_end : (p : Places) (xs : List Item) (at : ℕ) (e : EndPlace) (n count : ℕ) → AreAt p xs → IsSplitAt at (text_length xs) p → at ≤ text_length xs → n ≡ length p.front.items → count ≡ ends_before at p.ends → 0 < count →
-    e ≡ get_or p.ends (count - 1) e → n ≤ e.rows → record { rows = n; ends = count - 1; bytes = e.start } ≡ side_of (in_front at xs)
+    e ≡ get_or p.ends (count - 1) e → n ≤ e.rows → record { rows = n; ends = count - 1; bytes = e.start } ≡ side_of (before_offset at xs)
 before_end p xs at e n count placed gap within long many some own high =
     ⊎_elim {0, 0, 0}
     (λ (no : Nothing p xs at). absurd (omega (arith, many, some, no.1)))
@@ -152,7 +153,7 @@ before_end p xs at e n count placed gap within long many some own high =
     (found p xs at placed gap within)
 
 pub before_row : (p : Places) (xs : List Item) (at : ℕ) (o : declared.Offsets) (n count : ℕ) → AreAt p xs → IsSplitAt at (text_length xs) p → at ≤ text_length xs → n ≡ length p.front.items → count ≡ ends_before at p.ends → 0 < n →
-    NoEndBehind n p.ends count → o ≡ get_or p.front.items (n - 1) o → record { rows = n - 1; ends = count; bytes = o.start } ≡ side_of (in_front at xs)
+    NoEndAfter n p.ends count → o ≡ get_or p.front.items (n - 1) o → record { rows = n - 1; ends = count; bytes = o.start } ≡ side_of (before_offset at xs)
 before_row p xs at o n count placed gap within long many some none own =
     ⊎_elim {0, 0, 0}
     (λ (no : Nothing p xs at). absurd (omega (arith, long, some, no.0)))
@@ -160,7 +161,7 @@ before_row p xs at o n count placed gap within long many some none own =
     (found p xs at placed gap within)
 
 pub before_none : (p : Places) (xs : List Item) (at : ℕ) (n count : ℕ) → AreAt p xs → IsSplitAt at (text_length xs) p → at ≤ text_length xs → n ≡ length p.front.items → count ≡ ends_before at p.ends → n ≡ 0 →
-    NoEndBehind n p.ends count → record { rows = 0; ends = 0; bytes = 0 } ≡ side_of (in_front at xs)
+    NoEndAfter n p.ends count → record { rows = 0; ends = 0; bytes = 0 } ≡ side_of (before_offset at xs)
 before_none p xs at n count placed gap within long many empty none =
     ⊎_elim {0, 0, 0}
     (λ (no : Nothing p xs at). ap side_of (sym no.2))
@@ -168,7 +169,7 @@ before_none p xs at n count placed gap within long many empty none =
     (found p xs at placed gap within)
 
 -- the rows that stay in front
-pub front_taken : (p : Places) (xs : List Item) (at : ℕ) → AreAt p xs → IsSplitAt at (text_length xs) p → at ≤ text_length xs → take (length (near 0 (in_front at xs))) p.front.items ≡ near 0 (in_front at xs)
+pub front_taken : (p : Places) (xs : List Item) (at : ℕ) → AreAt p xs → IsSplitAt at (text_length xs) p → at ≤ text_length xs → take (length (near 0 (before_offset at xs))) p.front.items ≡ near 0 (before_offset at xs)
 front_taken p xs at placed gap within =
     ⊎_elim {0, 0, 0}
     (λ (k : Nothing p xs at). ap (λ (l : List Item). take (length (near 0 l)) p.front.items) k.2 ∙ ap (near 0) (sym k.2))

@@ -62,12 +62,12 @@ last_of_joined a o = ap (λ (n : ℕ). slice_get (a ++ (o ∷ [])) n) (let n : l
   go [] = refl
   go (p ∷ a) = go a
 
-pub first_turned : (at len : ℕ) (behind : List declared.Offsets) → FirstFrom at len behind → FirstIs (λ o. at ≤ o.start) (map (row_from_end len) (reverse behind))
-first_turned at len behind h = go (reverse behind) (sym (reverse-reverse behind)) where
-  go : (back : List declared.Offsets) → behind ≡ reverse back → FirstIs (λ o. at ≤ o.start) (map (row_from_end len) back)
+pub first_turned : (at len : ℕ) (after : List declared.Offsets) → FirstFrom at len after → FirstIs (λ o. at ≤ o.start) (map (row_from_end len) (reverse after))
+first_turned at len after h = go (reverse after) (sym (reverse-reverse after)) where
+  go : (back : List declared.Offsets) → after ≡ reverse back → FirstIs (λ o. at ≤ o.start) (map (row_from_end len) back)
   go [] is o e = absurd cc
   go (p ∷ back) is o e =
-      let all : behind ≡ reverse back ++ (p ∷ []) = is ∙ reverse-append (p ∷ []) back in
+      let all : after ≡ reverse back ++ (p ∷ []) = is ∙ reverse-append (p ∷ []) back in
       search (rules, last_of_joined, all)
 
 -- counts up to a place

@@ -7,7 +7,7 @@ use Rattle.yq_core.{specs.Text.{cut, front, is_empty, is_space, is_white, no_spa
 use Rattle.yq_core.{specs.Plain.{begins_deep, ends_plain, ends_text, holds_break}, specs.PlainReading.across, specs.Answers.more}
 use Rattle.yq_core.{specs.Runs.{is_word_byte, run_goes_on}, specs.declared.runs.Run.TheVariants.Plain, specs.Reading.read_scalar}
 use Rattle.yq_core.{proofs.Across.{across_here, across_line, go_run, plain_colon, plain_stop, spaces_white}, proofs.Bools.at_byte}
-use Rattle.yq_core.{proofs.PlainRuns.run_behind, proofs.SpaceLaws.prefix_drop, specs.FitKeys.key_limit}
+use Rattle.yq_core.{proofs.PlainRuns.run_after, proofs.SpaceLaws.prefix_drop, specs.FitKeys.key_limit}
 use Rattle.yq_row_table.{specs.Grammar.is_entry, specs.Rows.{Dash, Key, parent_of}}
 use Rattle.yq_row_table.specs.Slicing.{Begun, Filled, begun, filled_at, marked_sliced, row_of}
 use Rattle.yq_row_table.specs.Reading.{begins_entry, holds_colon, is_colon, is_dash, key_mark, read_marks, read_row_key, undashed}
@@ -31,7 +31,7 @@ colon_white t h = subst (λ (l : List ℕ). ([], l) ≡ cut no_white l) (sym (co
 
 -- a run before which a plain scalar ends
 pub run_ends : (spaces : Option ℕ) (t rest : List ℕ) (n : ℕ) → n ≡ prefix_len (run_goes_on Plain) t → rest ≡ drop n t → upto (ends_plain false spaces) rest ≡ 0 → n ≡ upto (ends_plain false spaces) t
-run_ends spaces t rest n run back stop = let all = run_behind false spaces t rest 0 n (0 + upto (ends_plain false spaces) t) run back refl in omega (arith, all, stop)
+run_ends spaces t rest n run back stop = let all = run_after false spaces t rest 0 n (0 + upto (ends_plain false spaces) t) run back refl in omega (arith, all, stop)
 
 -- a word before a colon is a plain scalar as a whole
 pub word_ends : (t rest : List ℕ) (n : ℕ) → n ≡ prefix_len (run_goes_on Plain) t → rest ≡ drop n t → is_colon rest ≡ true → n ≡ upto (ends_plain false None) t
@@ -42,20 +42,20 @@ word_ends t rest n run back h =
     run_ends None t rest n run back stop
 
 -- a scalar is the key where a colon follows it at once
-pub scalar_keyed : (t key rest colon behind : List ℕ) → read_scalar false None t ≡ Some (key, rest) → is_colon rest ≡ true → colon ≡ take 1 rest → behind ≡ drop 1 rest →
-    nat_le (length (chars key) + length (chars colon)) (key_limit + 1) ≡ true → read_row_key t ≡ Some (key, colon, behind)
+pub scalar_keyed : (t key rest colon after : List ℕ) → read_scalar false None t ≡ Some (key, rest) → is_colon rest ≡ true → colon ≡ take 1 rest → after ≡ drop 1 rest →
+    nat_le (length (chars key) + length (chars colon)) (key_limit + 1) ≡ true → read_row_key t ≡ Some (key, colon, after)
 unfolding read_row_key
-scalar_keyed t key rest colon behind at is c b room = rw at (rw (sym (colon_found rest [] rest colon behind (colon_white rest is) is c b)) (rw room refl))
+scalar_keyed t key rest colon after at is c b room = rw at (rw (sym (colon_found rest [] rest colon after (colon_white rest is) is c b)) (rw room refl))
 
-pub word_keyed : (t key rest colon behind : List ℕ) (n : ℕ) → front is_word_byte t ≡ true → n ≡ upto (ends_plain false None) t → key ≡ take n t → rest ≡ drop n t → is_colon rest ≡ true → colon ≡ take 1 rest → behind ≡ drop 1 rest →
-    nat_le (length (chars key) + length (chars colon)) (key_limit + 1) ≡ true → read_row_key t ≡ Some (key, colon, behind)
-word_keyed t key rest colon behind n word e k r is c b room =
+pub word_keyed : (t key rest colon after : List ℕ) (n : ℕ) → front is_word_byte t ≡ true → n ≡ upto (ends_plain false None) t → key ≡ take n t → rest ≡ drop n t → is_colon rest ≡ true → colon ≡ take 1 rest → after ≡ drop 1 rest →
+    nat_le (length (chars key) + length (chars colon)) (key_limit + 1) ≡ true → read_row_key t ≡ Some (key, colon, after)
+word_keyed t key rest colon after n word e k r is c b room =
     let whole : cut (ends_plain false None) t ≡ (key, rest) = rw (k, r, e) refl in
-    scalar_keyed t key rest colon behind (word_at None t word ∙ ap Some whole) is c b room
+    scalar_keyed t key rest colon after (word_at None t word ∙ ap Some whole) is c b room
 
 -- what is on the line in front of a `:`
-abbrev in_front : ℕ → Bool
-in_front b = not (eqb b 58) && not (eqb b 10)
+abbrev before_offset : ℕ → Bool
+before_offset b = not (eqb b 58) && not (eqb b 10)
 
 -- no key is on a line that a word ends
 feed_first : (t : List ℕ) → begins_with 10 (drop (prefix_len (run_goes_on Plain) t) t) ≡ true → holds_colon t ≡ false
@@ -63,7 +63,7 @@ feed_first [] h = refl
 feed_first (b ∷ bs) h = elim (cases_Bool (run_goes_on Plain b)) [
   | inl i ↦
       let run : drop (prefix_len (run_goes_on Plain) (b ∷ bs)) (b ∷ bs) ≡ drop (prefix_len (run_goes_on Plain) bs) bs = prefix_drop (run_goes_on Plain) b bs ∙ rw i refl in
-      let line : drop (prefix_len in_front (b ∷ bs)) (b ∷ bs) ≡ drop (prefix_len in_front bs) bs = prefix_drop in_front b bs ∙ rw (at_byte (run_goes_on Plain) b 58 i refl, at_byte (run_goes_on Plain) b 10 i refl) refl in
+      let line : drop (prefix_len before_offset (b ∷ bs)) (b ∷ bs) ≡ drop (prefix_len before_offset bs) bs = prefix_drop before_offset b bs ∙ rw (at_byte (run_goes_on Plain) b 58 i refl, at_byte (run_goes_on Plain) b 10 i refl) refl in
       ap (begins_with 58) line ∙ feed_first bs (sym (ap (begins_with 10) run) ∙ h)
   | inr i ↦
       let stay : drop (prefix_len (run_goes_on Plain) (b ∷ bs)) (b ∷ bs) ≡ b ∷ bs = prefix_drop (run_goes_on Plain) b bs ∙ rw i refl in
@@ -78,21 +78,21 @@ word_line t rest n run back h = no_key_line t (feed_first t (ap (λ (k : ℕ). b
 pub word_no_dash : (t : List ℕ) → front is_word_byte t ≡ true → is_dash t ≡ false
 word_no_dash t word = scalar_no_dash t (word_scalar t word)
 
-pub key_begun : (t key colon behind : List ℕ) → is_dash t ≡ false → read_row_key t ≡ Some (key, colon, behind) → record { dashes = []; columns = 0; mark = Key key colon; rest = behind } ≡ begun (read_marks t)
-key_begun t key colon behind none h = sym (ap begun (marks_none t none ∙ ap (λ o. undashed (key_mark t o)) h))
+pub key_begun : (t key colon after : List ℕ) → is_dash t ≡ false → read_row_key t ≡ Some (key, colon, after) → record { dashes = []; columns = 0; mark = Key key colon; rest = after } ≡ begun (read_marks t)
+key_begun t key colon after none h = sym (ap begun (marks_none t none ∙ ap (λ o. undashed (key_mark t o)) h))
 
-pub dash_begun : (t dash behind s next : List ℕ) → is_dash t ≡ true → dash ≡ take 1 t → behind ≡ drop 1 t → (s, next) ≡ cut no_space behind →
+pub dash_begun : (t dash after s next : List ℕ) → is_dash t ≡ true → dash ≡ take 1 t → after ≡ drop 1 t → (s, next) ≡ cut no_space after →
     front is_word_byte next ≡ true → read_row_key next ≡ None →
-    record { dashes = dash; columns = 0; mark = Dash; rest = behind } ≡ begun (read_marks t)
-dash_begun t dash behind s next is one back e word none =
+    record { dashes = dash; columns = 0; mark = Dash; rest = after } ≡ begun (read_marks t)
+dash_begun t dash after s next is one back e word none =
     let goes : (not (is_empty s) && begins_entry next) ≡ false = and_right (not (is_empty s)) (begins_entry next) (rw (word_no_dash next word, none) refl) in
     let here : (s, next) ≡ cut no_space (drop 1 t) = e ∙ ap (cut no_space) back in
     let neither = subst (λ (y : List ℕ × List ℕ). (not (is_empty y.0) && begins_entry y.1) ≡ false) here goes in
     let first : dash ≡ 45 ∷ [] = one ∙ ap (take 1) (dash_is t is).0 in
     rw (first, back) (sym (ap begun (marks_dash t is neither)))
 
-pub word_behind : (s next : List ℕ) (k : List ℕ × List ℕ × List ℕ) → is_empty s ≡ false → front is_word_byte next ≡ true → read_row_key next ≡ Some k → HasKey s next k
-word_behind s next k some word h = record { key = h; none = word_no_dash next word; goes = rw (some, word_no_dash next word, h) refl }
+pub word_after : (s next : List ℕ) (k : List ℕ × List ℕ × List ℕ) → is_empty s ≡ false → front is_word_byte next ≡ true → read_row_key next ≡ Some k → HasKey s next k
+word_after s next k some word h = record { key = h; none = word_no_dash next word; goes = rw (some, word_no_dash next word, h) refl }
 
 pub some_spaces : (s : List ℕ) (b : Bool) → b ≡ eqb (length s) 0 → b ≡ false → is_empty s ≡ false
 some_spaces [] b e none = absurd (false≢true (sym none ∙ e))
@@ -129,11 +129,11 @@ scalar_ends least [] after rest n h one run back less none = absurd (false≢tru
 scalar_ends least (b ∷ bs) after rest n h one run back less none =
     let feed : b ≡ 10 = eqb-true b 10 h in
     let line : n ≡ prefix_len (λ x. eqb x 32) bs = run ∙ ap (prefix_len (λ x. eqb x 32)) one in
-    let behind : rest ≡ drop n bs = back ∙ ap (drop n) one in
+    let following : rest ≡ drop n bs = back ∙ ap (drop n) one in
     let low : begins_deep (Some least) bs ≡ false = shallow least bs (omega (arith, line, less)) in
     let first = across_line false (Some least) true b bs (white_feed b h) h in
     let over = go_run (λ x. eqb x 32) false (Some least) false 1 n bs (more 1 (across false (Some least) false bs)) spaces_white line refl in
-    let gone : across false (Some least) false (drop n bs) ≡ None = ap (across false (Some least) false) (sym behind) ∙ no_text least rest none in
+    let gone : across false (Some least) false (drop n bs) ≡ None = ap (across false (Some least) false) (sym following) ∙ no_text least rest none in
     let stop : across false (Some least) true (b ∷ bs) ≡ None = first ∙ (ap (λ (d : Bool). more 1 (across false (Some least) d bs)) low ∙ (sym over ∙ ap (more (1 + n)) gone)) in
     plain_stop false (Some least) (b ∷ bs) (rw feed refl) stop
 

@@ -5,8 +5,8 @@ use Rattle.std.{specs.Prelude.slice_index, specs.Str.IsCharBoundary}
 use Rattle.yq_rows.{specs.Reading.region_text, specs.declared.kept.Kept.Kept, specs.declared.touched.Touched.Touched}
 
 -- a place after the first bytes of a text, in what follows them
-boundary_behind : (t : List ℕ) (a n : ℕ) → a ≤ n → IsCharBoundary t n → IsCharBoundary (drop a t) (n - a)
-boundary_behind t a n less h =
+boundary_after : (t : List ℕ) (a n : ℕ) → a ≤ n → IsCharBoundary t n → IsCharBoundary (drop a t) (n - a)
+boundary_after t a n less h =
     let all : a + (n - a) ≡ n = omega (arith, less) in
     let byte : slice_index (drop a t) (n - a) ≡ slice_index t n = get_or-drop a t (n - a) 0 ∙ ap (slice_index t) all in (
       omega (arith, h.0, length-drop a t),

@@ -16,5 +16,5 @@ pub record DropsLast (p : Places) (len : ℕ) (x : Touched) (kept : Kept) (last 
   pub gap : end.gap ≡ 0
   pub marker : end.marker ≡ 0
   pub later : length p.front.items < end.rows
-  pub begins : first_byte len (reverse p.behind.items) ≡ kept.front
+  pub begins : first_byte len (reverse p.after.items) ≡ kept.front
   pub last_is : last ≡ moved_end (length p.front.items) kept.front end

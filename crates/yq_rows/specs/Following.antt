@@ -3,7 +3,7 @@ use Rattle.std.specs.Prelude.{◌≡◌, ◌==◌, ◌&&◌, Bool, false, ℕ, �
 use Rattle.std.{specs.Prelude.if◌then◌else◌, specs.Str.IsCharBoundary}
 use Rattle.yq_row_table.{specs.Grammar.IsCut, specs.Items.{Item, row_item, end_item, items_of_cut, items_text}, specs.Kept.IsPlaced}
 use Rattle.yq_row_table.{specs.Meter.{begins_line, count_after, line_count}, specs.Regions.no_items, specs.Rows.{Cut, cut_text}}
-use Rattle.yq_row_table.{specs.Touched.{TouchesOnly, in_back, in_front}, specs.View.rows_view, specs.declared.places.Places.Places}
+use Rattle.yq_row_table.{specs.Touched.{TouchesOnly, in_back, before_offset}, specs.View.rows_view, specs.declared.places.Places.Places}
 use Rattle.yq_rows.specs.declared.kept.Kept.{Kept}
 
 -- what a text becomes where these bytes come in the place of those that aren't kept (own)
@@ -43,11 +43,11 @@ is_end_of n (end_item gap marker ∷ xs) = nat_lt 0 (length marker) && length (g
 -- marker are the last ones, and a line begins after them (own)
 abbrev pub keeps_end : (kept : Kept) (c : Cut) (touched : List Item) → Bool
 keeps_end kept c touched =
-    begins_line (cut_text c) kept.front && is_end_of (kept.front - length (items_text (in_front kept.front (items_of_cut c)) [])) touched
+    begins_line (cut_text c) kept.front && is_end_of (kept.front - length (items_text (before_offset kept.front (items_of_cut c)) [])) touched
 
 -- items without the first one, where that is kept (own)
-abbrev pub behind_end : Bool → List Item → List Item
-behind_end keeps xs = if keeps then drop 1 xs else xs
+abbrev pub after_end_item : Bool → List Item → List Item
+after_end_item keeps xs = if keeps then drop 1 xs else xs
 
 -- the line of the marker after an item, where that is the end of a part (own)
 abbrev pub marker_of : Item → List ℕ
@@ -76,8 +76,8 @@ text_read kept touched written = without_line (kept_marker kept touched) (items_
 -- the line of a marker that it keeps after, where this begins a line still (own).
 abbrev pub read_text : (kept : Kept) (c new : Cut) → TouchesOnly kept.front kept.back c new → List ℕ
 read_text kept c new h =
-    text_read (kept.back - length (items_text (in_back kept.back (items_of_cut c)) [])) (behind_end (keeps_end kept c h.touched) h.touched)
-    (behind_end (keeps_end kept c h.touched) h.written)
+    text_read (kept.back - length (items_text (in_back kept.back (items_of_cut c)) [])) (after_end_item (keeps_end kept c h.touched) h.touched)
+    (after_end_item (keeps_end kept c h.touched) h.written)
 
 -- a count that rose by the lines that are read where a change exchanges rows and ends of parts (own)
 abbrev pub CountsWritten : (t new : List ℕ) → Kept → (before after : ℕ) → Type 0

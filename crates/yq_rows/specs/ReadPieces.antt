@@ -43,9 +43,9 @@ read_slices gap column b f = (row_of gap column (begin_view b) (filling_view f))
 -- These are the gap, the column, the marks and the content of a row that was read in front of a text (own).
 pub record IsSliced (text gap : List ℕ) (column : ℕ) (b : Begin) (f : Filling) : Type 0 where
   pub limit : Limit
-  pub behind : List ℕ
-  pub joined : text ≡ gap ++ behind
-  pub read : row_sliced limit gap behind ≡ Some (row_of gap column (begin_view b) (filling_view f))
+  pub after : List ℕ
+  pub joined : text ≡ gap ++ after
+  pub read : row_sliced limit gap after ≡ Some (row_of gap column (begin_view b) (filling_view f))
 
 -- a plain scalar, by its kind (own)
 abbrev pub is_plain_kind : MeasuredKind → Bool

@@ -53,10 +53,10 @@ pub record IsUnread (xs : List Item) (e : EndPlace) : Type 0 where
 -- A region has the text of items that are read alone, before others (own).
 pub record IsRead (region : List ℕ) (x : Touched) : Type 0 where
   pub written : List Item
-  pub behind : List Item
+  pub after : List Item
   pub text : region ≡ items_text written []
-  pub read : IsReadAlone written behind
-  pub more : x.more ≡ not (no_items behind)
+  pub read : IsReadAlone written after
+  pub more : x.more ≡ not (no_items after)
   pub unread : (e : EndPlace) → unread_end region x.marked ≡ Some e → IsUnread written e
   pub small : length region < 2 ^ 32
 

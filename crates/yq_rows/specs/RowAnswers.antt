@@ -46,12 +46,12 @@ abbrev pub offsets_from : (whole text : List ℕ) → Slices → Offsets
 offsets_from whole text s = offsets_of (length whole - length text) s
 
 -- the row that reading gives of what is in front
-abbrev pub row_in_front : asked.Limit → RowFront → Option SlicedRow
-row_in_front limit f = row_sliced (limit_view limit) f.gap.now f.text.now
+abbrev pub row_at_front : asked.Limit → RowFront → Option SlicedRow
+row_at_front limit f = row_sliced (limit_view limit) f.gap.now f.text.now
 
 -- the row begins where what is in front does
-abbrev pub BeginsInFront : List ℕ → RowFront → RowRead → Type 0
-BeginsInFront whole f x = x.0 ≡ offsets_from whole f.at.now (slices_in whole x.0)
+abbrev pub BeginsAtFront : List ℕ → RowFront → RowRead → Type 0
+BeginsAtFront whole f x = x.0 ≡ offsets_from whole f.at.now (slices_in whole x.0)
 
 -- the row is a word row, where the answer says so
 abbrev pub MayBeWordRow : List ℕ → RowRead → Type 0
@@ -75,22 +75,22 @@ abbrev pub is_word_mark : RowMark → Bool
 is_word_mark m = is_word_key (key_of_mark m) (colon_of m)
 
 -- A scalar is in front, which begins with no anchor, alias, collection or block scalar; it is a word head where the answer says so.
-pub record IsFrontScalar (spaces : Option ℕ) (t head behind : List ℕ) (is_word : Bool) : Type 0 where
+pub record IsFrontScalar (spaces : Option ℕ) (t head after : List ℕ) (is_word : Bool) : Type 0 where
   pub block : begins_block t ≡ false
   pub other : begins_other t ≡ false
   pub begins : begins_scalar false t ≡ true
-  pub read : read_scalar false spaces t ≡ Some (head, behind)
+  pub read : read_scalar false spaces t ≡ Some (head, after)
   pub word : is_word ≡ true → is_word_head head ≡ true
 
 -- where a text begins with a scalar that reads with this head, what is found is what reading gives
-abbrev pub FindsAsRead : (n : ℤ) (space t head behind : List ℕ) → Filling → Type 0
-FindsAsRead n space t head behind f =
-    begins_other t ≡ false → begins_scalar false t ≡ true → read_scalar false (Some (deeper n)) t ≡ Some (head, behind) →
+abbrev pub FindsAsRead : (n : ℤ) (space t head after : List ℕ) → Filling → Type 0
+FindsAsRead n space t head after f =
+    begins_other t ≡ false → begins_scalar false t ≡ true → read_scalar false (Some (deeper n)) t ≡ Some (head, after) →
     inline_sliced n space t ≡ Some (filling_view f)
 
 -- a scalar after white space and its tail are found as reading gives them
-abbrev pub FindsScalar : (space head behind : List ℕ) → Option Filling → Type 0
-FindsScalar space head behind found = IfSome found (λ f. (n : ℤ) (t : List ℕ) → FindsAsRead n space t head behind f)
+abbrev pub FindsScalar : (space head after : List ℕ) → Option Filling → Type 0
+FindsScalar space head after found = IfSome found (λ f. (n : ℤ) (t : List ℕ) → FindsAsRead n space t head after f)
 
 -- the same of pieces as the code read them
 abbrev pub offsets_found : List ℕ → RowFront → ℕ → Begin → Filling → Offsets
@@ -143,12 +143,12 @@ abbrev pub CountsRead : {T E : Type 0} → Result T E → (before after : ℕ) �
 CountsRead r before after t = OnOk r (CountsLines before after t)
 
 -- the rows in front of a split and those after it, by their places in a text of so many bytes
-abbrev pub split_rows : ℕ → (front behind : Vec Offsets Global) → List Offsets
-split_rows n front behind = both_sides n front.items behind.items
+abbrev pub split_rows : ℕ → (front after : Vec Offsets Global) → List Offsets
+split_rows n front after = both_sides n front.items after.items
 
 -- the same of all rows that are kept
 abbrev pub rows_kept : ℕ → Places → List Offsets
-rows_kept n p = split_rows n p.front p.behind
+rows_kept n p = split_rows n p.front p.after
 
 -- whether rows or ends of parts come after so many
 abbrev pub has_more_than : Side → Places → Bool

@@ -2,7 +2,7 @@
 use Rattle.std.specs.Prelude.{ℕ, List, []}
 use Rattle.yq_row_table.{specs.Grammar.IsCut, specs.ItemSplices.SplicedItems, specs.Rows.{Cut, Row}}
 use Rattle.yq_row_table.specs.SpliceFits.{FitsIn, InsertFits, RemoveFits, ReplaceFits}
-use Rattle.yq_row_table.specs.Splices.{before_rows, behind_rows, gap_before, rows_between, splice}
+use Rattle.yq_row_table.specs.Splices.{before_rows, after_rows, gap_before, rows_between, splice}
 
 -- A text has this cut (own).
 pub record IsCutOfText (c : Cut) : Type 0 where
@@ -44,7 +44,7 @@ old_gap x = gap_before x.part x.stop x.cut
 
 -- the text after that gap (own)
 abbrev pub after_splice : RowSplice → List ℕ
-after_splice x = behind_rows x.part x.stop x.cut
+after_splice x = after_rows x.part x.stop x.cut
 
 -- the new rows may be in that place (own)
 abbrev pub MaySplice : RowSplice → Type 0

@@ -3,8 +3,8 @@ use Rattle.std.specs.Prelude.{◌≡◌, ℕ, true, List, [], ◌∷◌, ◌++�
 use Rattle.yq_core.specs.Characters.{pairs_returns}
 use Rattle.yq_row_table.{specs.Appending.{IsLastRow, TakesBreak, closed_by}, specs.Exchange.allows_first}
 use Rattle.yq_row_table.{specs.Grammar.{AreRows, IsCut, Limit, limit_after}, specs.Rows.{Cut, Row, parent_indent, print_row}}
-use Rattle.yq_row_table.{specs.Seams.{TailFits, TakesPlace}, specs.SpliceFits.StandsFor}
-use Rattle.yq_row_table.specs.Splices.{StandsBetween, asked_at, first_gap, nth_part, replace_row, rest_behind}
+use Rattle.yq_row_table.{specs.Seams.{TailFits, TakesPlace}, specs.SpliceFits.RemovalMeans}
+use Rattle.yq_row_table.specs.Splices.{IsRowAmong, asked_at, first_gap, nth_part, replace_row, following_rest}
 
 -- a row of a part, counted from 0, with the rows before and after it there (own)
 pub record RowBetween : Type 0 where
@@ -18,7 +18,7 @@ pub record RowBetween : Type 0 where
 pub record IsRowBetween (x : RowBetween) : Type 0 where
   pub text : List ℕ
   pub is_cut : IsCut text x.cut
-  pub rows : StandsBetween x.part x.front x.row x.back x.cut
+  pub rows : IsRowAmong x.part x.front x.row x.back x.cut
 
 -- what the rows before the row ask of it (own)
 abbrev pub asked_of_row : RowBetween → Limit
@@ -26,7 +26,7 @@ asked_of_row x = asked_at x.part (length x.front) x.cut
 
 -- the text after the row (own)
 abbrev pub rest_after : RowBetween → List ℕ
-rest_after x = rest_behind x.part x.back x.cut
+rest_after x = following_rest x.part x.back x.cut
 
 -- the cut with another row in the place of that one (own)
 abbrev pub cut_with_row : Row → RowBetween → Cut
@@ -38,8 +38,8 @@ pub record TakesRowPlace (new : Row) (x : RowBetween) : Type 0 where
   pub next : allows_first (limit_after new) x.back ≡ true
 
 -- another row, after the same gap and at the same column, may be in the place of that one (own)
-abbrev pub StandsForRow : Row → RowBetween → Type 0
-StandsForRow new x = StandsFor (asked_of_row x) x.row new x.back (rest_after x)
+abbrev pub ReplacesRow : Row → RowBetween → Type 0
+ReplacesRow new x = RemovalMeans (asked_of_row x) x.row new x.back (rest_after x)
 
 -- another tail may be in the place of the row's (own)
 abbrev pub TailFitsRow : List ℕ → RowBetween → Type 0

@@ -3,7 +3,7 @@ use Rattle.std.{specs.Prelude.{◌≡◌, ◌⊎◌, ◌≤◌, ℕ, true, List,
 use Rattle.yq_core.{specs.Characters.is_text, specs.Inline.IsInline, specs.Nodes.{FlowNode, node_text}}
 use Rattle.yq_core.specs.declared.style.Place.TheVariants.{Block}
 use Rattle.yq_row_table.specs.Alone.{FitsAlone}
-use Rattle.yq_row_table.specs.Exchange.{FitsRow, HasPieces, allows_first, before_content, behind_row, exchange, rows_behind, with_content}
+use Rattle.yq_row_table.specs.Exchange.{FitsRow, HasPieces, allows_first, before_content, after_row, exchange, following_rows, with_content}
 use Rattle.yq_row_table.specs.Grammar.{IsCut, IsTail, is_entry, limit_after}
 use Rattle.yq_row_table.{specs.Rows.{Content, Cut, Inline, Row, cut_text, parent_indent}, specs.View.rows_of}
 
@@ -29,11 +29,11 @@ before_row_content x = before_content x.index x.cut
 
 -- the text after the row (own)
 abbrev pub text_after : RowInCut → List ℕ
-text_after x = behind_row x.index x.cut
+text_after x = after_row x.index x.cut
 
 -- the rows of the same part after the row (own)
 abbrev pub rows_after : RowInCut → List Row
-rows_after x = rows_behind x.index x.cut
+rows_after x = following_rows x.index x.cut
 
 -- the cut with another content in that row (own)
 abbrev pub cut_with_content : Content → RowInCut → Cut

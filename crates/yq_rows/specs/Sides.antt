@@ -3,7 +3,7 @@ use Rattle.std.specs.Prelude.{◌≡◌, ◌==◌, ◌&&◌, Bool, ℕ, suc, ◌
 use Rattle.std.specs.Prelude.{reverse, Option, Some, None, slice_get, if◌then◌else◌}
 use Rattle.yq_core.specs.Answers.{◌>>=◌}
 use Rattle.yq_row_table.{specs.Items.{Item, items_text}, specs.Kept.{near, ends_near, placed_rows, row_from_end, TextsIn}}
-use Rattle.yq_row_table.{specs.Touched.in_front, specs.declared.ends.EndPlace.EndPlace, specs.declared.places.Places.Places}
+use Rattle.yq_row_table.{specs.Touched.before_offset, specs.declared.ends.EndPlace.EndPlace, specs.declared.places.Places.Places}
 use Rattle.yq_rows.specs.declared.sides.Side.{Side}
 use Rattle.yq_row_table.specs.declared.offsets.Offsets as declared
 
@@ -13,7 +13,7 @@ text_length xs = length (items_text xs [])
 
 -- rows in front of a split and those after it, the last one first, by their places in a text of so many bytes (own)
 abbrev pub both_sides : ℕ → List declared.Offsets → List declared.Offsets → List declared.Offsets
-both_sides n front behind = front ++ map (row_from_end n) (reverse behind)
+both_sides n front after = front ++ map (row_from_end n) (reverse after)
 
 -- where the first of rows that are kept by their distance from the end of a text begins, or where the text ends (own)
 abbrev pub first_byte : ℕ → List declared.Offsets → ℕ
@@ -37,7 +37,7 @@ FirstFrom at len rows = (o : declared.Offsets) → slice_get rows (length rows -
 
 -- the split among rows is at an offset of a text of so many bytes (own)
 abbrev pub IsSplitAt : ℕ → ℕ → Places → Type 0
-IsSplitAt at len p = LastBefore at p.front.items × FirstFrom at len p.behind.items
+IsSplitAt at len p = LastBefore at p.front.items × FirstFrom at len p.after.items
 
 -- how many ends of parts begin in front of an offset, up to the first one that doesn't (own)
 abbrev pub ends_before : ℕ → List EndPlace → ℕ
@@ -85,9 +85,9 @@ origin = record { rows = 0; ends = 0; bytes = 0 }
 
 -- this is what is in front of the last item that begins in front of an offset, at which the split is (own)
 abbrev pub IsSideBefore : Places → ℕ → Side → Type 0
-IsSideBefore p at side = (xs : List Item) → AreAt p xs → IsSplitAt at (text_length xs) p → at ≤ text_length xs → side ≡ side_of (in_front at xs)
+IsSideBefore p at side = (xs : List Item) → AreAt p xs → IsSplitAt at (text_length xs) p → at ≤ text_length xs → side ≡ side_of (before_offset at xs)
 
 -- this is what is in front of the first item that is nearer to the end than so many bytes, where the split is in front of it (own)
-abbrev pub IsSideBehind : Places → (len back : ℕ) → Side → Type 0
-IsSideBehind p len back side =
+abbrev pub IsSideAfter : Places → (len back : ℕ) → Side → Type 0
+IsSideAfter p len back side =
     (xs : List Item) (at : ℕ) → AreAt p xs → IsSplitAt at len p → at + back ≤ len → len ≡ text_length xs → side ≡ side_of (not_in_back back xs)

@@ -66,7 +66,7 @@ fn split_anchor(text: &str) -> (&str, &str)
     ensures { (result.0.now, result.1.now) ≡ slicing.cut_anchor text.now }
 {
     match strip(b'&', text) {
-        Some(behind) => text.split_at(name_len(behind.as_bytes()) + 1),
+        Some(after) => text.split_at(name_len(after.as_bytes()) + 1),
         None => ("", text),
     }
 }
@@ -190,12 +190,12 @@ fn read_inline_content<'t>(
         Err(e) => return Err(ReadError::Fault(e)),
     };
     let node = found.node;
-    let behind = node.rest;
+    let after = node.rest;
     let (anchor, rest) = split_anchor(text);
     let nothing = is_nothing(node);
     let (apart, rest) = split_lead(nothing, rest);
-    let head = rest.split_at(rest.len() - behind.len()).0;
-    match find_tail(behind) {
+    let head = rest.split_at(rest.len() - after.len()).0;
+    match find_tail(after) {
         Some((tail, rest)) => Ok(Filling {
             space,
             anchor,
@@ -208,9 +208,9 @@ fn read_inline_content<'t>(
             depth: found.depth,
             rest,
         }),
-        None => Err(ReadError::Fault(match no_further_line(mark, spaces, head, behind) {
-            Some(kind) => fault(kind, whole, behind),
-            None => fault(no_tail(mark, space, anchor, head, behind), whole, text),
+        None => Err(ReadError::Fault(match no_further_line(mark, spaces, head, after) {
+            Some(kind) => fault(kind, whole, after),
+            None => fault(no_tail(mark, space, anchor, head, after), whole, text),
         })),
     }
 }
@@ -230,11 +230,11 @@ fn read_scalar_content<'t>(
     ensures known { KnowsContent result }
 {
     let spaces = further_spaces(Place::Block, parent);
-    let (head, behind) = match read_front(spaces, whole, text) {
+    let (head, after) = match read_front(spaces, whole, text) {
         Ok(found) => found,
         Err(e) => return Err(ReadError::Fault(e)),
     };
-    match find_tail(behind) {
+    match find_tail(after) {
         Some((tail, rest)) => Ok(Filling {
             space,
             anchor: "",
@@ -247,9 +247,9 @@ fn read_scalar_content<'t>(
             depth: 0,
             rest,
         }),
-        None => Err(ReadError::Fault(match no_further_line(mark, spaces, head, behind) {
-            Some(kind) => fault(kind, whole, behind),
-            None => fault(no_tail(mark, space, "", head, behind), whole, text),
+        None => Err(ReadError::Fault(match no_further_line(mark, spaces, head, after) {
+            Some(kind) => fault(kind, whole, after),
+            None => fault(no_tail(mark, space, "", head, after), whole, text),
         })),
     }
 }

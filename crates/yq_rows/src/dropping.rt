@@ -53,7 +53,7 @@ pub(crate) fn end_dropped(
     }
     let end = places.ends.get(touched.front.ends)?;
     let rows = places.front.len();
-    if !is_bare(end, rows) || begin_of(places.behind.as_slice(), len) != kept.front {
+    if !is_bare(end, rows) || begin_of(places.after.as_slice(), len) != kept.front {
         return None;
     }
     Some(end.moved(rows, kept.front))
@@ -63,13 +63,13 @@ pub(crate) fn end_dropped(
 pub(crate) fn drop_rows(places: &mut Places, end: EndPlace, at: usize)
     requires { 1 ≤ length places.old.ends }
     ensures front { places.new.front.items ≡ places.old.front.items }
-    ensures behind { places.new.behind.items ≡ [] }
+    ensures after { places.new.after.items ≡ [] }
     ensures ends { places.new.ends ≡
         slice_set places.old.ends (length places.old.ends - 1) end }
     ensures split { places.new.split ≡ at }
 {
     places.ends.set_last(end);
-    places.behind.truncate(0);
+    places.after.truncate(0);
     places.split = at;
 }
 

@@ -30,7 +30,7 @@ fn exchange_ends(
     requires order { front.ends ≤ old.ends }
     requires within { old.ends ≤ length ends.old }
     requires found { All (IsMovable origin front) found.now }
-    requires behind { All (IsMovable old new) (drop old.ends ends.old) }
+    requires after { All (IsMovable old new) (drop old.ends ends.old) }
     requires small { front.bytes < 2 ^ 32 × old.bytes < 2 ^ 32 × new.bytes < 2 ^ 32 }
     ensures ok { OnOk result (ends.new ≡ joined_ends front old new ends.old found.now) }
     ensures err { OnErr result (ends.new ≡ ends.old) }
@@ -85,7 +85,7 @@ pub(crate) fn exchange(
     exchange_ends(&mut places.ends, &come.places.ends, front, old, new)?;
     places.front.truncate(front.rows);
     push_rows(&mut places.front, &come.places, come.read, front.bytes);
-    places.behind.truncate(kept);
+    places.after.truncate(kept);
     places.split = new.bytes;
     Ok(())
 }

@@ -5,7 +5,7 @@ ghost use Rattle.yq_core.specs.declared.fault.FaultKind.TheVariants.{NotUtf8};
 use yq_core::characters::is_text_char;
 use yq_core::fault_place::{fault, fault_at};
 use yq_core::lines::line_len;
-use yq_core::text::{behind_spaces, is_blank, spaces_len};
+use yq_core::text::{is_blank, spaces_len, without_spaces};
 use yq_core::{FaultKind, ReadFault};
 use yq_text::TEXT_LIMIT;
 
@@ -28,7 +28,7 @@ fn text_indent(raw: &[u8]) -> usize {
 fn is_at_fault(kind: FaultKind, column: usize, line: &[u8]) -> bool {
     match kind {
         FaultKind::TabIndent => {
-            spaces_len(line) < column && matches!(behind_spaces(line), [b'\t', ..])
+            spaces_len(line) < column && matches!(without_spaces(line), [b'\t', ..])
         }
         FaultKind::BadIndent => is_blank(line) && column < spaces_len(line),
         _ => false,
@@ -42,7 +42,7 @@ fn from_fault(kind: FaultKind, column: usize, raw: &[u8]) -> Option<usize> {
     'lines: while !rest.is_empty() {
         let (line, after) = rest.split_at(line_len(rest));
         if is_at_fault(kind, column, line) {
-            return Some(behind_spaces(rest).len());
+            return Some(without_spaces(rest).len());
         }
         rest = after;
     }

@@ -27,18 +27,18 @@ fn begins_row(text: &[u8]) -> bool
 
 /// Whether a blank line or a comment line is in front (YAML 1.2.2, sections 6.4
 /// and 6.6).
-#[tactic(auto, using(yq_row_table::proofs::WordFronts::row_gap, yq_row_table::proofs::WordFronts::indented_gap, yq_row_table::proofs::WordFronts::behind_spaces))]
+#[tactic(auto, using(yq_row_table::proofs::WordFronts::row_gap, yq_row_table::proofs::WordFronts::indented_gap, yq_row_table::proofs::WordFronts::without_spaces))]
 pub fn begins_gap(text: &[u8]) -> bool
     ensures { result ≡ spec.begins_gap text.now }
 {
     if begins_row(text) {
         return false;
     }
-    let behind = text.split_at(spaces_len(text)).1;
-    if begins_row(behind) {
+    let after = text.split_at(spaces_len(text)).1;
+    if begins_row(after) {
         return false;
     }
-    let next = past_white(behind);
+    let next = past_white(after);
     !text.is_empty() && (ends_line(next) || is_hash(next))
 }
 

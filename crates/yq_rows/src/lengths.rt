@@ -62,7 +62,7 @@ pub(crate) fn offsets_of(
     requires small { length whole.now < 2 ^ 32 }
     requires ends { spec.Ends front.at.now whole.now }
     requires read { IsSliced front.at.now front.gap.now column begin.now content.now }
-    ensures stands { spec.IsCutIn whole.now result }
+    ensures is_located { spec.IsCutIn whole.now result }
     ensures same { spec.slices_in whole.now result ≡
         read_slices front.entry.gap.now column begin.now content.now }
     ensures place { result ≡ offsets_found whole.now front.entry column begin.now content.now }

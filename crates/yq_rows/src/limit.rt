@@ -22,7 +22,7 @@ impl Limit {
     }
 
     /// What a row asks of the next one, below a parent of this indentation.
-    pub(crate) fn behind(parent: i64, is_plain: bool) -> Limit
+    pub(crate) fn after(parent: i64, is_plain: bool) -> Limit
         ensures { limit_view result ≡ slicing.limit_by parent is_plain }
     {
         Limit {

@@ -165,7 +165,7 @@ fn holds_colon(text: &[u8]) -> bool
 /// The key after a dash and these spaces, what comes after it up to its `:`, and what follows. No
 /// scalar is read where the line has no `:`.
 #[tactic(auto, using(yq_row_table::proofs::KeyLines::no_key_line))]
-fn key_behind<'t>(spaces: &str, next: &'t str) -> Option<(&'t str, &'t str, &'t str)>
+fn following_key<'t>(spaces: &str, next: &'t str) -> Option<(&'t str, &'t str, &'t str)>
     ensures { FindsSlices result (key_after spaces.now next.now) }
 {
     if spaces.is_empty() || !holds_colon(next.as_bytes()) {
@@ -193,10 +193,10 @@ pub(crate) fn read_begin(text: &str) -> Begin<'_>
 {
     let mut rest = text;
     'dashes: while is_dash(rest.as_bytes()) {
-        let behind = rest.split_at(1).1;
-        let (spaces, next) = split_spaces(behind);
+        let following = rest.split_at(1).1;
+        let (spaces, next) = split_spaces(following);
         if !goes_on(spaces, next) {
-            return match key_behind(spaces, next) {
+            return match following_key(spaces, next) {
                 Some((key, colon, after)) => Begin {
                     dashes: text.split_at(text.len() - next.len()).0,
                     columns: text.len() - next.len(),
@@ -204,21 +204,21 @@ pub(crate) fn read_begin(text: &str) -> Begin<'_>
                     rest: after,
                 },
                 None => Begin {
-                    dashes: text.split_at(text.len() - behind.len()).0,
+                    dashes: text.split_at(text.len() - following.len()).0,
                     columns: text.len() - rest.len(),
                     mark: RowMark::Dash,
-                    rest: behind,
+                    rest: following,
                 },
             };
         }
         rest = next;
     }
     let columns = text.len() - rest.len();
-    let (mark, behind) = read_mark(rest);
+    let (mark, following) = read_mark(rest);
     Begin {
         dashes: text.split_at(columns).0,
         columns,
         mark,
-        rest: behind,
+        rest: following,
     }
 }

@@ -1,9 +1,9 @@
 //! Rows, read one after the other.
 ghost use Rattle.std.specs.Prelude.{◌≡◌, ◌≢◌, ◌<◌, ◌≤◌, ◌+◌, ◌++◌, ◌^◌, ◌||◌, [], ◌∷◌, if◌then◌else◌, length, true, IfErr, IfOk, OnOk};
 ghost use Rattle.yq_core.{specs.Answers.{IsOfText, ReadsAs}, specs.declared.fault.FaultKind.TheVariants.NotUtf8};
-ghost use Rattle.yq_row_table.{specs.Grammar.{unlimited, ends_part}, specs.Offsets.{Ends, Stand, IsCutIn}};
-ghost use Rattle.yq_rows.specs.RowAnswers.{BeginsInFront, ReadsMarked, may_be_at, GivesRow, GivesRows, KeepOthers, KnowsContent};
-ghost use Rattle.yq_rows.specs.RowAnswers.{KnowsRowHead, MayBeWordRow, PlacesRows, row_in_front};
+ghost use Rattle.yq_row_table.{specs.Grammar.{unlimited, ends_part}, specs.Offsets.{Ends, AreRowsIn, IsCutIn}};
+ghost use Rattle.yq_rows.specs.RowAnswers.{BeginsAtFront, ReadsMarked, may_be_at, GivesRow, GivesRows, KeepOthers, KnowsContent};
+ghost use Rattle.yq_rows.specs.RowAnswers.{KnowsRowHead, MayBeWordRow, PlacesRows, row_at_front};
 ghost use Rattle.yq_core.specs.Text;
 ghost use Rattle.yq_row_table.specs.Reading as spec;
 
@@ -62,7 +62,7 @@ fn read_marked<'t>(
 }
 
 /// Whether a row may be at a column before this text.
-pub(crate) fn may_stand(limit: Limit, column: usize, text: &[u8]) -> bool
+pub(crate) fn may_be_here(limit: Limit, column: usize, text: &[u8]) -> bool
     ensures { result ≡ may_be_at limit column text.now }
 {
     limit.allows(column) && !(column == 0 && is_marker(text))
@@ -82,9 +82,9 @@ fn read_row<'t>(
     requires cut { front.at.now ≡ front.gap.now ++ front.text.now }
     requires short { length front.text.now ≤ length whole.now }
     requires small { length whole.now < 2 ^ 32 }
-    ensures read { GivesRow whole.now result (row_in_front limit front.entry) }
-    ensures stands { IfOk result (λ x. IsCutIn whole.now x.0) }
-    ensures place { IfOk result (BeginsInFront whole.now front.entry) }
+    ensures read { GivesRow whole.now result (row_at_front limit front.entry) }
+    ensures is_located { IfOk result (λ x. IsCutIn whole.now x.0) }
+    ensures place { IfOk result (BeginsAtFront whole.now front.entry) }
     ensures word { IfOk result (MayBeWordRow whole.now) }
     ensures known { IfOk result (KnowsRowHead whole.now) }
     ensures fault { IfErr result IsOfText }
@@ -94,7 +94,7 @@ fn read_row<'t>(
     }
     let (indent, rest) = split_spaces(front.text);
     let column = indent.len();
-    if !may_stand(limit, column, rest.as_bytes()) {
+    if !may_be_here(limit, column, rest.as_bytes()) {
         return Err(ReadError::Fault(fault(FaultKind::BadIndent, whole, front.text)));
     }
     let begin = read_begin(rest);
@@ -104,7 +104,7 @@ fn read_row<'t>(
     };
     let place = offsets_of(whole, front, column, &begin, &content);
     let parent = parent_of(begin.mark, column + begin.columns);
-    let limit = Limit::behind(parent, content.plain);
+    let limit = Limit::after(parent, content.plain);
     Ok((place, limit, content.rest, false, content.depth))
 }
 
@@ -137,12 +137,12 @@ fn read_rows<'t>(
     text: &'t str,
 ) -> Result<(Vec<Offsets>, &'t str, &'t str), ReadError>
     requires ends { Ends text.now whole.now }
-    requires stand { Stand whole.now rows.items }
+    requires are_there { AreRowsIn whole.now rows.items }
     requires small { length whole.now < 2 ^ 32 }
     ensures found { GivesRows whole.now rows result (spec.all_rows unlimited text.now) }
     ensures placed { PlacesRows whole.now text.now rows result (spec.all_rows unlimited text.now) }
-    ensures kept { IfOk result (λ x. Stand whole.now x.0.items) }
-    ensures behind { IfOk result (λ x. Ends x.2.now whole.now) }
+    ensures kept { IfOk result (λ x. AreRowsIn whole.now x.0.items) }
+    ensures following { IfOk result (λ x. Ends x.2.now whole.now) }
     ensures others { KeepOthers whole.now rows notes.old result notes.new }
     ensures fault { IfErr result IsOfText }
 {
@@ -207,12 +207,12 @@ pub(crate) fn read_part<'t>(
     text: &'t str,
 ) -> Result<(Vec<Offsets>, &'t str, &'t str), ReadError>
     requires ends { Ends text.now whole.now }
-    requires stand { Stand whole.now rows.items }
+    requires are_there { AreRowsIn whole.now rows.items }
     requires small { length whole.now < 2 ^ 32 }
     ensures found { GivesRows whole.now rows result (spec.read_cut_part is_open text.now) }
     ensures placed { PlacesRows whole.now text.now rows result (spec.read_cut_part is_open text.now) }
-    ensures kept { IfOk result (λ x. Stand whole.now x.0.items) }
-    ensures behind { IfOk result (λ x. Ends x.2.now whole.now) }
+    ensures kept { IfOk result (λ x. AreRowsIn whole.now x.0.items) }
+    ensures after { IfOk result (λ x. Ends x.2.now whole.now) }
     ensures others { KeepOthers whole.now rows notes.old result notes.new }
     ensures fault { IfErr result IsOfText }
 {

@@ -25,11 +25,11 @@ fn ends_before(ends: &PartEnds, at: usize) -> usize
 }
 
 /// How many rows, of those kept last first, are nearer to the end of the text than so many bytes.
-fn rows_nearer(behind: &[Offsets], back: usize) -> usize
-    ensures within { result ≤ length behind.now }
-    ensures count { result ≡ length (spec.nearer back (reverse behind.now)) }
+fn rows_nearer(after: &[Offsets], back: usize) -> usize
+    ensures within { result ≤ length after.now }
+    ensures count { result ≡ length (spec.nearer back (reverse after.now)) }
 {
-    let mut rest = behind;
+    let mut rest = after;
     'rows: while let [before @ .., row] = rest
         && row.start() >= back
     {
@@ -71,22 +71,22 @@ pub fn side_before(places: &Places, at: usize) -> Side
 
 /// What is in front of the first row or end of a part that is nearer than `back` bytes to the end of
 /// the text, which has `len` bytes; the split is in front of it.
-pub fn side_behind(places: &Places, len: usize, back: usize) -> Side
+pub fn side_after(places: &Places, len: usize, back: usize) -> Side
     requires small { len < 2 ^ 32 }
     requires within { back ≤ len }
-    ensures { spec.IsSideBehind places.now len back result }
+    ensures { spec.IsSideAfter places.now len back result }
 {
-    let rows = rows_nearer(places.behind.as_slice(), back);
+    let rows = rows_nearer(places.after.as_slice(), back);
     let ends = ends_before(&places.ends, len - back + 1);
     let mut bytes = len;
     if rows > 0 {
-        bytes = len.saturating_sub(places.behind[rows - 1].start());
+        bytes = len.saturating_sub(places.after[rows - 1].start());
     }
     if ends < places.ends.len() {
         bytes = bytes.min(places.ends.at(ends).start());
     }
     Side {
-        rows: places.front.len() + (places.behind.len() - rows),
+        rows: places.front.len() + (places.after.len() - rows),
         ends,
         bytes,
     }

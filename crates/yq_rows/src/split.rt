@@ -9,17 +9,17 @@ use yq_row_table::{Offsets, Places};
 use yq_text::TextGapBuffer;
 
 /// Moves rows that begin at an offset or after it to the other side of the split.
-fn to_behind(
+fn to_after(
     front: &mut Vec<Offsets>,
-    behind: &mut Vec<Offsets>,
+    after: &mut Vec<Offsets>,
     len: usize,
     at: usize,
 ) -> Result<(), AllocError>
     requires small { len < 2 ^ 32 }
     requires within { All (λ o. o.start ≤ len) front.old.items }
-    requires later { All (λ o. o.start ≤ len) behind.old.items }
-    ensures same { split_rows len front.new behind.new ≡ split_rows len front.old behind.old }
-    ensures later { All (λ o. o.start ≤ len) behind.new.items }
+    requires later { All (λ o. o.start ≤ len) after.old.items }
+    ensures same { split_rows len front.new after.new ≡ split_rows len front.old after.old }
+    ensures later { All (λ o. o.start ≤ len) after.new.items }
     ensures ok { OnOk result (LastBefore at front.new.items) }
 {
     'rows: while front.len() > 0 {
@@ -27,7 +27,7 @@ fn to_behind(
         if row.start() < at {
             return Ok(());
         }
-        behind.push(row.turned(len))?;
+        after.push(row.turned(len))?;
         let _ = front.pop();
     }
     Ok(())
@@ -36,25 +36,25 @@ fn to_behind(
 /// Moves rows that begin in front of an offset to the front of the split.
 fn to_front(
     front: &mut Vec<Offsets>,
-    behind: &mut Vec<Offsets>,
+    after: &mut Vec<Offsets>,
     len: usize,
     at: usize,
 ) -> Result<(), AllocError>
     requires small { len < 2 ^ 32 }
-    requires later { All (λ o. o.start ≤ len) behind.old.items }
+    requires later { All (λ o. o.start ≤ len) after.old.items }
     requires last { LastBefore at front.old.items }
-    ensures same { split_rows len front.new behind.new ≡ split_rows len front.old behind.old }
-    ensures later { All (λ o. o.start ≤ len) behind.new.items }
+    ensures same { split_rows len front.new after.new ≡ split_rows len front.old after.old }
+    ensures later { All (λ o. o.start ≤ len) after.new.items }
     ensures last { LastBefore at front.new.items }
-    ensures ok { OnOk result (FirstFrom at len behind.new.items) }
+    ensures ok { OnOk result (FirstFrom at len after.new.items) }
 {
-    'rows: while behind.len() > 0 {
-        let row = behind[behind.len() - 1].turned(len);
+    'rows: while after.len() > 0 {
+        let row = after[after.len() - 1].turned(len);
         if row.start() >= at {
             return Ok(());
         }
         front.push(row)?;
-        let _ = behind.pop();
+        let _ = after.pop();
     }
     Ok(())
 }
@@ -64,21 +64,21 @@ fn to_front(
 fn move_rows(places: &mut Places, len: usize, at: usize) -> Result<(), AllocError>
     requires small { len < 2 ^ 32 }
     requires within { All (λ o. o.start ≤ len) places.old.front.items }
-    requires later { All (λ o. o.start ≤ len) places.old.behind.items }
+    requires later { All (λ o. o.start ≤ len) places.old.after.items }
     ensures same { rows_kept len places.new ≡ rows_kept len places.old }
-    ensures later { All (λ o. o.start ≤ len) places.new.behind.items }
+    ensures later { All (λ o. o.start ≤ len) places.new.after.items }
     ensures ends { places.new.ends ≡ places.old.ends }
     ensures ok { OnOk result (IsSplitAt at len places.new) }
 {
-    to_behind(&mut places.front, &mut places.behind, len, at)?;
-    to_front(&mut places.front, &mut places.behind, len, at)
+    to_after(&mut places.front, &mut places.after, len, at)?;
+    to_front(&mut places.front, &mut places.after, len, at)
 }
 
 /// Where the first of the rows after the split begins in a text of so many bytes, or where that ends.
-pub(crate) fn begin_of(behind: &[Offsets], len: usize) -> usize
-    ensures { result ≡ first_byte len (reverse behind.now) }
+pub(crate) fn begin_of(after: &[Offsets], len: usize) -> usize
+    ensures { result ≡ first_byte len (reverse after.now) }
 {
-    match behind {
+    match after {
         [.., row] => len.saturating_sub(row.start()),
         [] => len,
     }
@@ -100,6 +100,6 @@ pub(crate) fn move_split(
 {
     let len = text.len();
     let moved = move_rows(places, len, at);
-    places.split = begin_of(places.behind.as_slice(), len);
+    places.split = begin_of(places.after.as_slice(), len);
     moved
 }

@@ -4,7 +4,7 @@ ghost use Rattle.yq_rows.specs.RowAnswers.{has_more_than, IsTouchedIn};
 ghost use Rattle.yq_rows.specs.Sides as spec;
 
 use crate::kept::Kept;
-use crate::{Side, side_before, side_behind};
+use crate::{Side, side_after, side_before};
 use yq_row_table::{EndPlace, PartEnds, Places};
 
 /// The rows and ends of parts that a change touches.
@@ -88,7 +88,7 @@ pub(crate) fn find_touched(places: &Places, len: usize, kept: Kept, begins: bool
 {
     let before = side_before(places, kept.front);
     let front = past_end(&places.ends, before, kept.front, begins);
-    let old = side_behind(places, len, kept.back);
+    let old = side_after(places, len, kept.back);
     Touched {
         front,
         old,

@@ -23,11 +23,11 @@ fn word_key(text: &str, n: usize) -> Option<(&str, &str, &str)>
         return None;
     }
     let (key, rest) = text.split_at(n);
-    let (colon, behind) = rest.split_at(1);
+    let (colon, after) = rest.split_at(1);
     if !has_key_room(key, colon) {
         return None;
     }
-    Some((key, colon, behind))
+    Some((key, colon, after))
 }
 
 /// The key in double quotes in front, on one line and without escapes, if its `:` follows it at once; that `:`, and
@@ -41,11 +41,11 @@ fn quoted_key(text: &str) -> Option<(&str, &str, &str)>
     if !is_colon(rest.as_bytes()) {
         return None;
     }
-    let (colon, behind) = rest.split_at(1);
+    let (colon, after) = rest.split_at(1);
     if !has_key_room(key, colon) {
         return None;
     }
-    Some((key, colon, behind))
+    Some((key, colon, after))
 }
 
 /// Whether the word of so many bytes in front ends its line.
@@ -60,7 +60,7 @@ fn ends_in_word(text: &[u8], n: usize) -> bool
 
 /// The dash in front, and the key after it or none, where a word follows it that is a key or ends its line.
 #[inline(always)]
-fn begin_behind(text: &str) -> Option<Begin<'_>>
+fn begin_after(text: &str) -> Option<Begin<'_>>
     ensures read { IfSome result (λ b. begin_view b ≡ begun (read_marks text.now)) }
     ensures entry { IfSome result (λ b. is_entry (mark_view b.mark) ≡ true) }
     ensures within { IfSome result (λ b. b.columns ≤ length text.now) }
@@ -68,8 +68,8 @@ fn begin_behind(text: &str) -> Option<Begin<'_>>
     if !is_dash(text.as_bytes()) {
         return None;
     }
-    let (dash, behind) = text.split_at(1);
-    let (spaces, next) = split_spaces(behind);
+    let (dash, after) = text.split_at(1);
+    let (spaces, next) = split_spaces(after);
     if spaces.is_empty() {
         return None;
     }
@@ -82,7 +82,7 @@ fn begin_behind(text: &str) -> Option<Begin<'_>>
             dashes: dash,
             columns: 0,
             mark: RowMark::Dash,
-            rest: behind,
+            rest: after,
         });
     }
     let (key, colon, rest) = word_key(next, n)?;
@@ -122,7 +122,7 @@ pub(crate) fn find_begin(text: &str) -> Option<Begin<'_>>
     ensures within { IfSome result (λ b. b.columns ≤ length text.now) }
 {
     if is_dash(text.as_bytes()) {
-        return begin_behind(text);
+        return begin_after(text);
     }
     let (key, colon, rest) = any_key(text)?;
     Some(Begin {

@@ -3,14 +3,14 @@ ghost use Rattle.std.specs.Prelude.{◌≡◌, ◌<◌, ◌≤◌, ◌++◌, ◌
 ghost use Rattle.yq_core.{specs.Plain.{ends_plain, holds_break}, specs.Text.{cut, upto}};
 ghost use Rattle.yq_row_table.{specs.Offsets.{Ends, IsCutIn}, specs.Slicing.filled_at, specs.WordRows.is_word_head};
 ghost use Rattle.yq_rows.specs.ReadPieces.{filling_view, mark_view};
-ghost use Rattle.yq_rows.specs.RowAnswers.{BeginsInFront, FindsRow, FindsScalar, IsFrontScalar, KnowsRowHead, MayBeWordRow, is_word_mark};
-ghost use Rattle.yq_rows.specs.RowAnswers.{row_in_front};
+ghost use Rattle.yq_rows.specs.RowAnswers.{BeginsAtFront, FindsRow, FindsScalar, IsFrontScalar, KnowsRowHead, MayBeWordRow, is_word_mark};
+ghost use Rattle.yq_rows.specs.RowAnswers.{row_at_front};
 
 use crate::content::{Filling, begins_block, begins_other, find_tail, may_be_alone};
 use crate::lengths::offsets_of;
 use crate::limit::Limit;
 use crate::marks::{RowMark, parent_of};
-use crate::reading::{RowFront, may_stand};
+use crate::reading::{RowFront, may_be_here};
 use crate::word_keys::find_begin;
 use crate::words::{begins_word, borrows_quoted};
 use yq_core::text::{is_space, spaces_len, split_spaces, split_white};
@@ -56,8 +56,8 @@ fn split_words(spaces: Option<usize>, text: &str) -> (&str, &str, bool)
 {
     let n = words_len(text.as_bytes());
     let more = further_len(spaces, text.as_bytes().split_at(n).1);
-    let (head, behind) = text.split_at(n + more);
-    (head, behind, more == 0)
+    let (head, after) = text.split_at(n + more);
+    (head, after, more == 0)
 }
 
 /// The scalar in front and what follows it, where it begins with a word, or is in double quotes on one line without
@@ -72,17 +72,17 @@ fn find_front(spaces: Option<usize>, text: &str) -> Option<(&str, &str, bool)>
     if !first_is(b'"', text.as_bytes()) {
         return None;
     }
-    let (head, behind) = short_scalar(text)?;
-    Some((head, behind, is_quoted(head.as_bytes())))
+    let (head, after) = short_scalar(text)?;
+    Some((head, after, is_quoted(head.as_bytes())))
 }
 
 /// A scalar after white space and the tail after it, if one is there.
 #[inline(always)]
-fn find_line<'t>(space: &'t str, head: &'t str, behind: &'t str) -> Option<Filling<'t>>
-    ensures scalar { FindsScalar space.now head.now behind.now result }
+fn find_line<'t>(space: &'t str, head: &'t str, after: &'t str) -> Option<Filling<'t>>
+    ensures scalar { FindsScalar space.now head.now after.now result }
     ensures head { IfSome result (λ f. f.head.now ≡ head.now) }
 {
-    let (tail, rest) = find_tail(behind)?;
+    let (tail, rest) = find_tail(after)?;
     Some(Filling {
         space,
         anchor: "",
@@ -121,8 +121,8 @@ fn find_content(parent: i64, text: &str) -> Option<(Filling<'_>, bool)>
     }
     let (space, rest) = split_white(text);
     let spaces = further_spaces(Place::Block, parent);
-    if let Some((head, behind, is_word)) = find_front(spaces, rest) {
-        let content = find_line(space, head, behind)?;
+    if let Some((head, after, is_word)) = find_front(spaces, rest) {
+        let content = find_line(space, head, after)?;
         return Some((content, is_word));
     }
     if begins_block(rest) {
@@ -135,8 +135,8 @@ fn find_content(parent: i64, text: &str) -> Option<(Filling<'_>, bool)>
         return None;
     }
     match read_scalar(false, spaces, rest, rest) {
-        Ok((head, behind)) => {
-            let content = find_line(space, head, behind)?;
+        Ok((head, after)) => {
+            let content = find_line(space, head, after)?;
             Some((content, borrows_quoted(head)))
         }
         Err(_) => None,
@@ -166,22 +166,22 @@ pub(crate) fn find_row<'t>(
     requires cut { front.at.now ≡ front.gap.now ++ front.text.now }
     requires short { length front.text.now ≤ length whole.now }
     requires small { length whole.now < 2 ^ 32 }
-    ensures read { FindsRow whole.now result (row_in_front limit front.entry) }
-    ensures stands { IfSome result (λ x. IsCutIn whole.now x.0) }
-    ensures place { IfSome result (BeginsInFront whole.now front.entry) }
+    ensures read { FindsRow whole.now result (row_at_front limit front.entry) }
+    ensures is_located { IfSome result (λ x. IsCutIn whole.now x.0) }
+    ensures place { IfSome result (BeginsAtFront whole.now front.entry) }
     ensures word { IfSome result (MayBeWordRow whole.now) }
     ensures known { IfSome result (KnowsRowHead whole.now) }
 {
     let (indent, rest) = split_spaces(front.text);
     let column = indent.len();
-    if !may_stand(limit, column, rest.as_bytes()) {
+    if !may_be_here(limit, column, rest.as_bytes()) {
         return None;
     }
     let begin = find_begin(rest)?;
     let parent = parent_of(begin.mark, column + begin.columns);
     let (content, is_head) = find_content(parent, begin.rest)?;
     let place = offsets_of(whole, front, column, &begin, &content);
-    let limit = Limit::behind(parent, content.plain);
+    let limit = Limit::after(parent, content.plain);
     let is_word = is_word_row(begin.mark, is_head);
     Some((place, limit, content.rest, is_word, 0))
 }

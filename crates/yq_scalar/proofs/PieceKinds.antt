@@ -56,5 +56,5 @@ text_quoted text p t h e =
     let at = h.0 in
     let size : (at + length is.scalar) - at ≡ length is.scalar = omega arith in
     let own : piece_text text p ≡ is.scalar = ap (λ (q : Piece). piece_text text q) is.piece
-    ∙ (ap (λ (n : ℕ). take n (drop at text)) size ∙ (ap (take (length is.scalar)) is.stands ∙ take-append_seam is.scalar is.rest)) in
+    ∙ (ap (λ (n : ℕ). take n (drop at text)) size ∙ (ap (take (length is.scalar)) is.is_located ∙ take-append_seam is.scalar is.rest)) in
     (is.quote, (is.ls, (is.rest, subst (λ (u : List ℕ). IsQuoted is.quote is.ls u is.rest) (sym (e ∙ own)) is.quoted)))

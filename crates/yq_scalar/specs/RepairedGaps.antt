@@ -1,13 +1,13 @@
 -- Gaps that are repaired after a block scalar (own).
 use Rattle.std.specs.Prelude.{◌≡◌, ◌<◌, ◌⊎◌, ℕ, Bool, List, [], true}
-use Rattle.yq_core.{specs.Block.{BlockText, RawLines, keeps}, specs.BlockRepair.{AreGap, is_behind, repair}}
+use Rattle.yq_core.{specs.Block.{BlockText, RawLines, keeps}, specs.BlockRepair.{AreGap, comes_later, repair}}
 use Rattle.yq_core.{specs.BlockWritten.ends_with_break, specs.Text.{joined, text_lines}, specs.declared.block_lines.TextIndent.TextIndent}
 
 -- A gap may be repaired after a block scalar whose text is so indented: each of its lines is blank or a comment, a less indented line or the
 -- end comes after it, and its comments go to a lower column (own).
 pub record MayRepair (indent : TextIndent) (column : ℕ) (gap rest : RawLines) : Type 0 where
   pub is_gap : AreGap gap
-  pub behind : is_behind indent rest ≡ true
+  pub after : comes_later indent rest ≡ true
   pub lower : column < indent.columns
 
 -- The same of the lines of a gap that ends in a break, or ends the text (own).

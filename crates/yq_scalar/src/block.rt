@@ -34,7 +34,7 @@ fn read_indent(least: usize, digit: Option<u8>, text: &[u8]) -> Result<TextInden
 }
 
 /// The block scalar in front of a text that begins at an offset.
-#[tactic(auto, unfolding(yq_core::specs::BlockReading::block_at, yq_core::specs::BlockReading::block_behind))]
+#[tactic(auto, unfolding(yq_core::specs::BlockReading::block_at, yq_core::specs::BlockReading::block_after))]
 fn read_at(text: &[u8], start: usize, least: usize) -> Result<Piece, FaultKind>
     requires small { least ≤ 2 ^ 63 }
     requires fits { start + length text.now < 2 ^ 64 }

@@ -27,7 +27,7 @@ pub fn literal_spells()
 /// A repaired gap may come after a block scalar, before a less indented line or the end, and its
 /// comments are the same. The gap ends in a break, or the text with it.
 pub fn repaired()
-    ensures stands { (least column : ℕ) (b : BlockText) (old gap rest : List ℕ) →
+    ensures is_located { (least column : ℕ) (b : BlockText) (old gap rest : List ℕ) →
         IsBlock least b old → MayRepairAfter b column gap rest →
         IsBlock least b (repaired_after b column gap ++ rest) }
     ensures ends { (keep : Bool) (indent : TextIndent) (column : ℕ) (gap rest : RawLines) →

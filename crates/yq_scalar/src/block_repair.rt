@@ -5,21 +5,21 @@ ghost use Rattle.yq_scalar.specs.RepairedGaps.{repaired_gap};
 ghost use Rattle.yq_core.specs.BlockRepair as spec;
 
 use std::alloc::{AllocError, Global};
-use yq_core::{Piece, behind_spaces, ends_line, is_blank, spaces_len, split_line, split_white};
+use yq_core::{Piece, ends_line, is_blank, spaces_len, split_line, split_white, without_spaces};
 use yq_scalar_reader::push_spaces;
 
 /// A line of spaces alone, so many at most.
 pub fn is_short(indent: usize, line: &[u8]) -> bool
     ensures { result ≡ spec.is_short indent line.now }
 {
-    ends_line(behind_spaces(line)) && spaces_len(line) <= indent
+    ends_line(without_spaces(line)) && spaces_len(line) <= indent
 }
 
 /// A line that begins with fewer spaces, and no tab after them.
 pub fn is_outside(indent: usize, line: &[u8]) -> bool
     ensures { result ≡ spec.is_outdented_comment indent line.now }
 {
-    spaces_len(line) < indent && !matches!(behind_spaces(line), [b'\t', ..])
+    spaces_len(line) < indent && !matches!(without_spaces(line), [b'\t', ..])
 }
 
 /// A blank line, emptied if it is not short.

@@ -83,9 +83,9 @@ words : (q n : ℕ) (t : List ℕ) → (n ≡ 0 → ⊥) → n ≤ prefix_len (r
 words q zero t some h e = absurd (some refl)
 words q (suc m) t some h e = up_to q m [] t h e
 
-pub words_in_front : (q n len : ℕ) (t run rest : List ℕ) → (n ≡ 0 → ⊥) → n ≤ len → len ≡ prefix_len (run_goes_on (Quoted q)) t →
+pub leading_words : (q n len : ℕ) (t run rest : List ℕ) → (n ≡ 0 → ⊥) → n ≤ len → len ≡ prefix_len (run_goes_on (Quoted q)) t →
     is_blank_before n t ≡ false → run ≡ take n t → rest ≡ drop n t → content_on q 0 within [] t ≡ run ++ content_on q 0 within [] rest
-words_in_front q n len t run rest some h k e f g = rw (f, g) (words q n t some (omega (arith, h, k)) e)
+leading_words q n len t run rest some h k e f g = rw (f, g) (words q n t some (omega (arith, h, k)) e)
 
 -- up to a backslash, its bytes mean themselves, white space too
 slash_next : (m : ℕ) (bs : List ℕ) → m ≤ prefix_len (run_goes_on (Quoted 34)) bs → front (λ b. eqb b 92) (drop m bs) ≡ true → front is_feed bs ≡ false

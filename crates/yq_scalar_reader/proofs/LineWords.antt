@@ -4,7 +4,7 @@ use Rattle.std.{proofs.Common.{length-drop, ◌-◌, refl, sym, ap, ◌∙◌, s
 use Rattle.std.{proofs.lemmas.List.drop-drop, proofs.lemmas.Bool.{false≢true, and_parts, cases_Bool, or_cases}}
 use Rattle.yq_core.{specs.Plain.{ends_plain, ends_text, holds_break}, specs.Runs.run_goes_on}
 use Rattle.yq_core.{specs.Text.{upto, is_empty, is_feed, is_space, is_white}, specs.declared.runs.Run.TheVariants.Plain}
-use Rattle.yq_core.{proofs.Across.{across_upto, plain_next, rest_is}, proofs.Bools.at_byte, proofs.PlainRuns.run_behind}
+use Rattle.yq_core.{proofs.Across.{across_upto, plain_next, rest_is}, proofs.Bools.at_byte, proofs.PlainRuns.run_after}
 use Rattle.yq_scalar_reader.{specs.Words.{begins_word, goes_on}, proofs.WordLaws.across_word}
 
 neither : (a b : Bool) → (a || b) ≡ false → (a ≡ false) × (b ≡ false)
@@ -80,27 +80,27 @@ line_start text = record {
 
 -- over a run
 pub line_run : (text rest next : List ℕ) (n run : ℕ) → run ≡ prefix_len (run_goes_on Plain) rest → run ≤ length rest → next ≡ drop run rest → OnLine text rest n → OnLine text next (n + run)
-line_run text rest next n run is le behind o =
-    let left : length next ≡ length rest - run = ap length behind ∙ length-drop run rest in
+line_run text rest next n run is le after o =
+    let left : length next ≡ length rest - run = ap length after ∙ length-drop run rest in
     let lines : (m : ℕ) → holds_break (take (run + m) rest) ≡ holds_break (take m next) =
     λ m. subst (λ (k : ℕ). holds_break (take (k + m) rest) ≡ holds_break (take m (drop k rest))) (sym is) (run_line rest m)
-    ∙ ap (λ (l : List ℕ). holds_break (take m l)) (sym behind) in
+    ∙ ap (λ (l : List ℕ). holds_break (take m l)) (sym after) in
     record {
       within = omega (arith, left, le, o.within);
-      back = behind ∙ (ap (drop run) o.back ∙ drop-drop run n text);
-      so_far = λ spaces. run_behind false spaces rest next n run _ is behind (o.so_far spaces);
+      back = after ∙ (ap (drop run) o.back ∙ drop-drop run n text);
+      so_far = λ spaces. run_after false spaces rest next n run _ is after (o.so_far spaces);
       line = λ m. let same : n + run + m ≡ n + (run + m) = omega arith in ap (λ (k : ℕ). holds_break (take k text)) same ∙ (o.line (run + m) ∙ lines m);
     }
 
 -- over one byte
 pub line_step : (text rest next : List ℕ) (n : ℕ) → next ≡ drop 1 rest → goes_on rest ≡ true → OnLine text rest n → OnLine text next (n + 1)
-line_step text rest next n behind on o =
-    let left : length next ≡ length rest - 1 = ap length behind ∙ length-drop 1 rest in
-    let lines : (m : ℕ) → holds_break (take (suc m) rest) ≡ holds_break (take m next) = λ m. on_line rest m on ∙ ap (λ (l : List ℕ). holds_break (take m l)) (sym behind) in
-    let ends : (spaces : Option ℕ) → upto (ends_plain false spaces) rest ≡ 1 + upto (ends_plain false spaces) next = λ spaces. on_upto spaces rest on ∙ ap (λ (l : List ℕ). 1 + upto (ends_plain false spaces) l) (sym behind) in
+line_step text rest next n after on o =
+    let left : length next ≡ length rest - 1 = ap length after ∙ length-drop 1 rest in
+    let lines : (m : ℕ) → holds_break (take (suc m) rest) ≡ holds_break (take m next) = λ m. on_line rest m on ∙ ap (λ (l : List ℕ). holds_break (take m l)) (sym after) in
+    let ends : (spaces : Option ℕ) → upto (ends_plain false spaces) rest ≡ 1 + upto (ends_plain false spaces) next = λ spaces. on_upto spaces rest on ∙ ap (λ (l : List ℕ). 1 + upto (ends_plain false spaces) l) (sym after) in
     record {
       within = omega (arith, left, some_on rest on, o.within);
-      back = behind ∙ (ap (drop 1) o.back ∙ drop-drop 1 n text);
+      back = after ∙ (ap (drop 1) o.back ∙ drop-drop 1 n text);
       so_far = λ spaces. let e = ends spaces in let s = o.so_far spaces in omega (arith, e, s);
       line = λ m. let same : n + 1 + m ≡ n + suc m = omega arith in ap (λ (k : ℕ). holds_break (take k text)) same ∙ (o.line (suc m) ∙ lines m);
     }

@@ -19,8 +19,8 @@ same_front [] c x = refl
 same_front (b ∷ p) c x = rw (eq-eqb b b refl) (same_front p c x)
 
 -- a text that begins with these bytes is compared after them
-pub same_behind : (p c w x : List ℕ) → w ≡ p ++ x → bytes_eq (p ++ c) w ≡ bytes_eq c x
-same_behind p c w x e = ap (bytes_eq (p ++ c)) e ∙ same_front p c x
+pub same_after : (p c w x : List ℕ) → w ≡ p ++ x → bytes_eq (p ++ c) w ≡ bytes_eq c x
+same_after p c w x e = ap (bytes_eq (p ++ c)) e ∙ same_front p c x
 
 -- one that doesn't is another
 pub other_front : (p c w : List ℕ) → ((rest : List ℕ) → w ≢ p ++ rest) → bytes_eq (p ++ c) w ≡ false
@@ -43,6 +43,6 @@ pub feed_missing : (count : ℕ) (text : List ℕ) (left : ℕ) (rest : List ℕ
 feed_missing count text zero rest h some other s e = absurd (omega (arith, some))
 feed_missing count text (suc k) rest h some other s e = other (replicate k 10 ++ s) (h.1 s e)
 
-pub feed_stripped : (count : ℕ) (text : List ℕ) (left : ℕ) (rest behind : List ℕ) → OnlyLeft count text left rest → 0 < left → rest ≡ 10 ∷ behind → OnlyLeft count text (left - 1) behind
-feed_stripped count text zero rest behind h some is = absurd (omega (arith, some))
-feed_stripped count text (suc k) rest behind h some is = search rules
+pub feed_stripped : (count : ℕ) (text : List ℕ) (left : ℕ) (rest after : List ℕ) → OnlyLeft count text left rest → 0 < left → rest ≡ 10 ∷ after → OnlyLeft count text (left - 1) after
+feed_stripped count text zero rest after h some is = absurd (omega (arith, some))
+feed_stripped count text (suc k) rest after h some is = search rules

@@ -189,26 +189,26 @@ fn break_len(text: &[u8]) -> usize
 pub(crate) fn fold_escape<'t>(text: &'t str) -> FoldedItem<'t>
     requires { spec.is_slash 34 text.now ≡ true }
     ensures value { spec.content_on 34 0 spec.within [] text.now ≡
-        folded_text result.folded ++ spec.content_behind 34 result.joined result.rest.now }
+        folded_text result.folded ++ spec.content_after 34 result.joined result.rest.now }
     ensures shorter { length result.rest.now < length text.now }
 {
-    let behind = text.split_at(1).1;
-    if is_break(behind.as_bytes()) {
-        let rest = behind.split_at(break_len(behind.as_bytes())).1;
+    let after = text.split_at(1).1;
+    if is_break(after.as_bytes()) {
+        let rest = after.split_at(break_len(after.as_bytes())).1;
         return FoldedItem {
             folded: Folded::Text(""),
             rest,
             joined: true,
         };
     }
-    match escape(behind.as_bytes()) {
+    match escape(after.as_bytes()) {
         None => FoldedItem {
             folded: Folded::Text(""),
-            rest: behind,
+            rest: after,
             joined: false,
         },
         Some((c, length)) => {
-            let rest = behind.split_at(length).1;
+            let rest = after.split_at(length).1;
             FoldedItem {
                 folded: Folded::Char(c),
                 rest,
@@ -222,7 +222,7 @@ pub(crate) fn fold_escape<'t>(text: &'t str) -> FoldedItem<'t>
 pub fn fold_item<'t>(quote: u8, text: &'t str) -> FoldedItem<'t>
     requires { is_space text.now ≡ false }
     ensures value { spec.content_on quote 0 spec.within [] text.now ≡
-        folded_text result.folded ++ spec.content_behind quote result.joined result.rest.now }
+        folded_text result.folded ++ spec.content_after quote result.joined result.rest.now }
     ensures within { length result.rest.now ≤ length text.now }
     ensures shorter { 0 < length text.now → length result.rest.now < length text.now }
 {

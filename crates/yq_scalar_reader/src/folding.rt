@@ -41,8 +41,8 @@ fn push_next<'a>(
     joined: bool,
     text: &'a str,
 ) -> Result<(&'a str, bool), AllocError>
-    ensures value { IfOk result (λ x. string_bytes out.new ++ spec.content_behind quote x.1 x.0.now
-        ≡ string_bytes out.old ++ spec.content_behind quote joined text.now) }
+    ensures value { IfOk result (λ x. string_bytes out.new ++ spec.content_after quote x.1 x.0.now
+        ≡ string_bytes out.old ++ spec.content_after quote joined text.now) }
     ensures shorter { IfOk result (λ x. 0 < length text.now → length x.0.now < length text.now) }
 {
     if quote == b'"' && !joined {

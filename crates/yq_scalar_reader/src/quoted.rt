@@ -118,7 +118,7 @@ fn closes(quote: u8, text: &[u8]) -> bool
 }
 
 /// How many bytes after the first belong to it.
-fn behind(quote: u8, first: u8, rest: &[u8]) -> Option<usize>
+fn past_first(quote: u8, first: u8, rest: &[u8]) -> Option<usize>
     ensures { result ≡ spec.escape_len quote first rest.now }
 {
     if first == b'\n' && is_marker(rest) {
@@ -156,7 +156,7 @@ fn quoted_len(quote: u8, text: &[u8]) -> Option<usize>
         if closes(quote, next) {
             return Some(n);
         }
-        let k = behind(quote, *first, after)?;
+        let k = past_first(quote, *first, after)?;
         n += k + 1;
         rest = after.split_at(k).1;
     }

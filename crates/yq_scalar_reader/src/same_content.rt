@@ -15,8 +15,8 @@ fn strip_breaks(text: &str, count: usize) -> Option<&str>
     'each: while left > 0 {
         match rest.strip_prefix('\n') {
             None => return None,
-            Some(behind) => {
-                rest = behind;
+            Some(after) => {
+                rest = after;
                 left -= 1;
             }
         }
@@ -47,9 +47,9 @@ fn strip_next<'w, 't>(
     ensures shorter { IfSome result (λ x. 0 < length text.now → length x.1.now < length text.now) }
 {
     let (space, next) = split_space(text);
-    let behind = strip_folded(wanted, fold_gap(joined, space))?;
+    let after = strip_folded(wanted, fold_gap(joined, space))?;
     let item = fold_item(quote, next);
-    let left = strip_folded(behind, item.folded)?;
+    let left = strip_folded(after, item.folded)?;
     Some((left, item.rest, item.joined))
 }
 

@@ -5,7 +5,7 @@ use Rattle.yq_core.{specs.Keys.{AreDistinct, depth, deepest}, specs.Shapes.{IsNe
 use Rattle.yq_core.{specs.Tree.{Label, Node, list, Children, child}, specs.Anchors.{names_of, names_in}, specs.Values.{items, entries}}
 use Rattle.yq_semantics.specs.Program.{Term, literal, found, Update, assign, delete, comment, Program, IsValue, SumHolds, UpdatesHold}
 use Rattle.yq_semantics.{specs.Program.LiteralsHold, specs.Tokens.Token}
-use Rattle.yq_semantics.specs.Grammar.{Production, Are, Behind, AreParted, AreListed, IsField, IsLiteral, literal_depth, IsTerm, IsUpdate}
+use Rattle.yq_semantics.specs.Grammar.{Production, Are, Preceded, AreParted, AreListed, IsField, IsLiteral, literal_depth, IsTerm, IsUpdate}
 use Rattle.yq_semantics.specs.Grammar.{IsProgram}
 use Rattle.yq_core.specs.Tree as tree
 
@@ -14,12 +14,12 @@ abbrev Each : {A : Type 0} → (A → Type 0) → List A → Type 0
 Each P [] = ⊤
 Each P (x ∷ xs) = P x × Each P xs
 
-each_behind : {A : Type 0} (P : A → Type 0) (s : List ℕ) (Is : Production A) → ((x : A) (ts rest : List Token) → Is x ts rest → P x) → (xs : List A) (ts rest : List Token) → Are (Behind s Is) xs ts rest → Each P xs
-each_behind P s Is holds [] ts rest h = tt
-each_behind P s Is holds (x ∷ xs) ts rest h = (holds x h.1.0 h.0 h.1.2, each_behind P s Is holds xs h.0 rest h.2)
+each_after : {A : Type 0} (P : A → Type 0) (s : List ℕ) (Is : Production A) → ((x : A) (ts rest : List Token) → Is x ts rest → P x) → (xs : List A) (ts rest : List Token) → Are (Preceded s Is) xs ts rest → Each P xs
+each_after P s Is holds [] ts rest h = tt
+each_after P s Is holds (x ∷ xs) ts rest h = (holds x h.1.0 h.0 h.1.2, each_after P s Is holds xs h.0 rest h.2)
 
 each_parted : {A : Type 0} (P : A → Type 0) (s : List ℕ) (Is : Production A) → ((x : A) (ts rest : List Token) → Is x ts rest → P x) → (xs : List A) (ts rest : List Token) → AreParted s Is xs ts rest → Each P xs
-each_parted P s Is holds xs ts rest h = search (rules, each_behind)
+each_parted P s Is holds xs ts rest h = search (rules, each_after)
 
 each_listed : {A : Type 0} (P : A → Type 0) (opening closing : List ℕ) (Is : Production A) → ((x : A) (ts rest : List Token) → Is x ts rest → P x) → (xs : List A) (ts rest : List Token) → AreListed opening closing Is xs ts rest → Each P xs
 each_listed P opening closing Is holds [] ts rest h = tt

@@ -40,11 +40,11 @@ part_at_root x root = sym (ap (λ (steps : List declared.Step). ops_under steps 
 
 -- ---- after others
 
-pub steps_behind : (xs ys : List declared.Step) → map tree_step (xs ++ ys) ≡ map tree_step xs ++ map tree_step ys
-steps_behind xs ys = map-append tree_step xs ys
+pub steps_after : (xs ys : List declared.Step) → map tree_step (xs ++ ys) ≡ map tree_step xs ++ map tree_step ys
+steps_after xs ys = map-append tree_step xs ys
 
-pub ops_behind : (xs ys : List Op) → operations_of (xs ++ ys) ≡ operations_of xs ++ operations_of ys
-ops_behind xs ys = map-append operation_of xs ys
+pub ops_after : (xs ys : List Op) → operations_of (xs ++ ys) ≡ operations_of xs ++ operations_of ys
+ops_after xs ys = map-append operation_of xs ys
 
 -- ---- operations of changes
 

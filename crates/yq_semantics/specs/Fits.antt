@@ -27,11 +27,15 @@ IsBelow (s ∷ path) = ⊤
 abbrev pub MayComment : Room → CommentPlace → List paths.Step → List ℕ → Node → Type 0
 MayComment room place path text root = (room.has place path ≡ true) × (can_be_comment place text ≡ true) × ((n : Node) × (node_at path root ≡ Some n))
 
+-- there is a node at a path, and it is so (own)
+abbrev pub HasNodeAt : List paths.Step → Node → (Node → Type 0) → Type 0
+HasNodeAt path root is_so = (n : Node) × (node_at path root ≡ Some n) × is_so n
+
 -- an operation fits a root, in a document whose text has such room (own)
 abbrev pub FitsRoot : Room → Operation → Node → Type 0
-FitsRoot room (replace doc path v) root = IsWritableAt (length path) v × ((n : Node) × (node_at path root ≡ Some n) × (is_used_inside (names_of root) (Some n) ≡ false))
-FitsRoot room (append doc path k v) root = (is_overlong_key k ≡ false) × IsWritableAt (suc (length path)) v × ((n : Node) × (node_at path root ≡ Some n) × Takes k n)
-FitsRoot room (remove doc path) root = IsBelow path × ((n : Node) × (node_at path root ≡ Some n) × (is_used_in (names_of root) (Some n) ≡ false))
+FitsRoot room (replace doc path v) root = IsWritableAt (length path) v × HasNodeAt path root (λ n. is_used_inside (names_of root) (Some n) ≡ false)
+FitsRoot room (append doc path k v) root = (is_overlong_key k ≡ false) × IsWritableAt (suc (length path)) v × HasNodeAt path root (Takes k)
+FitsRoot room (remove doc path) root = IsBelow path × HasNodeAt path root (λ n. is_used_in (names_of root) (Some n) ≡ false)
 FitsRoot room (line_comment doc path text) root = MayComment room comments.Line path text root
 FitsRoot room (head_comment doc path text) root = MayComment room comments.Head path text root
 

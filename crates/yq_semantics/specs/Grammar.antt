@@ -48,13 +48,13 @@ Are Is [] ts rest = ts ≡ rest
 Are Is (x ∷ xs) ts rest = (after : List Token) × Is x ts after × Are Is xs after rest
 
 -- a mark and then a form (own)
-abbrev pub Behind : {A : Type 0} → List ℕ → Production A → Production A
-Behind s Is x ts rest = (after : List Token) × HasSymbol s ts after × Is x after rest
+abbrev pub Preceded : {A : Type 0} → List ℕ → Production A → Production A
+Preceded s Is x ts rest = (after : List Token) × HasSymbol s ts after × Is x after rest
 
 -- one form or more, with the mark between them (own)
 abbrev pub AreParted : {A : Type 0} → List ℕ → Production A → Production (List A)
 AreParted s Is [] ts rest = ⊥
-AreParted s Is (x ∷ xs) ts rest = (after : List Token) × Is x ts after × Are (Behind s Is) xs after rest
+AreParted s Is (x ∷ xs) ts rest = (after : List Token) × Is x ts after × Are (Preceded s Is) xs after rest
 
 -- a form between two marks (own)
 abbrev pub Between : {A : Type 0} → List ℕ → List ℕ → Production A → Production A
@@ -115,7 +115,8 @@ comparison false = codes "!="
 -- cond = (simple | "di" | "document_index") ("==" | "!=") scalar | "has" "(" string ")" (own)
 abbrev pub IsCondition : Production Condition
 IsCondition (compares operand equal kind text) ts rest =
-    (sign scalar : List Token) × IsOperand operand ts sign × HasSymbol (comparison equal) sign scalar × IsPlainLiteral (record { kind = kind; text = text }) scalar rest
+    (sign scalar : List Token) × IsOperand operand ts sign × HasSymbol (comparison equal) sign scalar ×
+    IsPlainLiteral (record { kind = kind; text = text }) scalar rest
 IsCondition (has k) ts rest = ts ≡ symbol (codes "has") ∷ symbol (codes "(") ∷ string k ∷ symbol (codes ")") ∷ rest
 
 -- a form in parentheses (own)
@@ -125,7 +126,7 @@ InParentheses = Between (codes "(") (codes ")")
 -- stage = path | "select" "(" cond ")" (own)
 abbrev pub IsStage : Production Stage
 IsStage (path steps) ts rest = IsPath steps ts rest
-IsStage (select c) ts rest = Behind (codes "select") (InParentheses IsCondition) c ts rest
+IsStage (select c) ts rest = Preceded (codes "select") (InParentheses IsCondition) c ts rest
 
 -- pipe = stage { "|" stage } (own)
 abbrev pub IsPipe : Production (List Stage)
@@ -164,7 +165,7 @@ place_word place.Head = codes "head_comment"
 abbrev pub IsUpdate : Production Update
 IsUpdate (assign left op right) ts rest =
     (sign after : List Token) × IsLeft left ts sign × HasSymbol (operator_mark op) sign after × IsRight right after rest
-IsUpdate (delete stages) ts rest = Behind (codes "del") (InParentheses IsPipe) stages ts rest
+IsUpdate (delete stages) ts rest = Preceded (codes "del") (InParentheses IsPipe) stages ts rest
 IsUpdate (comment left p text) ts rest =
     (after : List Token) × IsLeft left ts after × (after ≡ symbol (place_word p) ∷ symbol (codes "=") ∷ string text ∷ rest)
 

@@ -52,7 +52,8 @@ abbrev mutual
   pub each_at_once : NodeEdits → ℕ → Children → Children
   each_at_once f i none = none
   each_at_once f i (child label n cs) =
-      child_by (f (step_to i label ∷ [])) label (done_at (f (step_to i label ∷ [])) n (node_edit_inside (under (step_to i label) f) n)) (each_at_once f (suc i) cs)
+      child_by (f (step_to i label ∷ [])) label
+      (done_at (f (step_to i label ∷ [])) n (node_edit_inside (under (step_to i label) f) n)) (each_at_once f (suc i) cs)
 
 -- a node with all that is done at it and at the places in it (own)
 abbrev pub at_once : NodeEdits → Node → Node

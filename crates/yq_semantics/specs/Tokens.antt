@@ -61,7 +61,8 @@ is_mark_before b = b == 124 || b == 43 || b == 61 || b == 33
 
 -- the characters that only other expressions have: * / % < > $ ; ? @ & ~ ^ ! - (own)
 abbrev pub is_foreign : ℕ → Bool
-is_foreign b = b == 42 || b == 47 || b == 37 || b == 60 || b == 62 || b == 36 || b == 59 || b == 63 || b == 64 || b == 38 || b == 126 || b == 94 || b == 33 || b == 45
+is_foreign b =
+    b == 42 || b == 47 || b == 37 || b == 60 || b == 62 || b == 36 || b == 59 || b == 63 || b == 64 || b == 38 || b == 126 || b == 94 || b == 33 || b == 45
 
 -- the character that comes after a backslash for a character: \" \\ \n \t \r (own)
 abbrev pub escaped_character : ℕ → Option ℕ

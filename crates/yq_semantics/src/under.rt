@@ -21,7 +21,7 @@ pub struct OpsUnder {
 }
 
 /// Puts the same steps again after others.
-#[tactic(auto, using(crate::proofs::UnderLaws::steps_behind))]
+#[tactic(auto, using(crate::proofs::UnderLaws::steps_after))]
 pub fn push_steps(alloc: Global, steps: &[Step], all: &mut Vec<Step>) -> Result<(), AllocError>
     ensures { spec.PutsSteps result all.old all.new steps.now }
 {
@@ -30,7 +30,7 @@ pub fn push_steps(alloc: Global, steps: &[Step], all: &mut Vec<Step>) -> Result<
 }
 
 /// The path from the root that one from a node is, to which these steps lead.
-#[tactic(auto, using(crate::proofs::UnderLaws::steps_behind))]
+#[tactic(auto, using(crate::proofs::UnderLaws::steps_after))]
 fn whole_path(alloc: Global, front: &[Step], path: Path) -> Result<Path, AllocError>
     ensures doc { IfOk result (λ p. p.doc ≡ path.doc) }
     ensures steps { IfOk result (λ p. steps_of p ≡ map tree_step front.now ++ steps_of path) }

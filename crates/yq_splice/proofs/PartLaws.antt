@@ -10,7 +10,7 @@ use Rattle.yq_semantics.{specs.Program.{Update, UpdatesHold}, specs.Rooms.room_o
 use Rattle.yq_semantics.specs.RoomsKept.{BlockLasts, KeepsBlockIn, LeavesRooms, MayFollow, NoneOn, SetComments, SetNoComment}
 use Rattle.yq_semantics.{proofs.JudgementLaws.gives_same, proofs.RoomLaws.rooms_are_ready, proofs.updates.AlikeRooms.rest_follow}
 use Rattle.yq_semantics.proofs.updates.RoomsLast.{plan_follows}
-use Rattle.yq_eval.specs.PlaceView.{put_behind}
+use Rattle.yq_eval.specs.PlaceView.{put_after}
 use Rattle.yq_expr.{specs.Parts.{LeavesOps, rest_ops}, proofs.PartLaws.{nothing_left, whole_plan}}
 use Rattle.yq_text.specs.Splice.{Splice}
 use Rattle.yq_edit_laws.{specs.Answers.EditFails, specs.Carried.{carried, carry_all, carry_out, updated}}
@@ -18,7 +18,7 @@ use Rattle.yq_edit_laws.specs.Edit.{Edit, by_reading, edit_after, edit_then, in_
 use Rattle.yq_edit_laws.specs.Theorems.{IsApplied, IsFitting, IsLarge, Leading, StopsInOrder}
 use Rattle.yq_edit_laws.{specs.Valid.{AreServed, FailsAt, HaveOperands, IsStep, UpdateFails}, proofs.ApplyLaws.applied_by}
 use Rattle.yq_edit_laws.{proofs.CutLaws.cut_same, proofs.MeaningLaws.{UpdateComes, plan_comes}, proofs.ServeLaws.{OperationsCome, all_come}}
-use Rattle.yq_edit_laws.{proofs.OrderLaws.{behind_both, behind_none, fails_behind, fails_itself, fails_on}, proofs.UpdateLaws.memory_fails}
+use Rattle.yq_edit_laws.{proofs.OrderLaws.{after_both, following_none, fails_after, fails_itself, fails_on}, proofs.UpdateLaws.memory_fails}
 use Rattle.yq_splice.specs.Parts.{Awaits, IsJudged}
 use Rattle.yq_failure.specs.declared.failure.Failure.TheVariants as failure
 use Rattle.yq_edit_laws.specs.Edit as edits
@@ -31,7 +31,7 @@ record SplitsOff (xs zs : List Operation) (j : Judgement (List Operation)) : Typ
   is : j ≡ gives rest
   all : zs ≡ xs ++ rest
 
-splits : (xs zs : List Operation) (j : Judgement (List Operation)) → put_behind xs j ≡ gives zs → SplitsOff xs zs j
+splits : (xs zs : List Operation) (j : Judgement (List Operation)) → put_after xs j ≡ gives zs → SplitsOff xs zs j
 splits xs zs (gives ys) h = record { rest = ys; is = refl; all = sym (gives_same h) }
 splits xs zs (refuses why) h = absurd (cc)
 
@@ -41,21 +41,21 @@ join_operands (x ∷ xs) ys h k = (h.0, join_operands xs ys h.1 k)
 
 -- ---- operations and those after them
 
-then_behind : (g : List ℕ → Edit) (ds : List Splice) (r : Edit) → edit_after ds (edit_then g r) ≡ edit_then g (edit_after ds r)
-then_behind g ds unreadable = refl
-then_behind g ds (edits.refuses why) = refl
-then_behind g ds (edits.gives t es) = sym (behind_both ds es (g t))
+then_after : (g : List ℕ → Edit) (ds : List Splice) (r : Edit) → edit_after ds (edit_then g r) ≡ edit_then g (edit_after ds r)
+then_after g ds unreadable = refl
+then_after g ds (edits.refuses why) = refl
+then_after g ds (edits.gives t es) = sym (after_both ds es (g t))
 
 -- one thing, and others after it
 order_one : {A : Type 0} (f : A → List ℕ → Edit) (xs ys : List A) → ((m : List ℕ) → in_order f (xs ++ ys) m ≡ edit_then (in_order f ys) (in_order f xs m)) →
     (e : Edit) → edit_then (in_order f (xs ++ ys)) e ≡ edit_then (in_order f ys) (edit_then (in_order f xs) e)
 order_one f xs ys all unreadable = refl
 order_one f xs ys all (edits.refuses why) = refl
-order_one f xs ys all (edits.gives m ds) = ap (edit_after ds) (all m) ∙ then_behind (in_order f ys) ds (in_order f xs m)
+order_one f xs ys all (edits.gives m ds) = ap (edit_after ds) (all m) ∙ then_after (in_order f ys) ds (in_order f xs m)
 
 -- things in order, and others after them
 in_order_both : {A : Type 0} (f : A → List ℕ → Edit) (xs ys : List A) (t : List ℕ) → in_order f (xs ++ ys) t ≡ edit_then (in_order f ys) (in_order f xs t)
-in_order_both f [] ys t = sym (behind_none (in_order f ys t))
+in_order_both f [] ys t = sym (following_none (in_order f ys t))
 in_order_both f (x ∷ xs) ys t = order_one f xs ys (λ m. in_order_both f xs ys m) (f x t)
 
 first_none_on : (n : ℕ) (xs ys : List Operation) → NoneOn n (xs ++ ys) → NoneOn n xs
@@ -114,10 +114,10 @@ pub fitting : (x : Operation) (xs : List Operation) (m : List ℕ) → Awaits (x
 fitting x xs m h = record { before = h.documents; read = h.read; fits = h.follow.fit.0 }
 
 -- an edit that gives a text after splices gives it without them
-behind : (es fs : List Splice) (n : List ℕ) (r : Edit) → edit_after es r ≡ edits.gives n fs → (gs : List Splice) × (r ≡ edits.gives n gs)
-behind es fs n unreadable k = absurd (cc)
-behind es fs n (edits.refuses why) k = absurd (cc)
-behind es fs n (edits.gives o gs) k = (gs, cc)
+after : (es fs : List Splice) (n : List ℕ) (r : Edit) → edit_after es r ≡ edits.gives n fs → (gs : List Splice) × (r ≡ edits.gives n gs)
+after es fs n unreadable k = absurd (cc)
+after es fs n (edits.refuses why) k = absurd (cc)
+after es fs n (edits.gives o gs) k = (gs, cc)
 
 -- what an edit gave, where another one of that text gave one in its turn
 pub record GaveBetween (g : List ℕ → Edit) (r : Edit) (n : List ℕ) : Type 0 where
@@ -131,7 +131,7 @@ pub gave_between : (g : List ℕ → Edit) (r : Edit) (n : List ℕ) (ds : List 
 gave_between g unreadable n ds k = absurd (cc)
 gave_between g (edits.refuses why) n ds k = absurd (cc)
 gave_between g (edits.gives o es) n ds k =
-    let b = behind es ds n (g o) k in
+    let b = after es ds n (g o) k in
     record { between = o; first = es; later = b.0; gave = refl; then_gave = b.1 }
 
 -- after the first ones the others may follow
@@ -248,7 +248,7 @@ module _ (u : Update) (t : List ℕ) (before : List Splice) (is : read_at t ≡ 
 
       pub some_fail : (e : ExprError) → EditFails e (edit_after cs (carry_all ops m)) → FailsAt e u t
       some_fail e k =
-          let here : EditFails e (carry_all so_far t) = subst (EditFails e) (sym comes) (fails_behind e h.own (carry_all ops m) (fails_itself e cs (carry_all ops m) k)) in
+          let here : EditFails e (carry_all so_far t) = subst (EditFails e) (sym comes) (fails_after e h.own (carry_all ops m) (fails_itself e cs (carry_all ops m) k)) in
           record {
             fails = subst (EditFails e) (sym (done (so_far ++ others) whole ∙ in_order_both carried so_far others t)) (fails_on e (carry_all others) (carry_all so_far t) here);
             why = stopped e here;

@@ -7,7 +7,7 @@ use Rattle.yq_text.{specs.Changing.IsChange, specs.Script.new_text, specs.declar
 use Rattle.yq_text.specs.declared.edited.Edited.{Edited}
 use Rattle.yq_core.{specs.Answers.ReadError, proofs.Bools.guard_then}
 use Rattle.yq_row_table.{specs.Grammar.IsCut, specs.Items.{Item, items_of_cut, items_text}, specs.Kept.IsPlaced, specs.Rows.Cut}
-use Rattle.yq_row_table.{specs.Touched.{TouchesOnly, in_back, in_front, item_text}, specs.View.{RowsView, rows_view}}
+use Rattle.yq_row_table.{specs.Touched.{TouchesOnly, in_back, before_offset, item_text}, specs.View.{RowsView, rows_view}}
 use Rattle.yq_row_table.{specs.declared.places.Places.Places, proofs.PlacedLaws.split_boundary}
 use Rattle.yq_documents.{specs.Reading.{all_documents, documents, cut_of, read_at}, proofs.ReadLaws.{parts_read, text_takes, read_takes}}
 use Rattle.yq_places.specs.RowWalk.{HasCut}
@@ -96,24 +96,24 @@ module _ (t : List ℕ) (p : Places) (h : HasPlaces t p) where
 -- ---- what is known
 
 -- the items in front of an offset are the first ones
-front_part : (n : ℕ) (xs : List Item) → (ys : List Item) × (xs ≡ in_front n xs ++ ys)
+front_part : (n : ℕ) (xs : List Item) → (ys : List Item) × (xs ≡ before_offset n xs ++ ys)
 front_part n [] = ([], refl)
 front_part n (i ∷ xs) = go (front_part (n - length (item_text i)) xs) (ltb (length (item_text i)) n) refl
   where
-    go : ((ys : List Item) × (xs ≡ in_front (n - length (item_text i)) xs ++ ys)) → (b : Bool) → ltb (length (item_text i)) n ≡ b → (ys : List Item) × (i ∷ xs ≡ in_front n (i ∷ xs) ++ ys)
-    go more true e = (more.0, ap (λ (l : List Item). i ∷ l) more.1 ∙ ap (λ (b : Bool). cond b (i ∷ in_front (n - length (item_text i)) xs) [] ++ more.0) (sym e))
-    go more false e = (i ∷ xs, ap (λ (b : Bool). cond b (i ∷ in_front (n - length (item_text i)) xs) [] ++ (i ∷ xs)) (sym e))
+    go : ((ys : List Item) × (xs ≡ before_offset (n - length (item_text i)) xs ++ ys)) → (b : Bool) → ltb (length (item_text i)) n ≡ b → (ys : List Item) × (i ∷ xs ≡ before_offset n (i ∷ xs) ++ ys)
+    go more true e = (more.0, ap (λ (l : List Item). i ∷ l) more.1 ∙ ap (λ (b : Bool). cond b (i ∷ before_offset (n - length (item_text i)) xs) [] ++ more.0) (sym e))
+    go more false e = (i ∷ xs, ap (λ (b : Bool). cond b (i ∷ before_offset (n - length (item_text i)) xs) [] ++ (i ∷ xs)) (sym e))
 
-none_behind : (xs : List Item) → in_back 0 xs ≡ []
-none_behind [] = refl
-none_behind (i ∷ xs) = rw (le-ltb (length (items_text (i ∷ xs) [])) 0 (omega arith)) (none_behind xs)
+none_following : (xs : List Item) → in_back 0 xs ≡ []
+none_following [] = refl
+none_following (i ∷ xs) = rw (le-ltb (length (items_text (i ∷ xs) [])) 0 (omega arith)) (none_following xs)
 
 touches_itself : (n : ℕ) (c : Cut) → TouchesOnly n 0 c c
 touches_itself n c =
     let xs = items_of_cut c in
     let rest = front_part n xs in
-    let all : xs ≡ in_front n xs ++ (rest.0 ++ in_back 0 xs) =
-    rest.1 ∙ ap (λ (l : List Item). in_front n xs ++ l) (sym (append-nil rest.0) ∙ ap (λ (l : List Item). rest.0 ++ l) (sym (none_behind xs))) in
+    let all : xs ≡ before_offset n xs ++ (rest.0 ++ in_back 0 xs) =
+    rest.1 ∙ ap (λ (l : List Item). before_offset n xs ++ l) (sym (append-nil rest.0) ∙ ap (λ (l : List Item). rest.0 ++ l) (sym (none_following xs))) in
     record { touched = rest.0; written = rest.0; old_are = all; new_are = all; front_same = refl; back_same = refl }
 
 -- what stays known is so in the text itself

@@ -11,9 +11,9 @@ use Rattle.yq_core.{specs.Alike.fresh, specs.Text.{is_feed, is_line, put_byte, t
 use Rattle.yq_row_table.specs.Grammar.{IsCut, IsMarkerLine}
 use Rattle.yq_row_table.specs.Items.{Item, row_item, end_item, items_of_cut, items_text, nothing_asked, asked_of, AreRowItems}
 use Rattle.yq_row_table.{specs.Meter.{begins_line, line_count}, specs.Reading.all_parts, specs.Regions.{IsReadAlone, ended, no_items}}
-use Rattle.yq_row_table.{specs.Rows.{Cut, cut_text, marked}, specs.Touched.{TouchesOnly, in_back, in_front, item_text}}
+use Rattle.yq_row_table.{specs.Rows.{Cut, cut_text, marked}, specs.Touched.{TouchesOnly, in_back, before_offset, item_text}}
 use Rattle.yq_row_table.{proofs.ItemLaws.{items_joined, items_of_text, parts_are_items}, proofs.RegionLaws.region}
-use Rattle.yq_rows.specs.Following.{behind_end, exchanged, is_end_of, keeps_end, kept_marker, marker_line, read_text, text_read}
+use Rattle.yq_rows.specs.Following.{after_end_item, exchanged, is_end_of, keeps_end, kept_marker, marker_line, read_text, text_read}
 use Rattle.yq_rows.{specs.Following.without_line, specs.Sides.text_length, specs.declared.kept.Kept.Kept}
 use Rattle.yq_rows.{proofs.BeginLaws.{first_long, joined_long}, proofs.ItemPlaces.{cut_long, text_split}}
 use Rattle.yq_rows.{proofs.KeptSides.{back_long, front_long, last_long}, proofs.LineStarts.line_of_marker, proofs.MarkedLaws.last_marker_is}
@@ -159,7 +159,7 @@ module _ (t new : List ℕ) (kept : Kept) (es : List Extent) where
     marker : List ℕ
     items : w ≡ ended front gap marker
     some : 0 < length marker
-    behind : length new ≤ ((n + text_length front) + length gap) + kept.back
+    after : length new ≤ ((n + text_length front) + length gap) + kept.back
     began : begins_line t (length t - (length new - ((n + text_length front) + length gap))) ≡ true
     begins : begins_line new ((n + text_length front) + length gap) ≡ true
     lines : line_count (items_text front [] ++ gap) ≤ Lines n w
@@ -197,8 +197,8 @@ module _ (t new : List ℕ) (kept : Kept) (es : List Extent) where
             (cond-false (keeps_line t new kept (m + length gap) (m + length (gap ++ marker))) gap (gap ++ marker) goes))
             (cases_Bool (keeps_line t new kept (m + length gap) (m + length (gap ++ marker))))
           where
-            behind : Bool
-            behind = leb (length new) ((m + length gap) + kept.back) && (begins_line t (length t - (length new - (m + length gap))) && begins_line new (m + length gap))
+            after : Bool
+            after = leb (length new) ((m + length gap) + kept.back) && (begins_line t (length t - (length new - (m + length gap))) && begins_line new (m + length gap))
 
             before : Bool
             before = leb (m + length (gap ++ marker)) kept.front && begins_line new (m + length (gap ++ marker))
@@ -213,12 +213,12 @@ module _ (t new : List ℕ) (kept : Kept) (es : List Extent) where
             nothing : keeps_line t new kept (m + length gap) (m + length (gap ++ marker)) ≡ true → length marker ≤ 0 → Own m (end_item gap marker) ≡ gap ++ marker
             nothing stays none = own_is stays ∙ no_marker marker none
 
-            in_front_of : before ≡ true → 0 < length marker → ⊥
-            in_front_of e some =
+            before_it : before ≡ true → 0 < length marker → ⊥
+            before_it e some =
                 let both = and_parts (leb (m + length (gap ++ marker)) kept.front) (begins_line new (m + length (gap ++ marker))) e in
                 passed u gap marker ws is some (leb-true (m + length (gap ++ marker)) kept.front both.0) both.1
 
-            at_end : behind ≡ true → 0 < length marker → keeps_line t new kept (m + length gap) (m + length (gap ++ marker)) ≡ true → Within n w
+            at_end : after ≡ true → 0 < length marker → keeps_line t new kept (m + length gap) (m + length (gap ++ marker)) ≡ true → Within n w
             at_end e some stays =
                 let both = and_parts (leb (length new) ((m + length gap) + kept.back)) (begins_line t (length t - (length new - (m + length gap))) && begins_line new (m + length gap)) e in
                 let lines = and_parts (begins_line t (length t - (length new - (m + length gap)))) (begins_line new (m + length gap)) both.1 in
@@ -231,7 +231,7 @@ module _ (t new : List ℕ) (kept : Kept) (es : List Extent) where
                   marker = marker;
                   items = all;
                   some = some;
-                  behind = far;
+                  after = far;
                   began = lines.0;
                   begins = lines.1;
                   lines = omega (arith, last_lines n m u gap marker refl own (own_is stays) (k.1 here), ap (Lines n) all);
@@ -239,9 +239,9 @@ module _ (t new : List ℕ) (kept : Kept) (es : List Extent) where
 
             by_side : keeps_line t new kept (m + length gap) (m + length (gap ++ marker)) ≡ true → 0 < length marker → Within n w
             by_side stays some = ⊎_elim {0, 0, 0}
-                (λ (e : before ≡ true). absurd (in_front_of e some))
-                (λ (e : behind ≡ true). at_end e some stays)
-                (or_cases before behind stays)
+                (λ (e : before ≡ true). absurd (before_it e some))
+                (λ (e : after ≡ true). at_end e some stays)
+                (or_cases before after stays)
 
     within_lines : AreTouched n w es → Within n w
     within_lines touched = let at : n ≡ n + text_length [] = omega arith in one_by_one [] w refl tt (subst (λ (k : ℕ). AreTouched k w es) at touched)
@@ -262,7 +262,7 @@ pub record Changed (t new : List ℕ) (kept : Kept) (c d : Cut) (ss : List Segme
 
 module _ (t new : List ℕ) (kept : Kept) (c d : Cut) (ss : List Segment) (h : Changed t new kept c d ss) where
   abbrev f : List Item
-  f = in_front kept.front (items_of_cut c)
+  f = before_offset kept.front (items_of_cut c)
 
   abbrev z : List Item
   z = in_back kept.back (items_of_cut c)
@@ -397,7 +397,7 @@ module _ (t new : List ℕ) (kept : Kept) (c d : Cut) (ss : List Segment) (h : C
   -- the first of the items that are written reaches the bytes' end
   reaches : (i : Item) (is : List Item) → w ≡ i ∷ is → kept.front ≤ text_length f + length (item_text i)
   reaches i is e =
-      let all : items_of_cut d ≡ in_front kept.front (items_of_cut d) ++ (i ∷ (is ++ z)) = h.touches.new_are ∙ ((λ j. sym h.touches.front_same j ++ (e j ++ z))) in
+      let all : items_of_cut d ≡ before_offset kept.front (items_of_cut d) ++ (i ∷ (is ++ z)) = h.touches.new_are ∙ ((λ j. sym h.touches.front_same j ++ (e j ++ z))) in
       omega (arith, front_stop kept.front (items_of_cut d) i (is ++ z) all, ap text_length h.touches.front_same)
 
   -- what is read, after items that aren't
@@ -467,7 +467,7 @@ module _ (t new : List ℕ) (kept : Kept) (c d : Cut) (ss : List Segment) (h : C
       sizes = omega (arith, ap length whole_is, length-append (items_text pre [] ++ q) (k.marker ++ items_text z []), length-append k.marker (items_text z []), at_is)
 
       room : length k.marker ≤ kept.back - text_length z
-      room = omega (arith, sizes, k.behind)
+      room = omega (arith, sizes, k.after)
 
       line_there : IsMarkerLine k.marker (items_text z [])
       line_there = marker_there (items_of_cut d) (pre ++ k.front) z k.gap k.marker (parts_are_items d true h.new_is.parts)
@@ -600,6 +600,6 @@ module _ (t new : List ℕ) (kept : Kept) (c d : Cut) (ss : List Segment) (h : C
   pub read_within : line_count (read_text kept c d h.touches) ≤ touched_lines t new kept es 0 (items_of_cut d)
   read_within = go (keeps_end kept c tch) refl
     where
-      go : (b : Bool) → keeps_end kept c tch ≡ b → line_count (text_read (kept.back - text_length z) (behind_end b tch) (behind_end b w)) ≤ Lines t new kept es 0 (items_of_cut d)
+      go : (b : Bool) → keeps_end kept c tch ≡ b → line_count (text_read (kept.back - text_length z) (after_end_item b tch) (after_end_item b w)) ≤ Lines t new kept es 0 (items_of_cut d)
       go true e = passing e w refl
       go false e = strict e

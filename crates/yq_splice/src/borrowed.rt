@@ -71,5 +71,5 @@ pub(crate) fn plan_in<'d, 't>(
 {
     let mut cut = CutText::resumed(text, rows, known);
     let planned = plan_by_rows(alloc, &mut cut, program, nth);
-    (planned, cut.known_in_front(alloc, usize::MAX))
+    (planned, cut.known_before(alloc, usize::MAX))
 }

@@ -82,7 +82,7 @@ pub(crate) fn carry_all(
 }
 
 /// An edit whose splices come after others.
-pub(crate) fn edited_behind(splices: Vec<Splice>, edited: Edited) -> Result<Edited, AllocError>
+pub(crate) fn edited_after(splices: Vec<Splice>, edited: Edited) -> Result<Edited, AllocError>
     ensures { IfOk result (λ e. (e.text ≡ edited.text) ×
         (e.splices.items ≡ splices.items ++ edited.splices.items)) }
 {
@@ -160,7 +160,7 @@ pub(crate) fn carry_rows(
 {
     let at_once = carry_at_once(alloc, &CutText::new(text, &rows), ops)?;
     if let Some(edited) = at_once {
-        return Ok(edited_behind(splices, edited)?);
+        return Ok(edited_after(splices, edited)?);
     }
     carry_each(alloc, text, rows, splices, ops)
 }

@@ -6,7 +6,7 @@ ghost use Rattle.yq_batch.specs.Together.{CarriesTogether, all_of};
 ghost use Rattle.yq_splice.specs.Others as runs;
 ghost use Rattle.yq_edit_laws.specs.Carried as spec;
 
-use crate::carrying::{carry, carry_all, cut_again, edited_behind};
+use crate::carrying::{carry, carry_all, cut_again, edited_after};
 use std::alloc::Global;
 use yq_batch::{Together, carry_together};
 use yq_lookup::CutText;
@@ -34,7 +34,7 @@ fn with_last(alloc: Global, together: Together<'_>) -> Result<Edited, ExprError>
     };
     let Edited { text, splices } = edited;
     let last = carry(alloc, text.as_str(), op)?;
-    Ok(edited_behind(splices, last)?)
+    Ok(edited_after(splices, last)?)
 }
 
 /// What operations that were carried out together give with the next one of those that are left.
@@ -50,7 +50,7 @@ fn with_next<'o>(alloc: Global, together: Together<'o>) -> Result<Together<'o>, 
     };
     let Edited { text, splices } = edited;
     let next = carry(alloc, text.as_str(), op)?;
-    let edited = edited_behind(splices, next)?;
+    let edited = edited_after(splices, next)?;
     Ok(Together {
         edited,
         left: after,
@@ -96,7 +96,7 @@ fn with_more<'o>(alloc: Global, together: Together<'o>) -> Result<Together<'o>, 
     let Together { edited: before, .. } = next;
     let Edited { splices, .. } = before;
     let Together { edited, left } = more;
-    let edited = edited_behind(splices, edited)?;
+    let edited = edited_after(splices, edited)?;
     Ok(Together { edited, left })
 }
 

@@ -7,7 +7,7 @@ ghost use Rattle.yq_edit_laws.{specs.Answers.Edits, specs.Edit.edit_after, specs
 ghost use Rattle.yq_splice.specs.Answers.{MayEdit};
 ghost use Rattle.yq_edit_laws.specs.Carried as spec;
 
-use crate::carrying::{carry_rows, edited_behind};
+use crate::carrying::{carry_rows, edited_after};
 use crate::others::{is_worth, with_others};
 use std::alloc::Global;
 use yq_batch::{Together, carry_under};
@@ -79,7 +79,7 @@ fn carry_on_rows(
 {
     let below = carry_below(alloc, &CutText::new(text, &rows), &plan)?;
     if let Some(edited) = below {
-        return Ok(edited_behind(splices, edited)?);
+        return Ok(edited_after(splices, edited)?);
     }
     let ops = whole_ops(alloc, plan)?;
     carry_rows(alloc, text, rows, splices, &ops)

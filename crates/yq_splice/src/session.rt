@@ -13,7 +13,7 @@ ghost use Rattle.yq_expr.specs.FixedPaths.{IfAny, IsSole, PlansAlone};
 ghost use Rattle.yq_splice.specs.Session.{GivesNew, HasPlaces, IsChangeBy, NotOpened, Scans, ScansNew};
 
 use crate::borrowed::{carry_in, change_in, plan_in};
-use crate::carrying::edited_behind;
+use crate::carrying::edited_after;
 use std::alloc::{AllocError, Global};
 use std::marker::Model;
 use std::mem;
@@ -227,6 +227,6 @@ impl Session {
         let halves = text.halves();
         let rows = places.rows(halves);
         let edited = carry_in(alloc, halves, &rows, known, op)?;
-        Ok(edited_behind(splices, edited)?)
+        Ok(edited_after(splices, edited)?)
     }
 }

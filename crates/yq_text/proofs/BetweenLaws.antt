@@ -2,8 +2,8 @@
 use Rattle.std.proofs.Common.{◌≡◌, ℕ, ◌+◌, Bool, true, false, cond, List, [], ◌∷◌, ◌++◌, length, nat_eq, refl, sym, ap, ◌∙◌, arith}
 use Rattle.std.{proofs.Common.{append_assoc, append-nil, length-append, rules}, proofs.lemmas.Bool.false≢true}
 use Rattle.yq_text.specs.Splice.{Splice}
-use Rattle.yq_text.specs.Script.{Segment, keep, put, old_text, new_text, put_before, merged, splice_at, splices_at, changes_behind}
-use Rattle.yq_text.{specs.Script.{are_kept, kept_front, kept_back, from_first, to_last}, proofs.TouchLaws.put_twice}
+use Rattle.yq_text.specs.Script.{Segment, keep, put, old_text, new_text, put_before, merged, splice_at, splices_at, changes_after, are_kept}
+use Rattle.yq_text.{specs.Script.{kept_front, kept_back, from_first, to_last}, proofs.TouchLaws.put_twice}
 use Rattle.yq_text.proofs.KeptSegments.{last_kept, new_kept, one_kept}
 
 -- ---- the last one that is replaced
@@ -58,22 +58,22 @@ run n o w (keep [] ∷ ss) = run n o w ss
 run n o w (keep (b ∷ t) ∷ ss) = splice_at n o w ++ run (n + length w + length (b ∷ t)) [] [] ss
 run n o w (put p x ∷ ss) = run n (o ++ p) (w ++ x) ss
 
-pub behind_nothing : (n : ℕ) (ss : List Segment) → splices_at n (put_before [] [] ss) ≡ splices_at n ss
-behind_nothing n ss = search rules
+pub after_nothing : (n : ℕ) (ss : List Segment) → splices_at n (put_before [] [] ss) ≡ splices_at n ss
+after_nothing n ss = search rules
 
 -- what is kept ends the exchange in front of it
 pub loop_kept : (done more whole : List Splice) (n m : ℕ) (o w t : List ℕ) (rest : List Segment) → nat_eq (length t) 0 ≡ false → done ++ splices_at n (put_before o w (merged (keep t ∷ rest))) ≡ whole →
     more ≡ done ++ splice_at n o w → m ≡ n + length w + length t → more ++ splices_at m (put_before [] [] (merged rest)) ≡ whole
-loop_kept done more whole n m o w t rest h1 h2 h3 h4 = search (rules, false≢true, behind_nothing, append_assoc, length-append)
+loop_kept done more whole n m o w t rest h1 h2 h3 h4 = search (rules, false≢true, after_nothing, append_assoc, length-append)
 
 run_is : (n : ℕ) (o w : List ℕ) (ss : List Segment) → splices_at n (put_before o w (merged ss)) ≡ run n o w ss
 run_is n o w [] = append-nil (splice_at n o w)
 run_is n o w (keep [] ∷ ss) = run_is n o w ss
-run_is n o w (keep (b ∷ t) ∷ ss) = search (rules, length-append, behind_nothing, run_is (n + length w + length (b ∷ t)) [] [] ss)
+run_is n o w (keep (b ∷ t) ∷ ss) = search (rules, length-append, after_nothing, run_is (n + length w + length (b ∷ t)) [] [] ss)
 run_is n o w (put p x ∷ ss) = ap (splices_at n) (put_twice o w p x (merged ss)) ∙ run_is n (o ++ p) (w ++ x) ss
 
-run_of : (n : ℕ) (ss : List Segment) → changes_behind n ss ≡ run n [] [] ss
-run_of n ss = sym (behind_nothing n (merged ss)) ∙ run_is n [] [] ss
+run_of : (n : ℕ) (ss : List Segment) → changes_after n ss ≡ run n [] [] ss
+run_of n ss = sym (after_nothing n (merged ss)) ∙ run_is n [] [] ss
 
 run_kept : (n : ℕ) (o w : List ℕ) (ss : List Segment) → are_kept ss ≡ true → run n o w ss ≡ splice_at n o w
 run_kept n o w [] e = refl
@@ -92,10 +92,10 @@ run_last n o w (keep t ∷ ss) = go (are_kept ss) refl (λ k p x. run_last k p x
     go b h1 h2 = search (rules, run_kept, one)
 run_last n o w (put p x ∷ ss) = run_last n (o ++ p) (w ++ x) ss
 
-pub changes_last : (n : ℕ) (ss : List Segment) → changes_behind n (to_last ss) ≡ changes_behind n ss
+pub changes_last : (n : ℕ) (ss : List Segment) → changes_after n (to_last ss) ≡ changes_after n ss
 changes_last n ss = run_of n (to_last ss) ∙ (run_last n [] [] ss ∙ sym (run_of n ss))
 
-pub changes_first : (n : ℕ) (ss : List Segment) → changes_behind (n + length (kept_front ss)) (from_first ss) ≡ changes_behind n ss
+pub changes_first : (n : ℕ) (ss : List Segment) → changes_after (n + length (kept_front ss)) (from_first ss) ≡ changes_after n ss
 changes_first n [] = refl
 changes_first n (keep t ∷ ss) = search (rules, length-append, changes_first (n + length t) ss)
-changes_first n (put o w ∷ ss) = ap (λ k. changes_behind k (put o w ∷ ss)) (omega arith)
+changes_first n (put o w ∷ ss) = ap (λ k. changes_after k (put o w ∷ ss)) (omega arith)

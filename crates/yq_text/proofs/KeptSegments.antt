@@ -21,24 +21,24 @@ new_kept (put o w ∷ ss) e = absurd (false≢true e)
 -- ---- the texts of segments
 
 -- What is kept after ends the texts of segments.
-pub record IsBehind (ss : List Segment) : Type 0 where
+pub record IsAfter (ss : List Segment) : Type 0 where
   pub old : List ℕ
   pub new : List ℕ
   pub old_is : old_text ss ≡ old ++ kept_back ss
   pub new_is : new_text ss ≡ new ++ kept_back ss
 
-one_behind : (t own all : List ℕ) (ss : List Segment) → are_kept ss ≡ false → all ≡ own ++ kept_back ss → t ++ all ≡ (t ++ own) ++ kept_back (keep t ∷ ss)
-one_behind t own all ss e is = ap (λ u. t ++ u) is ∙ (sym (append_assoc t own (kept_back ss)) ∙ ap (λ u. (t ++ own) ++ u) (sym (one_kept t ss false e)))
+one_after : (t own all : List ℕ) (ss : List Segment) → are_kept ss ≡ false → all ≡ own ++ kept_back ss → t ++ all ≡ (t ++ own) ++ kept_back (keep t ∷ ss)
+one_after t own all ss e is = ap (λ u. t ++ u) is ∙ (sym (append_assoc t own (kept_back ss)) ∙ ap (λ u. (t ++ own) ++ u) (sym (one_kept t ss false e)))
 
-pub behind : (ss : List Segment) → IsBehind ss
-behind [] = record { old = []; new = []; old_is = refl; new_is = refl }
-behind (keep t ∷ ss) = go (behind ss) (are_kept ss) refl
+pub after : (ss : List Segment) → IsAfter ss
+after [] = record { old = []; new = []; old_is = refl; new_is = refl }
+after (keep t ∷ ss) = go (after ss) (are_kept ss) refl
   where
-    go : IsBehind ss → (b : Bool) → are_kept ss ≡ b → IsBehind (keep t ∷ ss)
+    go : IsAfter ss → (b : Bool) → are_kept ss ≡ b → IsAfter (keep t ∷ ss)
     go h true e = record { old = []; new = []; old_is = old_kept (keep t ∷ ss) e; new_is = new_kept (keep t ∷ ss) e }
-    go h false e = record { old = t ++ h.old; new = t ++ h.new; old_is = one_behind t h.old _ ss e h.old_is; new_is = one_behind t h.new _ ss e h.new_is }
-behind (put o w ∷ ss) =
-    let h = behind ss in
+    go h false e = record { old = t ++ h.old; new = t ++ h.new; old_is = one_after t h.old _ ss e h.old_is; new_is = one_after t h.new _ ss e h.new_is }
+after (put o w ∷ ss) =
+    let h = after ss in
     record {
       old = o ++ h.old;
       new = w ++ h.new;
@@ -47,7 +47,7 @@ behind (put o w ∷ ss) =
     }
 
 pub back_within : (ss : List Segment) → length (kept_back ss) ≤ length (old_text ss)
-back_within ss = let h = behind ss in omega (arith, ap length h.old_is, length-append h.old (kept_back ss))
+back_within ss = let h = after ss in omega (arith, ap length h.old_is, length-append h.old (kept_back ss))
 
 -- The texts of segments of which one is replaced are between what is kept in front and what is kept after.
 pub record IsBetween (ss : List Segment) : Type 0 where
@@ -62,7 +62,7 @@ one_between t front own all ss e is = search (rules, append_assoc, one_kept)
 pub between : (ss : List Segment) → are_kept ss ≡ false → IsBetween ss
 between [] e = absurd (false≢true (sym e))
 between (keep t ∷ ss) e = let h = between ss e in record { old = h.old; new = h.new; old_is = one_between t (kept_front ss) h.old _ ss e h.old_is; new_is = one_between t (kept_front ss) h.new _ ss e h.new_is }
-between (put o w ∷ ss) e = let h = behind (put o w ∷ ss) in record { old = h.old; new = h.new; old_is = h.old_is; new_is = h.new_is }
+between (put o w ∷ ss) e = let h = after (put o w ∷ ss) in record { old = h.old; new = h.new; old_is = h.old_is; new_is = h.new_is }
 
 -- ---- segments between a kept one in front and one after
 

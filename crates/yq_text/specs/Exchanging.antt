@@ -1,7 +1,7 @@
 -- What the exchange of segments of a text comes to, and what an answer says of that.
 use Rattle.std.specs.Prelude.{◌≡◌, ℕ, List, length, nat_le, if◌then◌else◌, Option, Some, None, Result, Ok, Err, string_bytes}
 use Rattle.std.specs.declared.alloc.AllocError.{AllocError}
-use Rattle.yq_text.{specs.Limit.text_limit, specs.Splice.Splice, specs.Script.{Segment, new_text, changes, changes_behind}}
+use Rattle.yq_text.{specs.Limit.text_limit, specs.Splice.Splice, specs.Script.{Segment, new_text, changes, changes_after}}
 use Rattle.yq_text.specs.declared.edited.Edited.{Edited}
 
 -- What an exchange comes to: it gives a new text by these changes, or that would be too large (own).
@@ -19,7 +19,7 @@ exchange_of ss = if nat_le (length (new_text ss)) text_limit then gives (new_tex
 
 -- these are the new text of segments and its splices, after so many bytes that stay (own)
 abbrev pub IsBuilt : ℕ → List Segment → Edited → Type 0
-IsBuilt front ss e = gives (new_text ss) (changes_behind front ss) ≡ gives (string_bytes e.text) e.splices.items
+IsBuilt front ss e = gives (new_text ss) (changes_after front ss) ≡ gives (string_bytes e.text) e.splices.items
 
 -- the answer is what the exchange comes to; want of memory says nothing (own)
 abbrev pub Exchanged : Result (Option Edited) AllocError → Exchange → Type 0

@@ -22,7 +22,7 @@ new_text (put o w ∷ ss) = w ++ new_text ss
 
 -- the text before what is at its end (own)
 abbrev pub script_text_before : List ℕ → List ℕ → List ℕ
-script_text_before t behind = take (length t - length behind) t
+script_text_before t after = take (length t - length after) t
 
 -- a kept segment before others; no bytes are no segment (own)
 abbrev pub keep_before : List ℕ → List Segment → List Segment
@@ -54,12 +54,12 @@ splices_at n (keep t ∷ ss) = splices_at (n + length t) ss
 splices_at n (put o w ∷ ss) = splice_at n o w ++ splices_at (n + length w) ss
 
 -- the splices of segments that come after n bytes of a text (own)
-abbrev pub changes_behind : ℕ → List Segment → List Splice
-changes_behind n ss = splices_at n (merged ss)
+abbrev pub changes_after : ℕ → List Segment → List Splice
+changes_after n ss = splices_at n (merged ss)
 
 -- the splices of an edit (own)
 unfoldable pub changes : List Segment → List Splice
-changes ss = changes_behind 0 ss
+changes ss = changes_after 0 ss
 
 -- the segments with each exchange turned round (own)
 abbrev pub swapped_segments : List Segment → List Segment

@@ -40,7 +40,7 @@ pub(crate) fn new_len(segments: &[Segment<'_>]) -> Option<usize>
 }
 
 /// The new text of segments, which is about that long, and their splices after so many bytes.
-#[tactic(auto, using(crate::proofs::BetweenLaws::behind_nothing, crate::proofs::BetweenLaws::loop_kept))]
+#[tactic(auto, using(crate::proofs::BetweenLaws::after_nothing, crate::proofs::BetweenLaws::loop_kept))]
 pub(crate) fn build(
     alloc: Global,
     segments: &[Segment<'_>],

@@ -53,13 +53,13 @@ impl<'t> Halves<'t> {
                 },
             );
         }
-        let (rest, behind) = self.back.split_at(at - self.front.len());
+        let (rest, after) = self.back.split_at(at - self.front.len());
         (
             Halves {
                 front: self.front,
                 back: rest,
             },
-            Halves::of(behind),
+            Halves::of(after),
         )
     }
 }

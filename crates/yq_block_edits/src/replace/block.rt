@@ -1,7 +1,7 @@
 //! A value in the place of a block scalar.
 ghost use Rattle.std.specs.Prelude.{◌≡◌, true};
 ghost use Rattle.yq_core.specs.Writable.{is_string};
-ghost use Rattle.yq_places.specs.StandingViews.{held_view};
+ghost use Rattle.yq_places.specs.PlacementViews.{held_view};
 ghost use Rattle.yq_block_edits.specs.SegmentsPut.{IsExchange, literal_held, string_held, value_held, lines_held, block_held};
 ghost use Rattle.yq_edit_rules.specs.ReplaceEdits as spec;
 
@@ -47,7 +47,7 @@ fn literal_put<'t>(
         Segment::Keep(Halves::of(line_break)),
         Segment::Put(held.lines, String::new(alloc)),
         Segment::Put(Halves::of(last), raw),
-        Segment::Keep(held.behind),
+        Segment::Keep(held.after),
     ]?;
     Ok(Segments::new(segments))
 }
@@ -72,7 +72,7 @@ fn lines_put<'t>(
         Segment::Keep(Halves::of(line_break)),
         Segment::Put(held.lines, String::new(alloc)),
         Segment::Put(Halves::of(last), raw),
-        Segment::Keep(held.behind),
+        Segment::Keep(held.after),
     ]?;
     Ok(Segments::new(segments))
 }

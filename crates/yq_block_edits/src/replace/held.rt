@@ -9,7 +9,7 @@ use crate::pieces::replace_lines;
 use std::alloc::{AllocError, Global};
 use yq_core::{Place, Value};
 use yq_edit_rules::{
-    Layout, behind_space, break_and_lines, compact_text, is_filled, takes_compact, value_text,
+    Layout, after_a_space, break_and_lines, compact_text, is_filled, takes_compact, value_text,
 };
 use yq_places::{EntryMark, Held, LinesIn};
 use yq_text::{Halves, Segment, Segments};
@@ -32,7 +32,7 @@ pub(crate) fn put_inline<'t>(
         Segment::Put(Halves::of(held.line_break), String::new(alloc)),
         Segment::Put(held.lines, String::new(alloc)),
         Segment::Keep(Halves::of(held.last)),
-        Segment::Keep(held.behind),
+        Segment::Keep(held.after),
     ]?;
     Ok(Segments::new(segments))
 }
@@ -71,7 +71,7 @@ pub(crate) fn put_filled<'t>(
         Segment::Put(Halves::of(held.line_break), String::new(alloc)),
         Segment::Put(held.lines, lines),
         Segment::Keep(Halves::of(held.last)),
-        Segment::Keep(held.behind),
+        Segment::Keep(held.after),
     ]?;
     Ok(Segments::new(segments))
 }
@@ -133,7 +133,7 @@ pub(crate) fn compact_put<'t>(
 {
     let text = if !is_filled(value) {
         let text = value_text(alloc, Place::Block, b"", value)?;
-        behind_space(alloc, &text)?
+        after_a_space(alloc, &text)?
     } else if takes_compact(mark) {
         compact_text(alloc, layout, mark, value)?
     } else {

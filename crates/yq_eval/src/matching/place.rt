@@ -48,7 +48,7 @@ pub struct FoundPlace<'a, 't> {
 
 impl<'a> Missing<'a> {
     /// One step more than these.
-    fn behind(front: &'a Missing<'a>, step: &'a PathStep) -> Missing<'a>
+    fn after(front: &'a Missing<'a>, step: &'a PathStep) -> Missing<'a>
         ensures { missing_of result ≡ missing_of front.now ++ program_step step.now ∷ [] }
     {
         Missing::Further(front, step)
@@ -110,7 +110,7 @@ impl<'a, 't> FoundPlace<'a, 't> {
         FoundPlace {
             path: self.path,
             node: self.node,
-            missing: Missing::behind(front, step),
+            missing: Missing::after(front, step),
         }
     }
 

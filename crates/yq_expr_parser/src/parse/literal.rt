@@ -108,11 +108,11 @@ fn list(alloc: Global, text: &str, depth: usize) -> Result<(Vec<Value>, &str), P
     }
     let mut rest = text;
     'items: loop {
-        let (item, behind) = literal(alloc, rest, depth)?;
+        let (item, following) = literal(alloc, rest, depth)?;
         found.push(item)?;
-        match after(behind, ",") {
+        match after(following, ",") {
             Some(next) => rest = next,
-            None => return closed(found, behind, "]", Expected::Mark(']')),
+            None => return closed(found, following, "]", Expected::Mark(']')),
         }
     }
 }
@@ -133,11 +133,11 @@ fn mapping(
     }
     let mut rest = text;
     'fields: loop {
-        let (field, behind) = field(alloc, rest, depth)?;
+        let (field, following) = field(alloc, rest, depth)?;
         found.push(field)?;
-        match after(behind, ",") {
+        match after(following, ",") {
             Some(next) => rest = next,
-            None => return closed(found, behind, "}", Expected::Mark('}')),
+            None => return closed(found, following, "}", Expected::Mark('}')),
         }
     }
 }

@@ -63,9 +63,9 @@ fn steps(alloc: Global, text: &str) -> Result<(Vec<PathStep>, &str), ParseError>
     let mut rest = text;
     'steps: loop {
         match next_step(alloc, rest)? {
-            Some((step, behind)) => {
+            Some((step, after)) => {
                 steps.push(step)?;
-                rest = behind;
+                rest = after;
             }
             None => return Ok((steps, rest)),
         }

@@ -88,11 +88,11 @@ pub(super) fn pipe(alloc: Global, text: &str) -> Result<(Vec<Stage>, &str), Pars
     let mut found = Vec::new(alloc);
     let mut rest = text;
     'stages: loop {
-        let (stage, behind) = stage(alloc, rest)?;
+        let (stage, following) = stage(alloc, rest)?;
         found.push(stage)?;
-        match after(behind, "|") {
+        match after(following, "|") {
             Some(next) => rest = next,
-            None => return Ok((found, behind)),
+            None => return Ok((found, following)),
         }
     }
 }

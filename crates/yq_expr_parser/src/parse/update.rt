@@ -51,11 +51,11 @@ fn right(alloc: Global, text: &str) -> Result<(Vec<Term>, &str), ParseError>
     let mut found = Vec::new(alloc);
     let mut rest = text;
     'terms: loop {
-        let (term, behind) = term(alloc, rest)?;
+        let (term, following) = term(alloc, rest)?;
         found.push(term)?;
-        match after(behind, "+") {
+        match after(following, "+") {
             Some(next) => rest = next,
-            None => return Ok((found, behind)),
+            None => return Ok((found, following)),
         }
     }
 }
@@ -133,11 +133,11 @@ pub(super) fn updates(alloc: Global, text: &str) -> Result<(Vec<Update>, &str), 
     let mut found = Vec::new(alloc);
     let mut rest = text;
     'updates: loop {
-        let (update, behind) = update(alloc, rest)?;
+        let (update, following) = update(alloc, rest)?;
         found.push(update)?;
-        match after(behind, "|") {
+        match after(following, "|") {
             Some(next) => rest = next,
-            None => return Ok((found, behind)),
+            None => return Ok((found, following)),
         }
     }
 }

@@ -101,9 +101,9 @@ pub(super) fn content(alloc: Global, text: &str) -> Result<String, AllocError>
         let (run, end) = split_plain(rest);
         out.push_str(run)?;
         match split_escape(end) {
-            Some((character, behind)) => {
+            Some((character, after)) => {
                 out.push_str(character)?;
-                rest = behind;
+                rest = after;
             }
             None => return Ok(out),
         }

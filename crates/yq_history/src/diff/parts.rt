@@ -22,7 +22,7 @@ fn push_skipped<'a>(parts: &mut Vec<Part<'a>>, text: &'a str) -> Result<(), Allo
 }
 
 /// The lines that are shown after a change, if there is one, and the lines that follow them.
-fn split_behind<'a>(is_first: bool, text: &'a str) -> (&'a str, &'a str)
+fn split_after<'a>(is_first: bool, text: &'a str) -> (&'a str, &'a str)
     ensures { text_lines text.now ≡ text_lines result.0.now ++ text_lines result.1.now }
 {
     if is_first {
@@ -37,7 +37,7 @@ fn push_before<'a>(parts: &mut Vec<Part<'a>>, text: &'a str) -> Result<(), Alloc
     ensures old { AddsOldLines result parts.old.items parts.new.items (text_lines text.now) }
     ensures new { AddsNewLines result parts.old.items parts.new.items (text_lines text.now) }
 {
-    let (context, rest) = split_behind(parts.is_empty(), text);
+    let (context, rest) = split_after(parts.is_empty(), text);
     let (skipped, before) = split_skipped(rest);
     parts.push(Part::Unchanged(context))?;
     push_skipped(parts, skipped)?;
@@ -46,7 +46,7 @@ fn push_before<'a>(parts: &mut Vec<Part<'a>>, text: &'a str) -> Result<(), Alloc
 }
 
 /// Adds the lines that are in both texts after the last change.
-fn push_behind<'a>(parts: &mut Vec<Part<'a>>, text: &'a str) -> Result<(), AllocError>
+fn push_following<'a>(parts: &mut Vec<Part<'a>>, text: &'a str) -> Result<(), AllocError>
     ensures old { AddsOldLines result parts.old.items parts.new.items (text_lines text.now) }
     ensures new { AddsNewLines result parts.old.items parts.new.items (text_lines text.now) }
 {
@@ -75,7 +75,7 @@ fn push_rest<'a>(parts: &mut Vec<Part<'a>>, old: &'a str, new: &'a str) -> Resul
     ensures new { AddsNewLines result parts.old.items parts.new.items (text_lines new.now) }
 {
     if old == new {
-        push_behind(parts, old)
+        push_following(parts, old)
     } else {
         push_change(parts, old, new)
     }

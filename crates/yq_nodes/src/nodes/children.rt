@@ -11,7 +11,7 @@ use crate::nodes::node::Node;
 use crate::nodes::under::Under;
 use yq_core::{BorrowedNode, Form, Inline, Piece};
 use yq_inline::{BorrowedForm, BorrowedParts, form_of};
-use yq_row_walk::behind;
+use yq_row_walk::position_after;
 
 /// What is left of the items or entries of a node.
 #[derive(Clone, Copy)]
@@ -85,8 +85,8 @@ impl<'d, 't> Node<'d, 't> {
 }
 
 /// The lines after the first of these and those under it, if there are any.
-pub(crate) fn behind_first<'d, 't>(under: Under<'d, 't>) -> Option<Under<'d, 't>>
-    ensures behind { spec.PassesFirst under.entry result }
+pub(crate) fn after_first<'d, 't>(under: Under<'d, 't>) -> Option<Under<'d, 't>>
+    ensures after { spec.PassesFirst under.entry result }
     ensures fewer { IfSome result (λ u. spec.lines_left u < spec.lines_left under.entry) }
     ensures later { IfSome result (λ u. under.entry.first.row < u.first.row) }
 {
@@ -97,7 +97,7 @@ pub(crate) fn behind_first<'d, 't>(under: Under<'d, 't>) -> Option<Under<'d, 't>
     Some(Under {
         text: under.text,
         document: under.document,
-        first: behind(rows, document, under.first),
+        first: position_after(rows, document, under.first),
         floor: under.floor,
     })
 }
@@ -113,7 +113,7 @@ impl<'d, 't> Iterator for Children<'d, 't> {
         match self.rest {
             Rest::Nothing => None,
             Rest::Lines(under) => {
-                let Some(others) = behind_first(under) else {
+                let Some(others) = after_first(under) else {
                     return None;
                 };
                 self.rest = Rest::Lines(others);

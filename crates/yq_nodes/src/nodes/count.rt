@@ -5,7 +5,7 @@ ghost use Rattle.yq_inline.specs.BorrowedParts.{parts_view};
 ghost use Rattle.yq_nodes.{specs.Children.{lines_rest, rest_of}, specs.Nodes.node_of};
 ghost use Rattle.yq_outline.specs.Counts as spec;
 
-use crate::nodes::children::{Rest, behind_first};
+use crate::nodes::children::{Rest, after_first};
 use crate::nodes::node::Node;
 use crate::nodes::under::Under;
 use yq_inline::BorrowedParts;
@@ -16,8 +16,8 @@ fn count_lines(under: Under<'_, '_>) -> usize
 {
     let mut rest = under;
     let mut count = 0;
-    'lines: while let Some(behind) = behind_first(rest) {
-        rest = behind;
+    'lines: while let Some(after) = after_first(rest) {
+        rest = after;
         count += 1;
     }
     count

@@ -8,7 +8,7 @@ ghost use Rattle.yq_documents.specs.Pieces.{span};
 ghost use Rattle.yq_places.specs.EntryReading as spec;
 
 use crate::places::entry_place::lines_place;
-use crate::places::known_end::behind_all;
+use crate::places::known_end::after_all;
 use crate::places::node_place::{NodePlace, node_place};
 use crate::places::row_place::head_extent;
 use yq_core::Step;
@@ -29,7 +29,7 @@ fn lines_content(walk: &Walk<'_, '_>, from: Position, floor: usize) -> Option<Sp
     if is_bare(walk.rows, walk.document, from) {
         return Some(head_extent(walk.rows, from.row));
     }
-    let to = behind_all(walk, from, floor);
+    let to = after_all(walk, from, floor);
     Some(lines_place(walk, from, to))
 }
 

@@ -11,7 +11,7 @@ use crate::places::row_place::{line_start, row_end};
 use yq_core::Step;
 use yq_documents::Span;
 use yq_outline::Position;
-use yq_row_walk::{Walk, behind, line_at};
+use yq_row_walk::{Walk, line_at, position_after};
 
 /// The place from the beginning of a line of a document to the end of the last row before another one.
 pub fn lines_place(walk: &Walk<'_, '_>, from: Position, to: Position) -> Span
@@ -34,6 +34,6 @@ pub fn entry_of(walk: &Walk<'_, '_>, steps: &[Step]) -> Option<Span>
         spec.line_entry_of first c rs (map tree_step steps.now)) }
 {
     let at = line_at(walk, steps)?;
-    let to = behind(walk.rows, walk.document, at);
+    let to = position_after(walk.rows, walk.document, at);
     Some(lines_place(walk, at, to))
 }

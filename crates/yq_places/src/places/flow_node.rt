@@ -20,7 +20,7 @@ pub struct FlowHead<'s, 't> {
 
 /// The flow collection to which steps lead in a node.
 pub fn collection_along<'d, 't>(node: &'d Inline<'t>, steps: &[Step]) -> Option<&'d Inline<'t>>
-    ensures { option_map (λ n. spec.behind_anchor (inline_view n.now)) result ≡
+    ensures { option_map (λ n. spec.following_anchor (inline_view n.now)) result ≡
         spec.collection_along (map tree_step steps.now) (inline_view node.now) }
 {
     let entry = node.entry(steps)?;

@@ -4,10 +4,10 @@ ghost use Rattle.yq_text.{specs.Halves.whole, specs.Limit.text_limit};
 ghost use Rattle.yq_core.specs.Text.{is_empty};
 ghost use Rattle.yq_row_table.specs.View.{row_view};
 ghost use Rattle.yq_outline.specs.RowWalk.{line_column};
-ghost use Rattle.yq_places.specs.StandingReading.{HasEntry, IsEntryIn};
+ghost use Rattle.yq_places.specs.PlacementReading.{HasEntry, IsEntryIn};
 ghost use Rattle.yq_places.specs.RowPieces as pieces;
-ghost use Rattle.yq_places.specs.Standings as spec;
-ghost use Rattle.yq_places.specs.StandingViews as row_agrees;
+ghost use Rattle.yq_places.specs.Placements as spec;
+ghost use Rattle.yq_places.specs.PlacementViews as row_agrees;
 
 use crate::places::halves::is_text;
 use crate::places::lines_cut::{either, line_end, lines_from};
@@ -50,7 +50,7 @@ pub struct Held<'t> {
     /// The break that ends it all: of the last line under it, or of its own line.
     pub last: &'t str,
     /// The text after.
-    pub behind: Halves<'t>,
+    pub after: Halves<'t>,
 }
 
 /// The key or dash of a line of a row that ends with a comment, or with none.
@@ -111,6 +111,6 @@ pub fn held_in<'t>(rows: &Rows<'t>, text: Halves<'t>, at: RowsOfEntry) -> Held<'
         line_break: either(none, "", line_break),
         lines: lower.lines,
         last: either(none, line_break, lower.last),
-        behind: lower.behind,
+        after: lower.after,
     }
 }

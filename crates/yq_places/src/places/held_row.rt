@@ -4,7 +4,7 @@ ghost use Rattle.yq_core.specs.Text.{is_empty};
 ghost use Rattle.yq_row_table.{specs.Rows.{Cut, Row as RowOf}, specs.View.{rows_of, rows_view}};
 ghost use Rattle.yq_documents.specs.RowReading.{is_block_head};
 ghost use Rattle.yq_outline.specs.Extents.{IsRowsView};
-ghost use Rattle.yq_places.specs.StandingViews as row_agrees;
+ghost use Rattle.yq_places.specs.PlacementViews as row_agrees;
 
 use yq_documents::is_block_head;
 use yq_outline::Position;

@@ -10,7 +10,7 @@ use yq_row_walk::item_before;
 
 /// Whether the row of an item that is known begins in front of so many bytes.
 #[inline(always)]
-fn is_in_front(rows: &Rows<'_>, known: KnownItem, front: usize) -> bool
+fn is_before_offset(rows: &Rows<'_>, known: KnownItem, front: usize) -> bool
     requires known { IsKnown rows.now.rows known }
     requires rows_view { IsRowsView rows.now }
     ensures { IsTrue result → (c : Cut) → rows.now ≡ rows_view c → StaysKnown front c known }
@@ -19,7 +19,7 @@ fn is_in_front(rows: &Rows<'_>, known: KnownItem, front: usize) -> bool
 }
 
 /// The item before one that is known, if there is one and its row begins in front of so many bytes.
-fn before_in_front(rows: &Rows<'_>, known: KnownItem, front: usize) -> Option<KnownItem>
+fn before_and_known(rows: &Rows<'_>, known: KnownItem, front: usize) -> Option<KnownItem>
     requires known { IsKnown rows.now.rows known }
     requires rows_view { IsRowsView rows.now }
     ensures { IfSome result (λ k. (c : Cut) → rows.now ≡ rows_view c → StaysKnown front c k) }
@@ -28,7 +28,7 @@ fn before_in_front(rows: &Rows<'_>, known: KnownItem, front: usize) -> Option<Kn
         return None;
     }
     let before = item_before(rows, known)?;
-    if is_in_front(rows, before, front) {
+    if is_before_offset(rows, before, front) {
         Some(before)
     } else {
         None
@@ -37,7 +37,7 @@ fn before_in_front(rows: &Rows<'_>, known: KnownItem, front: usize) -> Option<Kn
 
 /// How many of the first items that are known have rows that begin in front of so many bytes.
 #[inline(always)]
-fn count_in_front(rows: &Rows<'_>, known: &[KnownItem], front: usize) -> usize
+fn count_before_offset(rows: &Rows<'_>, known: &[KnownItem], front: usize) -> usize
     requires known { AreKnown rows.now.rows known.now }
     requires rows_view { IsRowsView rows.now }
     ensures within { result ≤ length known.now }
@@ -45,7 +45,7 @@ fn count_in_front(rows: &Rows<'_>, known: &[KnownItem], front: usize) -> usize
 {
     let mut count = 0;
     'items: while count < known.len() {
-        if !is_in_front(rows, known[count], front) {
+        if !is_before_offset(rows, known[count], front) {
             return count;
         }
         count += 1;
@@ -56,16 +56,16 @@ fn count_in_front(rows: &Rows<'_>, known: &[KnownItem], front: usize) -> usize
 /// Leaves of the items that are known the first ones whose rows begin in front of so many bytes, and in the
 /// place of the next one the item before it, if that does.
 #[inline(always)]
-pub fn keep_in_front(rows: &Rows<'_>, known: &mut Vec<KnownItem>, front: usize)
+pub fn keep_before_offset(rows: &Rows<'_>, known: &mut Vec<KnownItem>, front: usize)
     requires known { AreKnown rows.now.rows known.old.items }
     requires rows_view { IsRowsView rows.now }
     ensures { (c : Cut) → rows.now ≡ rows_view c → StayKnown front c known.new.items }
 {
-    let count = count_in_front(rows, known.as_slice(), front);
+    let count = count_before_offset(rows, known.as_slice(), front);
     if count == known.len() {
         return;
     }
-    let before = before_in_front(rows, known[count], front);
+    let before = before_and_known(rows, known[count], front);
     known.truncate(count);
     if let Some(item) = before {
         let _ = known.push(item);

@@ -29,7 +29,7 @@ fn row_after(walk: &Walk<'_, '_>, at: Position, first: Position, floor: usize) -
 }
 
 /// What is after the lines from one on that are deeper than a level, of which that is one.
-pub fn behind_all(walk: &Walk<'_, '_>, from: Position, floor: usize) -> Position
+pub fn after_all(walk: &Walk<'_, '_>, from: Position, floor: usize) -> Position
     requires walk { IsWalk walk.now }
     requires from { IsWalkLine walk.now from }
     requires deeper { OfLine walk.now.rows.now walk.now.document from (λ l. floor < level l) }
@@ -46,7 +46,7 @@ pub fn behind_all(walk: &Walk<'_, '_>, from: Position, floor: usize) -> Position
 
 /// The line after one of a row, of whose lines so many come before the last one.
 #[inline(always)]
-fn line_behind(document: Stretch, at: Position, last: usize) -> Position
+fn line_after(document: Stretch, at: Position, last: usize) -> Position
     requires { at.row < document.end }
     ensures { (result.row ≡ at.row) ⊎ ((result.row ≡ at.row + 1) × (result.line ≡ 0)) }
 {
@@ -67,12 +67,12 @@ fn line_behind(document: Stretch, at: Position, last: usize) -> Position
 /// The row after those of a line of a level, in whose row so many come before the last one, and of the
 /// lines under it.
 #[inline(always)]
-pub fn row_behind(walk: &Walk<'_, '_>, at: Position, last: usize, floor: usize) -> usize
+pub fn following_row(walk: &Walk<'_, '_>, at: Position, last: usize, floor: usize) -> usize
     requires walk { IsWalk walk.now }
     requires at { IsWalkLine walk.now at }
     ensures { result ≡ walk_end walk.now floor (at.row + 1) }
 {
-    let first = line_behind(walk.document, at, last);
+    let first = line_after(walk.document, at, last);
     row_after(walk, at, first, floor)
 }
 

@@ -1,7 +1,7 @@
 //! Lines above rows, where head comments are or would be.
 ghost use Rattle.std.specs.Prelude.{◌≡◌};
 ghost use Rattle.yq_text.specs.Halves.{whole};
-ghost use Rattle.yq_places.{specs.LineReading.GapStands, specs.StandingViews.piece_view};
+ghost use Rattle.yq_places.{specs.LineReading.GapIsThere, specs.PlacementViews.piece_view};
 ghost use Rattle.yq_places.specs.CommentPlaces as spec;
 
 use crate::places::piece::TextPiece;
@@ -10,17 +10,17 @@ use yq_text::Halves;
 
 /// The run of comment lines, if there is one, that ends the gap from a place on, with its breaks.
 pub fn above<'d>(text: Halves<'d>, start: usize, gap: &'d str) -> TextPiece<'d>
-    requires gap { GapStands (whole text) start gap.now }
-    ensures { (h : GapStands (whole text.entry) start gap.now) →
+    requires gap { GapIsThere (whole text) start gap.now }
+    ensures { (h : GapIsThere (whole text.entry) start gap.now) →
         piece_view result ≡ spec.gap_above h.before gap.now h.rest }
 {
     let run = last_run(gap);
     let end = start + gap.len();
-    let (front, behind) = text.split_at(end);
+    let (front, after) = text.split_at(end);
     let (before, _) = front.split_at(end - run.len());
     TextPiece {
         before,
         text: run,
-        behind,
+        after,
     }
 }

@@ -2,7 +2,8 @@
 ghost use Rattle.std.specs.Prelude.{[], ◌≡◌, ◌++◌, if◌then◌else◌};
 ghost use Rattle.yq_text.specs.Halves.{whole};
 ghost use Rattle.yq_core.specs.Text.{is_empty};
-ghost use Rattle.yq_places.{specs.CommentPlaces.end_in_line, specs.StandingReading.{EndsRows, rows_lines}, specs.StandingViews.lines_view};
+ghost use Rattle.yq_places.{specs.CommentPlaces.end_in_line, specs.PlacementReading.{EndsRows, rows_lines}};
+ghost use Rattle.yq_places.specs.PlacementViews.{lines_view};
 ghost use Rattle.yq_places.specs.LineReading as reading;
 
 use crate::places::halves::{is_text, split_break};
@@ -20,7 +21,7 @@ pub struct LinesIn<'t> {
     pub lines: Halves<'t>,
     /// The break of the last one.
     pub last: &'t str,
-    pub behind: Halves<'t>,
+    pub after: Halves<'t>,
 }
 
 impl LinesIn<'_> {
@@ -50,13 +51,13 @@ fn cut_lines<'t>(text: Halves<'t>, from: usize, stop: usize) -> LinesIn<'t>
     ensures { (h : reading.CutsLines (whole text.entry) from stop) →
         lines_view result ≡ reading.line_list h }
 {
-    let (before, own, behind) = cut_at(text, from, stop);
+    let (before, own, after) = cut_at(text, from, stop);
     let (lines, last) = split_break(own);
     LinesIn {
         before,
         lines,
         last: last_break(last),
-        behind,
+        after,
     }
 }
 
@@ -75,7 +76,7 @@ pub fn lines_from<'t>(rows: &Rows<'t>, text: Halves<'t>, from: usize, end: usize
 pub fn line_end(tail: &str) -> (&str, &str, &str)
     ensures white { result.0.now ≡ (end_in_line [] tail.now).white }
     ensures comment { result.1.now ≡ (end_in_line [] tail.now).comment }
-    ensures line_break { result.2.now ≡ (end_in_line [] tail.now).behind }
+    ensures line_break { result.2.now ≡ (end_in_line [] tail.now).after }
 {
     let (white, line) = split_white(tail);
     let (comment, line_break) = split_at_break(line);

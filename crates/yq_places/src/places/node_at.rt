@@ -11,7 +11,7 @@ use crate::places::node_place::NodePlace;
 use std::alloc::{AllocError, Global};
 use yq_core::{Form, Inline, Kind, Step};
 use yq_outline::{Head, Position, ScalarContent};
-use yq_row_walk::{Walk, behind, is_deeper, is_item_at};
+use yq_row_walk::{Walk, is_deeper, is_item_at, position_after};
 
 /// What a node is, as far as updates ask.
 #[derive(Drop)]
@@ -104,7 +104,7 @@ fn lines_node<'t>(walk: &Walk<'_, '_>, under: Position, floor: usize) -> NodeAt<
     if !is_deeper(walk.rows, walk.document, under, floor) {
         return NodeAt::Scalar(Kind::Null, ScalarContent::Slice("null"));
     }
-    let others = behind(walk.rows, walk.document, under);
+    let others = position_after(walk.rows, walk.document, under);
     let several = is_deeper(walk.rows, walk.document, others, floor);
     if is_item_at(walk.rows, walk.document, under, 0) {
         NodeAt::List(several)

@@ -6,5 +6,5 @@ use yq_text::Halves;
 pub struct TextPiece<'t> {
     pub before: Halves<'t>,
     pub text: &'t str,
-    pub behind: Halves<'t>,
+    pub after: Halves<'t>,
 }

@@ -16,7 +16,7 @@ use yq_core::lines::split_line;
 use yq_core::text::is_blank;
 use yq_documents::last_run;
 use yq_row_table::Rows;
-use yq_row_walk::{Walk, behind, line_at, row_start};
+use yq_row_walk::{Walk, line_at, position_after, row_start};
 use yq_text::Halves;
 
 /// What a gap that ends up after a block scalar asks.
@@ -40,7 +40,7 @@ pub struct Removal<'d> {
     /// The gap after them.
     pub gap: &'d str,
     /// The text after that gap.
-    pub behind: Halves<'d>,
+    pub after: Halves<'d>,
     /// The seam of that gap, where it then comes after a block scalar.
     pub seam: Option<Seam>,
 }
@@ -81,7 +81,7 @@ pub fn own_rows(walk: &Walk<'_, '_>, steps: &[Step]) -> Option<(usize, usize, us
     if at.line != 0 {
         return None;
     }
-    let end = behind(walk.rows, walk.document, at).row;
+    let end = position_after(walk.rows, walk.document, at).row;
     Some((walk.document.first, at.row, end))
 }
 
@@ -121,7 +121,7 @@ fn block_before(rows: &Rows<'_>, first: usize, at: usize) -> Option<(bool, usize
 fn seam_of(block: Option<(bool, usize)>, column: usize, kept: &str) -> Option<Seam>
     ensures { (b : Option BlockText) → option_map (λ b. (b.0, b.1)) block ≡
         option_map block_numbers b → option_map reading.seam_view result ≡
-        spec.seam_behind b column kept.now }
+        spec.seam_after b column kept.now }
 {
     let (keeps, indent) = block?;
     if holds_comment(kept) {
@@ -150,12 +150,12 @@ pub fn rows_out<'d>(rows: &Rows<'d>, text: Halves<'d>, marks: (usize, usize, usi
     let block = block_before(rows, first, at);
     let (before, rest) = text.split_at(start);
     let (gone, rest) = rest.split_at(stop - start);
-    let (_, behind) = rest.split_at(gap.len());
+    let (_, after) = rest.split_at(gap.len());
     Removal {
         before,
         gone,
         gap,
-        behind,
+        after,
         seam: seam_of(block, column, kept),
     }
 }

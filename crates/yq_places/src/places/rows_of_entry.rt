@@ -3,9 +3,9 @@ ghost use Rattle.std.specs.Prelude.{◌≡◌, map, option_map};
 ghost use Rattle.yq_core.specs.Entries.{tree_step};
 ghost use Rattle.yq_documents.specs.LinesInRows.{row_line_of};
 ghost use Rattle.yq_row_walk.specs.Walk.{IsWalk, OfWalkRows};
-ghost use Rattle.yq_places.specs.StandingReading as reading;
+ghost use Rattle.yq_places.specs.PlacementReading as reading;
 
-use crate::places::known_end::row_behind;
+use crate::places::known_end::following_row;
 use yq_core::Step;
 use yq_row_walk::{Walk, level_at, line_at, lines_before_mark};
 
@@ -37,6 +37,6 @@ pub fn entry_along(walk: &Walk<'_, '_>, steps: &[Step]) -> Option<RowsOfEntry>
         row: at.row,
         line: at.line,
         dashes,
-        end: row_behind(walk, at, dashes, level),
+        end: following_row(walk, at, dashes, level),
     })
 }

@@ -125,7 +125,7 @@ pub fn first_step(walk: &Walk<'_, '_>, known: Option<StepSearch>, dashes: bool) 
 }
 
 /// The last row up to one that begins in front of so many bytes, or the text's first one.
-fn row_in_front(rows: &Rows<'_>, last: usize, front: usize) -> usize
+fn row_at_front(rows: &Rows<'_>, last: usize, front: usize) -> usize
     ensures { result ≤ last }
 {
     let mut low = 0;
@@ -142,7 +142,7 @@ fn row_in_front(rows: &Rows<'_>, last: usize, front: usize) -> usize
 }
 
 /// A search of a document's rows, as far as it went in each text that keeps so many bytes in front.
-pub fn searched_in_front(
+pub fn searched_before(
     rows: &Rows<'_>,
     known: Option<StepSearch>,
     front: usize,
@@ -151,7 +151,7 @@ pub fn searched_in_front(
     ensures { reading.StaysAfter front rows.now known result }
 {
     let known = known?;
-    let row = row_in_front(rows, known.row, front);
+    let row = row_at_front(rows, known.row, front);
     if row < known.first || row >= rows.len() || rows.start(row) >= front {
         return None;
     }

@@ -3,10 +3,10 @@ ghost use Rattle.std.specs.Prelude.{◌≡◌, ◌≤◌, None, IfOk, IfSome, fa
 ghost use Rattle.yq_core.{specs.Inline.depth_limit, specs.Tree.{Node, list}, specs.Values.value_node};
 ghost use Rattle.yq_flow_edits.specs.Valued.{IsValueTree};
 ghost use Rattle.yq_semantics.{specs.Changes.has_long_key, specs.RightValues.as_items};
-ghost use Rattle.yq_planner.{specs.ListSizes.{HasSize, IsSizeAround, IsSizeOfBoth}, specs.StandIns.IsStandIn};
+ghost use Rattle.yq_planner.{specs.ListSizes.{HasSize, IsSizeAround, IsSizeOfBoth}, specs.Substitutes.IsSubstitute};
 
 use crate::updating::limits::holds_long_key;
-use crate::updating::stand_in::{depth_of, in_list, nested_lists};
+use crate::updating::substitute::{depth_of, in_list, nested_lists};
 use std::alloc::{AllocError, Global};
 use yq_core::{DEPTH_LIMIT, Value};
 
@@ -84,7 +84,7 @@ pub fn added_size(alloc: Global, value: &Value) -> Result<Option<ListSize>, Allo
 /// # Errors
 /// [`AllocError`] where memory is refused.
 pub fn list_of_size(alloc: Global, size: &ListSize) -> Result<Value, AllocError>
-    ensures { IfOk result (λ w. (v : Node) → HasSize v size.now → IsStandIn v (value_node w)) }
+    ensures { IfOk result (λ w. (v : Node) → HasSize v size.now → IsSubstitute v (value_node w)) }
 {
     let inside = nested_lists(alloc, size.depth.saturating_sub(1))?;
     in_list(alloc, inside)

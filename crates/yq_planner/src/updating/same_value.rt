@@ -24,13 +24,13 @@ fn are_same_items(items: &Vec<Value>, others: &Vec<Value>) -> bool
 {
     let mut rest: &[Value] = others;
     'each: for item in items {
-        let [first, behind @ ..] = rest else {
+        let [first, after @ ..] = rest else {
             return false;
         };
         if !is_same_value(item, first) {
             return false;
         }
-        rest = behind;
+        rest = after;
     }
     rest.is_empty()
 }
@@ -42,13 +42,13 @@ fn are_same_entries(entries: &Vec<(String, Value)>, others: &Vec<(String, Value)
 {
     let mut rest: &[(String, Value)] = others;
     'each: for entry in entries {
-        let [first, behind @ ..] = rest else {
+        let [first, after @ ..] = rest else {
             return false;
         };
         if entry.0.as_str() != first.0.as_str() || !is_same_value(&entry.1, &first.1) {
             return false;
         }
-        rest = behind;
+        rest = after;
     }
     rest.is_empty()
 }

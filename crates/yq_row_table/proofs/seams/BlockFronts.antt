@@ -1,8 +1,8 @@
 -- A gap that comes after a block scalar in the place of another one, repaired.
 use Rattle.std.proofs.Common.{◌≡◌, ◌⊎◌, ℕ, ◌<◌, true, false, List, [], ◌∷◌, ◌++◌, Some, None, refl, sym, ap, ◌∙◌, subst, append_assoc}
 use Rattle.std.{proofs.Common.rules, proofs.lemmas.Bool.cases_Bool}
-use Rattle.yq_core.{specs.Block.{RawLines, BlockText, IsBlock, ends_block, keeps}, specs.BlockRepair.{AreGap, repair, is_behind}}
-use Rattle.yq_core.{specs.BlockWritten.ends_with_break, specs.Text.{is_empty, text_lines, joined}, proofs.BlockRepairText.repair_stands}
+use Rattle.yq_core.{specs.Block.{RawLines, BlockText, IsBlock, ends_block, keeps}, specs.BlockRepair.{AreGap, repair, comes_later}}
+use Rattle.yq_core.{specs.BlockWritten.ends_with_break, specs.Text.{is_empty, text_lines, joined}, proofs.BlockRepairText.repair_is_there}
 use Rattle.yq_core.proofs.LineLaws.{joined-append}
 use Rattle.yq_row_table.{specs.Gap.{AreGapLines, IsGap}, specs.Grammar.{IsContent, Limit, limit_after, AreRows}}
 use Rattle.yq_row_table.specs.Rows.{Content, Nothing, Inline, Block, Row, parent_indent, rows_text}
@@ -22,17 +22,17 @@ gap_front gap x ks run h is =
 
 -- a gap after a block scalar
 pub block_seam : (least column : ℕ) (b : BlockText) (ks : RawLines) (x next rest : List ℕ) → IsBlock least b (joined ks ++ x) → AreGapLines ks x →
-    is_empty x ≡ false → IsGap next rest → column < b.indent.columns → is_behind b.indent (text_lines rest) ≡ true →
+    is_empty x ≡ false → IsGap next rest → column < b.indent.columns → comes_later b.indent (text_lines rest) ≡ true →
     ends_block (keeps b.chomping) b.indent (text_lines (seam_gap (Some b) column (joined ks) next ++ rest)) ≡ true
-block_seam least column b ks x next rest h k some n less behind =
+block_seam least column b ks x next rest h k some n less after =
     let keep = keeps b.chomping in
     let own : text_lines (joined ks) ≡ ks = gap_lines_of ks x k in
-    let was : ends_block keep b.indent (ks ++ text_lines x) ≡ true = ap (ends_block keep b.indent) (sym (lines_before ks x x some k)) ∙ h.behind in
+    let was : ends_block keep b.indent (ks ++ text_lines x) ≡ true = ap (ends_block keep b.indent) (sym (lines_before ks x x some k)) ∙ h.after in
     let lines : text_lines next ≡ n.lines = gap_lines next rest n in
     let kinds : AreGap (text_lines next) = subst AreGap (sym lines) (gap_kinds n.lines rest n.each) in
     let shut : (ends_with_break (text_lines next) ≡ true) ⊎ (rest ≡ []) = subst (λ (ls : RawLines). (ends_with_break ls ≡ true) ⊎ (rest ≡ [])) (sym lines) (gap_closed n.lines rest n.each) in
     let mended : List ℕ = joined (repair keep b.indent.columns column (text_lines next)) in
-    let stands = repair_stands least column b (joined ks ++ x) next rest h kinds shut behind less in
+    let is_located = repair_is_there least column b (joined ks ++ x) next rest h kinds shut after less in
     search (rules, append_assoc, lines_before, ends_comment, ends_blank, cases_Bool)
 
 -- the block scalar before it

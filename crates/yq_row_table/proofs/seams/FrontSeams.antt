@@ -3,18 +3,17 @@ use Rattle.std.proofs.Common.{◌≡◌, ℕ, ℤ, true, false, ◌||◌, List, 
 use Rattle.std.proofs.lemmas.Bool.{false≢true, or_right}
 use Rattle.yq_core.{specs.Text.{is_empty, is_line, text_lines}, specs.Alike.Alike, proofs.Alikes.alike_empty}
 use Rattle.yq_row_table.specs.Grammar.{IsTail, IsContent, IsRow, Limit, limit_after, AreRows, no_rows}
-use Rattle.yq_row_table.specs.Rows.{Content, Row, behind_indent, behind_gap, parent_indent, print_row, rows_text}
+use Rattle.yq_row_table.specs.Rows.{Content, Row, after_indent, following_gap, parent_indent, print_row, rows_text}
 use Rattle.yq_row_table.specs.Seams.{is_closed, is_seam, are_seamed, is_block, ends_in_block, ends_in_line}
-use Rattle.yq_row_table.proofs.AlikeBlocks.{LinesAlike, lines_after, lines_alike, starts_alike, ends_alike}
-use Rattle.yq_row_table.{proofs.NothingLaws.some_behind, proofs.RowAgain.row_starts, proofs.seams.SeamLaws.tail_line}
-use Rattle.yq_row_table.proofs.EmptyTexts.{none_is}
+use Rattle.yq_row_table.{proofs.AlikeBlocks.{LinesAlike, lines_after, lines_alike, starts_alike, ends_alike}, proofs.NothingLaws.some_after}
+use Rattle.yq_row_table.{proofs.RowAgain.row_starts, proofs.seams.SeamLaws.tail_line, proofs.EmptyTexts.none_is}
 
 -- the text of a row isn't empty
-pub behind_row_some : (limit : Limit) (r : Row) (rest : List ℕ) → IsRow limit r rest → is_empty (behind_gap r rest) ≡ false
-behind_row_some limit r rest h = some_behind (replicate r.column 32) (behind_indent r rest) (row_starts limit r rest h).some
+pub after_row_some : (limit : Limit) (r : Row) (rest : List ℕ) → IsRow limit r rest → is_empty (following_gap r rest) ≡ false
+after_row_some limit r rest h = some_after (replicate r.column 32) (after_indent r rest) (row_starts limit r rest h).some
 
 pub row_some : (limit : Limit) (r : Row) (rest : List ℕ) → IsRow limit r rest → is_empty (print_row r rest) ≡ false
-row_some limit r rest h = some_behind r.gap (behind_gap r rest) (behind_row_some limit r rest h)
+row_some limit r rest h = some_after r.gap (following_gap r rest) (after_row_some limit r rest h)
 
 pub rows_some : (limit : Limit) (rs : List Row) (end rest : List ℕ) → no_rows rs ≡ false → AreRows limit rs end rest → is_empty (rows_text rs (end ++ rest)) ≡ false
 rows_some limit rs end rest n h = search (rules, false≢true, row_some)

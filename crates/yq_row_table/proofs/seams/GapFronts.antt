@@ -2,15 +2,15 @@
 use Rattle.std.proofs.Common.{◌≡◌, ℕ, Bool, true, false, not, List, [], ◌∷◌, ◌++◌, refl, sym, ap, ◌∙◌, subst, ⊎_elim, rules}
 use Rattle.std.proofs.lemmas.Bool.{false≢true, not-false, not-true, and_parts, cases_Bool, or_parts}
 use Rattle.yq_core.{specs.Block.{RawLines, ends_block, is_empty_line, is_less_indented}, specs.declared.block_lines.TextIndent.TextIndent}
-use Rattle.yq_core.{specs.Lines.{behind_spaces, is_blank}, specs.Text.{is_empty, ends_line, joined, text_lines}, specs.BlockRepair.repair}
+use Rattle.yq_core.{specs.Lines.{without_spaces, is_blank}, specs.Text.{is_empty, ends_line, joined, text_lines}, specs.BlockRepair.repair}
 use Rattle.yq_core.{proofs.SpaceLaws.char_not_blank, proofs.LineLaws.joined-append}
-use Rattle.yq_row_table.{specs.Gap.{AreGapLines, IsGap}, specs.Removal.hold_comment, proofs.NothingLaws.{some_behind, line_end_other}}
+use Rattle.yq_row_table.{specs.Gap.{AreGapLines, IsGap}, specs.Removal.hold_comment, proofs.NothingLaws.{some_after, line_end_other}}
 use Rattle.yq_row_table.proofs.seams.GapSeams.{gap_lines_of, lines_before, repaired_gap}
 
 -- gaps one after the other
 lines_joined : (ls ms : List (List ℕ)) (x y : List ℕ) → is_empty x ≡ false → AreGapLines ls x → AreGapLines ms y → AreGapLines (ls ++ ms) y
 lines_joined [] ms x y some h k = k
-lines_joined (l ∷ ls) ms x y some h k = search (rules, line_end_other, some_behind, lines_joined ls ms x y some h.1 k)
+lines_joined (l ∷ ls) ms x y some h k = search (rules, line_end_other, some_after, lines_joined ls ms x y some h.1 k)
 
 -- A gap before a text that isn't empty, and a gap after it.
 pub gap_joined : (g h x y : List ℕ) → is_empty x ≡ false → IsGap g x → IsGap h y → IsGap (g ++ h) y
@@ -45,7 +45,7 @@ ends_comment keep f [] old new c h = absurd (false≢true c)
 ends_comment keep f (l ∷ ls) old new c h = ⊎_elim {0, 0, 0}
     (λ e.
     let more = and_parts (not keep) (ends_block keep f (ls ++ old)) (rw e at h) in
-    let blank : is_blank l ≡ true = Rattle.yq_core.proofs.SpaceLaws.spaces_blank l (and_parts (ends_line (behind_spaces l)) _ e).0 in
+    let blank : is_blank l ≡ true = Rattle.yq_core.proofs.SpaceLaws.spaces_blank l (and_parts (ends_line (without_spaces l)) _ e).0 in
     let rest : hold_comment ls ≡ true = rw blank at c in
     let again = ends_comment keep f ls old new rest more.1 in
     rw (more.0, again) (rw e refl))

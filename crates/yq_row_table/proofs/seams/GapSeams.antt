@@ -8,12 +8,12 @@ use Rattle.yq_core.{specs.BlockWritten.ends_with_break, specs.Lines.{is_hash, is
 use Rattle.yq_core.specs.Text.{no_white, NoneIn, is_feed, is_return, is_break, is_empty, is_line, ends_line, front, past_white, put_byte}
 use Rattle.yq_core.{specs.Text.{text_lines, joined}, proofs.LineLaws.lines_again}
 use Rattle.yq_row_table.{specs.Gap.{IsBreak, IsLineEnd, IsGapLine, AreGapLines, IsGap}, proofs.EmptyTexts.{empty_is, none_is, empty_or}}
-use Rattle.yq_row_table.{proofs.LineEnds.{white_again, white_none, comment_none}, proofs.NothingLaws.some_behind}
+use Rattle.yq_row_table.{proofs.LineEnds.{white_again, white_none, comment_none}, proofs.NothingLaws.some_after}
 use Rattle.yq_row_table.{proofs.seams.SeamLaws.line_by_break, proofs.RowAgain.white_spaces}
 
 past_line : (white comment p rest : List ℕ) (h : IsLineEnd white comment p rest) → (past_white p ≡ comment ++ h.break) × ((ends_line (comment ++ h.break) || is_hash (comment ++ h.break)) ≡ true)
 past_line white comment p rest h =
-    let parts = Rattle.yq_row_table.proofs.LineEnds.behind_comment comment h.break [] h.as_comment (⊎_elim {0, 0, 0} (λ e. inl e) (λ e. inr (e.0, refl)) h.ends) in
+    let parts = Rattle.yq_row_table.proofs.LineEnds.after_comment comment h.break [] h.as_comment (⊎_elim {0, 0, 0} (λ e. inl e) (λ e. inr (e.0, refl)) h.ends) in
     let none : comment ++ (h.break ++ []) ≡ comment ++ h.break = ap (λ l. comment ++ l) (append-nil h.break) in
     let first : no_white (comment ++ h.break) ≡ true = ap no_white (sym none) ∙ parts.0 in
     let past : past_white (white ++ (comment ++ h.break)) ≡ comment ++ h.break = ap (λ (y : List ℕ × List ℕ). y.1) (white_again white (comment ++ h.break) h.blank first) in
@@ -62,7 +62,7 @@ pub lines_before : (ls : RawLines) (rest y : List ℕ) → is_empty rest ≡ fal
 lines_before [] rest y some h = refl
 lines_before (l ∷ ls) rest y some h = ⊎_elim {0, 0, 0}
     (λ e. ap text_lines (append_assoc l (joined ls) y) ∙ (lines_again l (joined ls ++ y) e ∙ ap (λ x. l ∷ x) (lines_before ls rest y some h.1)))
-    (λ e. absurd (none_is (joined ls ++ rest) (some_behind (joined ls) rest some) e.0))
+    (λ e. absurd (none_is (joined ls ++ rest) (some_after (joined ls) rest some) e.0))
     (line_is l (joined ls ++ rest) h.0)
 
 all_closed : (ls : RawLines) (rest : List ℕ) → is_empty rest ≡ false → AreGapLines ls rest → ends_with_break ls ≡ true

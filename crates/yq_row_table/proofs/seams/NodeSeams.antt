@@ -20,7 +20,7 @@ plain_text (anchored name gap node) = plain_text node
 
 -- What comes after a node, and what may be there: white space, a break or the end is in front of both, no node is in the line after it, a plain
 -- scalar ends there, and no break comes to be at its end.
-pub record Behind (spaces : Option ℕ) (node : FlowNode) (t u : List ℕ) : Type 0 where
+pub record MayFollowNode (spaces : Option ℕ) (node : FlowNode) (t u : List ℕ) : Type 0 where
   pub was : separates t ≡ true
   pub apart : separates u ≡ true
   pub lead : IsLead false (begins_content false) [] u
@@ -32,7 +32,7 @@ abbrev pub Kept : Option ℕ → ℕ → FlowNode → List ℕ → List ℕ → 
 Kept spaces d node t u = IsFlowNode false spaces d node u × (is_empty_node node ≡ false → Alike (Some false) (node_text node t) (node_text node u))
 
 -- scalars
-scalar_seam : (spaces : Option ℕ) (p t u : List ℕ) → Behind spaces (scalar p) t u → IsScalarAt false spaces p t → IsScalarAt false spaces p u × Alike (Some false) (p ++ t) (p ++ u)
+scalar_seam : (spaces : Option ℕ) (p t u : List ℕ) → MayFollowNode spaces (scalar p) t u → IsScalarAt false spaces p t → IsScalarAt false spaces p u × Alike (Some false) (p ++ t) (p ++ u)
 scalar_seam spaces p t u h (inl g) =
     let ends : ends_plain false spaces u ≡ true = h.ends (ap not (plain_unquoted spaces p t g)) in
     let kept = plain_seam spaces p t u h.was h.apart h.joint ends g in
@@ -74,7 +74,7 @@ white_again gap t u h = name_again is_white gap t u h
 pub name_front : (gap t u : List ℕ) → is_empty gap ≡ false → unless in_name (gap ++ t) ≡ true → unless in_name (gap ++ u) ≡ true
 name_front gap t u some h = search (rules, false≢true)
 
-bare_seam : (spaces : Option ℕ) (d : ℕ) (name gap t u : List ℕ) → Behind spaces (anchored name gap empty) t u → IsFlowNode false spaces d (anchored name gap empty) t → Kept spaces d (anchored name gap empty) t u
+bare_seam : (spaces : Option ℕ) (d : ℕ) (name gap t u : List ℕ) → MayFollowNode spaces (anchored name gap empty) t u → IsFlowNode false spaces d (anchored name gap empty) t → Kept spaces d (anchored name gap empty) t u
 unfolding node_text IsFlowNode
 bare_seam spaces d name gap t u h g =
     let nothing : gap ≡ [] = bare_gap gap t h.was g.1 in
@@ -84,13 +84,13 @@ bare_seam spaces d name gap t u h g =
     rw nothing ((name_seam name t u h.apart was, h.lead, g.2, g.3, (none.1, none.0)), λ e. after text)
 
 node_bare : (node : FlowNode) (spaces : Option ℕ) (d : ℕ) (name gap t u : List ℕ) → is_empty_node node ≡ true →
-    Behind spaces (anchored name gap node) t u → IsFlowNode false spaces d (anchored name gap node) t → Kept spaces d (anchored name gap node) t u
+    MayFollowNode spaces (anchored name gap node) t u → IsFlowNode false spaces d (anchored name gap node) t → Kept spaces d (anchored name gap node) t u
 node_bare node spaces d name gap t u e h g =
     let is = bare_is node e in
     subst (λ (n : FlowNode). Kept spaces d (anchored name gap n) t u) (sym is)
-    (bare_seam spaces d name gap t u (subst (λ (n : FlowNode). Behind spaces (anchored name gap n) t u) is h) (subst (λ (n : FlowNode). IsFlowNode false spaces d (anchored name gap n) t) is g))
+    (bare_seam spaces d name gap t u (subst (λ (n : FlowNode). MayFollowNode spaces (anchored name gap n) t u) is h) (subst (λ (n : FlowNode). IsFlowNode false spaces d (anchored name gap n) t) is g))
 
-pub node_seam : (spaces : Option ℕ) (node : FlowNode) (d : ℕ) (t u : List ℕ) → Behind spaces node t u → IsFlowNode false spaces d node t → Kept spaces d node t u
+pub node_seam : (spaces : Option ℕ) (node : FlowNode) (d : ℕ) (t u : List ℕ) → MayFollowNode spaces node t u → IsFlowNode false spaces d node t → Kept spaces d node t u
 unfolding node_text IsFlowNode
 node_seam spaces empty d t u h g = let none = or_parts (begins_with 38 u) (begins_content false u) (apart_no_node u h.apart) in ((none.1, none.0), λ e. absurd (false≢true (sym e)))
 node_seam spaces (alias n) d t u h g = (name_seam n t u h.apart g, λ e. after (name_alike n t u g.some h.was h.apart g.inside))

@@ -11,7 +11,7 @@ use Rattle.yq_row_table.{specs.Rows.parent_indent, specs.Seams.{TakesPlace, with
 use Rattle.yq_row_table.{proofs.AlikeRows.dashes_text_alike, proofs.ExchangeLaws.one_row, proofs.RowPlaces.takes_place}
 use Rattle.yq_row_table.proofs.NodeExchange.{mark_apart, space_apart, inline_starts}
 use Rattle.yq_row_table.proofs.NothingLaws.{name_again, tail_lead, tail_apart}
-use Rattle.yq_row_table.{proofs.seams.NodeSeams.{plain_text, Behind, node_seam, name_front}, proofs.seams.ScalarSeams.Joint}
+use Rattle.yq_row_table.{proofs.seams.NodeSeams.{plain_text, MayFollowNode, node_seam, name_front}, proofs.seams.ScalarSeams.Joint}
 
 -- the plain scalar of a content, if it is one
 abbrev pub plain_of : Content → List ℕ
@@ -20,14 +20,14 @@ plain_of (Inline space node tail) = plain_text node
 plain_of (Block space anchor block) = []
 
 -- what comes after the node of a content
-abbrev pub behind_node : Content → List ℕ → List ℕ
-behind_node (Nothing tail) rest = tail ++ rest
-behind_node (Inline space node tail) rest = tail ++ rest
-behind_node (Block space anchor block) rest = rest
+abbrev pub text_after_node : Content → List ℕ → List ℕ
+text_after_node (Nothing tail) rest = tail ++ rest
+text_after_node (Inline space node tail) rest = tail ++ rest
+text_after_node (Block space anchor block) rest = rest
 
 -- no break comes to be after a content with another tail
 abbrev pub Joined : Content → List ℕ → (new rest : List ℕ) → Type 0
-Joined c t new u = Joint (plain_of c) (behind_node c t) (behind_node (with_tail new c) u)
+Joined c t new u = Joint (plain_of c) (text_after_node c t) (text_after_node (with_tail new c) u)
 
 -- inline nodes
 abbrev NodeKept : ℤ → List ℕ → FlowNode → List ℕ → List ℕ → List ℕ → List ℕ → Type 0
@@ -39,8 +39,8 @@ something b h = search (rules, false≢true)
 pub inline_seam : (n : ℤ) (space : List ℕ) (node : FlowNode) (tail t new u : List ℕ) → IsContent n (Inline space node tail) t →
     TailFits n new (Inline space node tail) u → Joined (Inline space node tail) t new u → NodeKept n space node tail t new u
 inline_seam n space node tail t new u h f j =
-    let behind : Behind (Some (deeper n)) node (tail ++ t) (new ++ u) = record { was = tail_apart tail t h.2; apart = tail_apart new u f.0; lead = tail_lead new u f.0; ends = f.1; joint = j } in
-    let kept = node_seam (Some (deeper n)) node depth_limit (tail ++ t) (new ++ u) behind h.1.valid in
+    let after : MayFollowNode (Some (deeper n)) node (tail ++ t) (new ++ u) = record { was = tail_apart tail t h.2; apart = tail_apart new u f.0; lead = tail_lead new u f.0; ends = f.1; joint = j } in
+    let kept = node_seam (Some (deeper n)) node depth_limit (tail ++ t) (new ++ u) after h.1.valid in
     ((h.0, record { valid = kept.0; something = h.1.something }, f.0), kept.1 (something (is_empty_node node) h.1.something))
 
 -- block scalars
@@ -49,7 +49,7 @@ anchor_seam None t u h = h
 anchor_seam (Some a) t u h = search (rules, name_again, name_front)
 
 block_seam : (least : ℕ) (b : BlockText) (t u : List ℕ) → ends_block (keeps b.chomping) b.indent (text_lines u) ≡ true → IsBlock least b t → IsBlock least b u
-block_seam least b t u e h = record { indicators = h.indicators; tail = h.tail; indent = h.indent; lines = h.lines; ends = h.ends; behind = e }
+block_seam least b t u e h = record { indicators = h.indicators; tail = h.tail; indent = h.indent; lines = h.lines; ends = h.ends; after = e }
 
 pub style_no_space : (s : BlockStyle) (t : List ℕ) → separates (style_indicator s ∷ t) ≡ false
 style_no_space s t = search rules

@@ -4,12 +4,12 @@ use Rattle.std.proofs.Common.{refl, sym, ap, ◌∙◌, subst, ⊎_elim, append_
 use Rattle.std.{proofs.lemmas.Bool.{false≢true, or_cases, and_parts}, proofs.lemmas.List.take-append-drop}
 use Rattle.yq_core.{specs.Piece.deeper, specs.Plain.ends_plain, specs.Text.{is_empty, front, is_break, is_line, is_marker}}
 use Rattle.yq_core.specs.Alike.{Alike}
-use Rattle.yq_row_table.{specs.Exchange.{allows_first, asked_behind, with_content}, specs.Gap.{IsBreak, IsLineEnd}}
-use Rattle.yq_row_table.specs.Grammar.{IsTail, IsContent, is_plain_content, IsRow, Limit, unlimited, limit_after, limit_behind, AreRows}
-use Rattle.yq_row_table.specs.Grammar.{no_rows, ends_part}
+use Rattle.yq_row_table.{specs.Exchange.{allows_first, asked_after, with_content}, specs.Gap.{IsBreak, IsLineEnd}}
+use Rattle.yq_row_table.specs.Grammar.{IsTail, IsContent, is_plain_content, IsRow, Limit, unlimited, limit_after, limit_after_content}
+use Rattle.yq_row_table.specs.Grammar.{AreRows, no_rows, ends_part}
 use Rattle.yq_row_table.specs.Rows.{Content, Nothing, Inline, Block, Row, parent_indent, print_row, rows_text}
-use Rattle.yq_row_table.specs.Seams.{is_closed, is_seam, MayFollowRows, TakesPlace, tail_behind, TailFits}
-use Rattle.yq_row_table.{specs.Splices.{with_first_gap, end_gap, behind_first}, proofs.AlikeRows.{row_alike, row_text_alike}}
+use Rattle.yq_row_table.specs.Seams.{is_closed, is_seam, MayFollowRows, TakesPlace, tail_after, TailFits}
+use Rattle.yq_row_table.{specs.Splices.{with_first_gap, end_gap, after_first}, proofs.AlikeRows.{row_alike, row_text_alike}}
 use Rattle.yq_row_table.{proofs.EmptyTexts.{empty_is, empty_or}, proofs.LineEnds.{text_line, white_none, comment_none}}
 use Rattle.yq_row_table.{proofs.NothingLaws.no_tail, proofs.PlaceLaws.first_allowed}
 use Rattle.yq_row_table.{proofs.PlainEnds.{AtLine, tail_ends, rows_line, marker_line, end_line}, proofs.seams.NodeSeams.plain_text}
@@ -52,7 +52,7 @@ PlainEnds n (Nothing tail) u = Unit {0}
 PlainEnds n (Inline space node tail) u = is_plain_content node ≡ true → IsTail tail u → ends_plain false (Some (deeper n)) (tail ++ u) ≡ true
 PlainEnds n (Block space anchor block) u = Unit {0}
 
-own_fits : (n : ℤ) (c : Content) (t u : List ℕ) → IsContent n c t → is_seam c u ≡ true → PlainEnds n c u → TailFits n (tail_behind c) c u
+own_fits : (n : ℤ) (c : Content) (t u : List ℕ) → IsContent n c t → is_seam c u ≡ true → PlainEnds n c u → TailFits n (tail_after c) c u
 own_fits n (Nothing tail) t u h s e = tail_kept tail t u s h
 own_fits n (Inline space node tail) t u h s e = let kept = tail_kept tail t u s h.2 in (kept, λ plain. e plain kept)
 own_fits n (Block space anchor block) t u h s e = s
@@ -61,14 +61,14 @@ own_fits n (Block space anchor block) t u h s e = s
 pub row_seam : (limit : Limit) (r : Row) (t u : List ℕ) → IsRow limit r t → is_seam r.content u ≡ true → PlainEnds (parent_indent r) r.content u → TakesPlace limit r t r u
 row_seam limit r t u h s e =
     let n = parent_indent r in
-    let kept = row_tail limit r t (tail_behind r.content) u h (own_fits n r.content t u h.content s e) (search (rules, joint_tail, plain_text)) in
+    let kept = row_tail limit r t (tail_after r.content) u h (own_fits n r.content t u h.content s e) (search (rules, joint_tail, plain_text)) in
     subst (λ (c : Content). TakesPlace limit r t (with_content c r) u) (search rules) kept
 
 -- where the next row is
 pub part_line : (d : ℕ) (t : List ℕ) → ends_part t ≡ true → AtLine d t
 part_line d t h = ⊎_elim {0, 0, 0} (λ e. subst (AtLine d) (sym (empty_is t e)) (end_line d)) (λ e. marker_line d t e) (or_cases (is_empty t) (is_marker t) h)
 
-pub plain_before : (n : ℤ) (c : Content) (rs : List Row) (end rest : List ℕ) → AreRows (limit_behind n c) rs end rest → ends_part rest ≡ true → PlainEnds n c (rows_text rs (end ++ rest))
+pub plain_before : (n : ℤ) (c : Content) (rs : List Row) (end rest : List ℕ) → AreRows (limit_after_content n c) rs end rest → ends_part rest ≡ true → PlainEnds n c (rows_text rs (end ++ rest))
 plain_before n (Inline space node tail) rs end rest h e = λ plain last.
     let d = deeper n in
     let asked : Limit = if is_plain_content node then record { column = Some d } else unlimited in
@@ -104,20 +104,20 @@ pub rows_text-append : (a b : List Row) (t : List ℕ) → rows_text (a ++ b) t 
 rows_text-append [] b t = refl
 rows_text-append (r ∷ a) b t = ap (print_row r) (rows_text-append a b t)
 
-pub gap_text : (gap : List ℕ) (rs : List Row) (end rest : List ℕ) → rows_text (with_first_gap gap rs) (end_gap gap rs end ++ rest) ≡ gap ++ behind_first rs end rest
+pub gap_text : (gap : List ℕ) (rs : List Row) (end rest : List ℕ) → rows_text (with_first_gap gap rs) (end_gap gap rs end ++ rest) ≡ gap ++ after_first rs end rest
 gap_text gap rs end rest = search rules
 
-pub spliced_text : (new : List Row) (gap : List ℕ) (rs : List Row) (end rest : List ℕ) → rows_text (new ++ with_first_gap gap rs) (end_gap gap rs end ++ rest) ≡ rows_text new (gap ++ behind_first rs end rest)
+pub spliced_text : (new : List Row) (gap : List ℕ) (rs : List Row) (end rest : List ℕ) → rows_text (new ++ with_first_gap gap rs) (end_gap gap rs end ++ rest) ≡ rows_text new (gap ++ after_first rs end rest)
 spliced_text new gap rs end rest = rows_text-append new (with_first_gap gap rs) (end_gap gap rs end ++ rest) ∙ ap (rows_text new) (gap_text gap rs end rest)
 
 pub rows_join : (new : List Row) (limit was : Limit) (gap : List ℕ) (rs : List Row) (end rest : List ℕ) →
-    AreRows limit new gap (behind_first rs end rest) → AreRows was rs end rest → allows_first (asked_behind limit new) rs ≡ true →
+    AreRows limit new gap (after_first rs end rest) → AreRows was rs end rest → allows_first (asked_after limit new) rs ≡ true →
     AreRows limit (new ++ with_first_gap gap rs) (end_gap gap rs end) rest
 rows_join [] limit was gap [] end rest h k a = h
 rows_join [] limit was gap (r ∷ rs) end rest h k a = (record { gap = h; allowed = a; unmarked = k.0.unmarked; dashes = k.0.dashes; mark = k.0.mark; content = k.0.content }, k.1)
 rows_join (x ∷ new) limit was gap rs end rest h k a = search (rules, spliced_text, rows_join new (limit_after x) was gap rs end rest h.1 k a)
 
-pub rows_drop : (j : ℕ) (rs : List Row) (limit : Limit) (end rest : List ℕ) → AreRows limit rs end rest → AreRows (asked_behind limit (take j rs)) (drop j rs) end rest
+pub rows_drop : (j : ℕ) (rs : List Row) (limit : Limit) (end rest : List ℕ) → AreRows limit rs end rest → AreRows (asked_after limit (take j rs)) (drop j rs) end rest
 rows_drop (suc j) (r ∷ rs) limit end rest h = rows_drop j rs (limit_after r) end rest h.1
 rows_drop _ _ limit end rest h = h
 

@@ -6,11 +6,11 @@ use Rattle.std.proofs.Math.Seq.{take-append_seam, drop-append_seam}
 use Rattle.yq_core.{specs.Characters.pairs_returns, specs.Plain.ends_plain, specs.Quoted.spell_lines}
 use Rattle.yq_core.specs.Text.{is_white, is_feed, is_return, is_break, is_space, is_line, ends_line, front, NoneIn}
 use Rattle.yq_core.{specs.Nodes.{FlowNode, empty, alias, scalar, coll, anchored, node_text, IsFlowNode}, proofs.NodesWrittenLaws.node_then}
-use Rattle.yq_row_table.{specs.Exchange.{asked_behind, row_front}, specs.Gap.IsComment}
-use Rattle.yq_row_table.specs.Grammar.{IsTail, IsContent, IsRow, Limit, limit_after, limit_behind, AreRows, ends_part}
+use Rattle.yq_row_table.{specs.Exchange.{asked_after, row_front}, specs.Gap.IsComment}
+use Rattle.yq_row_table.specs.Grammar.{IsTail, IsContent, IsRow, Limit, limit_after, limit_after_content, AreRows, ends_part}
 use Rattle.yq_row_table.specs.Rows.{Content, Nothing, Inline, Block, content_text, Row, parent_indent, print_row, rows_text}
 use Rattle.yq_row_table.specs.Appending.{is_one_break, closed_by, TakesBreak}
-use Rattle.yq_row_table.{specs.Seams.{with_tail, tail_behind, TailFits, is_block, TakesPlace, retail}, proofs.CharacterLaws.pairs_back}
+use Rattle.yq_row_table.{specs.Seams.{with_tail, tail_after, TailFits, is_block, TakesPlace, retail}, proofs.CharacterLaws.pairs_back}
 use Rattle.yq_row_table.{proofs.ExchangeLaws.chain, proofs.PlaceLaws.row_front-append}
 use Rattle.yq_row_table.{proofs.seams.SeamLaws.{plain_before, line_by_break, rows_drop}, proofs.seams.NodeSeams.plain_text}
 use Rattle.yq_row_table.{proofs.seams.ScalarSeams.{ends_return, last_no_space}, proofs.seams.RowSeams.{Joined, row_tail}}
@@ -89,16 +89,16 @@ tail_closed tail break u b bare pairs h = ⊎_elim {0, 0, 0}
 
 -- a tail may be there, where rows come after it
 pub fits_by : (n : ℤ) (c : Content) (new : List ℕ) (rs : List Row) (end rest : List ℕ) → is_block c ≡ false →
-    IsTail new (rows_text rs (end ++ rest)) → AreRows (limit_behind n c) rs end rest → ends_part rest ≡ true →
+    IsTail new (rows_text rs (end ++ rest)) → AreRows (limit_after_content n c) rs end rest → ends_part rest ≡ true →
     TailFits n new c (rows_text rs (end ++ rest))
 fits_by n (Nothing tail) new rs end rest b t h e = t
 fits_by n (Inline space node tail) new rs end rest b t h e = (t, λ plain. plain_before n (Inline space node new) rs end rest h e plain t)
 fits_by n (Block space anchor block) new rs end rest b t h e = absurd (false≢true (sym b))
 
-pub content_tail : (n : ℤ) (c : Content) (t : List ℕ) → is_block c ≡ false → IsContent n c t → IsTail (tail_behind c) t
+pub content_tail : (n : ℤ) (c : Content) (t : List ℕ) → is_block c ≡ false → IsContent n c t → IsTail (tail_after c) t
 content_tail n c t h1 h2 = search (rules, false≢true)
 
-pub tail_pairs : (c : Content) (t : List ℕ) → is_block c ≡ false → pairs_returns (content_text c t) ≡ true → pairs_returns (tail_behind c ++ t) ≡ true
+pub tail_pairs : (c : Content) (t : List ℕ) → is_block c ≡ false → pairs_returns (content_text c t) ≡ true → pairs_returns (tail_after c ++ t) ≡ true
 tail_pairs c t h1 h2 = search (rules, pairs_back, node_then, false≢true)
 
 -- A row at the end of the text, without a break, gets one, and rows come after it.
@@ -107,24 +107,24 @@ pub row_closed : (limit : Limit) (r : Row) (break : List ℕ) (new : List Row) (
     TakesPlace limit r [] (closed_by break r) (rows_text new (end ++ rest))
 row_closed limit r break new end rest h f pairs n e =
     let text : pairs_returns (content_text r.content []) ≡ true = pairs_back (row_front r) (content_text r.content []) (ap pairs_returns (sym (row_front-append r [])) ∙ pairs) in
-    let tail : pairs_returns (tail_behind r.content) ≡ true = ap pairs_returns (sym (append-nil (tail_behind r.content))) ∙ tail_pairs r.content [] f.inline text in
+    let tail : pairs_returns (tail_after r.content) ≡ true = ap pairs_returns (sym (append-nil (tail_after r.content))) ∙ tail_pairs r.content [] f.inline text in
     search (rules, tail_closed, content_tail, row_retailed, fits_by)
 
-pub limit_tail : (n : ℤ) (c : Content) (new : List ℕ) → limit_behind n (with_tail new c) ≡ limit_behind n c
+pub limit_tail : (n : ℤ) (c : Content) (new : List ℕ) → limit_after_content n (with_tail new c) ≡ limit_after_content n c
 limit_tail n c new = search rules
 
 pub limit_closed : (break : List ℕ) (r : Row) → limit_after (closed_by break r) ≡ limit_after r
-limit_closed break r = limit_tail (parent_indent r) r.content (tail_behind r.content ++ break)
+limit_closed break r = limit_tail (parent_indent r) r.content (tail_after r.content ++ break)
 
 -- Rows after the last one of a text without a final break: that one gets a break, and the rows come after it.
 pub rows_appended : (front : List Row) (r : Row) (break : List ℕ) (new : List Row) (limit : Limit) (end : List ℕ) → AreRows limit (front ++ (r ∷ [])) [] [] → TakesBreak r break → pairs_returns (print_row r []) ≡ true →
     AreRows (limit_after r) new end [] → AreRows limit (front ++ (closed_by break r ∷ new)) end []
 rows_appended front r break new limit end h f pairs n =
     let own = rows_drop (length front) (front ++ (r ∷ [])) limit [] [] h in
-    let asked : AreRows (asked_behind limit (take (length front) (front ++ (r ∷ [])))) (r ∷ []) [] [] =
-    subst (λ (rs : List Row). AreRows (asked_behind limit (take (length front) (front ++ (r ∷ [])))) rs [] []) (drop-append_seam front (r ∷ []))
+    let asked : AreRows (asked_after limit (take (length front) (front ++ (r ∷ [])))) (r ∷ []) [] [] =
+    subst (λ (rs : List Row). AreRows (asked_after limit (take (length front) (front ++ (r ∷ [])))) rs [] []) (drop-append_seam front (r ∷ []))
     own in
-    let last : AreRows (asked_behind limit front) (r ∷ []) [] [] = subst (λ (rs : List Row). AreRows (asked_behind limit rs) (r ∷ []) [] []) (take-append_seam front (r ∷ [])) asked in
-    let kept = row_closed (asked_behind limit front) r break new end [] last.0 f pairs n refl in
-    let behind : AreRows (limit_after (closed_by break r)) new end [] = subst (λ (l : Limit). AreRows l new end []) (sym (limit_closed break r)) n in
-    (chain front (r ∷ []) (closed_by break r ∷ new) limit [] [] end [] h (kept.row, behind) kept.alike).0
+    let last : AreRows (asked_after limit front) (r ∷ []) [] [] = subst (λ (rs : List Row). AreRows (asked_after limit rs) (r ∷ []) [] []) (take-append_seam front (r ∷ [])) asked in
+    let kept = row_closed (asked_after limit front) r break new end [] last.0 f pairs n refl in
+    let after : AreRows (limit_after (closed_by break r)) new end [] = subst (λ (l : Limit). AreRows l new end []) (sym (limit_closed break r)) n in
+    (chain front (r ∷ []) (closed_by break r ∷ new) limit [] [] end [] h (kept.row, after) kept.alike).0

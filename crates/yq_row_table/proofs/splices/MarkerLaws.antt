@@ -7,7 +7,7 @@ use Rattle.yq_row_table.specs.Grammar.{IsPart, IsMarkerLine, begins_document, Ar
 use Rattle.yq_row_table.specs.Rows.{Part, part_text, Cut, last, marked, cut_text}
 use Rattle.yq_row_table.{specs.Appending.{is_one_break, last_marker, with_last_part, PartFits}, specs.Splices.CutsItsText}
 use Rattle.yq_row_table.{proofs.AlikeRows.{part_alike, part_text_alike}, proofs.CharacterLaws.pairs_back}
-use Rattle.yq_row_table.{proofs.ExchangeLaws.{CutExchanged, marked_behind}, proofs.NothingLaws.tail_apart, proofs.PlaceLaws.part_then}
+use Rattle.yq_row_table.{proofs.ExchangeLaws.{CutExchanged, marked_after}, proofs.NothingLaws.tail_apart, proofs.PlaceLaws.part_then}
 use Rattle.yq_row_table.{proofs.seams.SeamLaws.tail_line, proofs.seams.MarkerSeams.{three_lines, marker_byte}}
 use Rattle.yq_row_table.{proofs.seams.TailLaws.tail_closed, proofs.ItemCuts.no_marker}
 
@@ -66,7 +66,7 @@ parts_closed (last q) started p marker new break h bare is pairs n = one_closed 
 parts_closed (marked q other c) started p marker new break h bare is pairs n =
     let d : Cut = marked q other c in
     let more : pairs_returns (cut_text d) ≡ true = pairs_back marker (cut_text d) (pairs_back (part_text p []) (marker ++ cut_text d) (ap pairs_returns (sym (part_then p [] (marker ++ cut_text d))) ∙ pairs)) in
-    marked_behind started p marker d (with_last_part break new d) h (parts_closed c (begins_document marker) q other new break h.2 bare is more n)
+    marked_after started p marker d (with_last_part break new d) h (parts_closed c (begins_document marker) q other new break h.2 bare is more n)
 
 pub marker_appended : (t : List ℕ) (c : Cut) (break : List ℕ) (new : Part) → IsCut t c → PartFits break new c → CutsItsText (with_last_part break new c)
 marker_appended t (last p) break new h f = absurd (false≢true (sym f.some))

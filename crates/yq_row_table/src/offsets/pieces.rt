@@ -10,7 +10,7 @@ use crate::offsets::Offsets;
 #[inline]
 fn piece(text: &str, before: usize, len: usize) -> &str
     requires before { IsCharBoundary text.now before }
-    requires behind { IsCharBoundary (drop before text.now) len }
+    requires after { IsCharBoundary (drop before text.now) len }
     ensures { result.now ≡ take len (drop before text.now) }
 {
     text.split_at(before).1.split_at(len).0

@@ -10,10 +10,10 @@ ghost use Rattle.yq_rows.specs.RowLaws.{AskAlike};
 /// A row before one text is a row before another one that may come after it: rows that begin where
 /// the row allows, and what its tail or block scalar asks.
 pub fn row_seamed()
-    ensures { (limit : Limit) (r : Row) (t : List ℕ) (behind : List Row) (end rest : List ℕ) →
+    ensures { (limit : Limit) (r : Row) (t : List ℕ) (after : List Row) (end rest : List ℕ) →
         IsRow limit r t →
-        MayFollowRows limit (r ∷ []) behind end rest →
-        IsRow limit r (rows_text behind (end ++ rest)) }
+        MayFollowRows limit (r ∷ []) after end rest →
+        IsRow limit r (rows_text after (end ++ rest)) }
 {}
 
 /// Rows after rows, exchanged for others: what the last row in front asks of the text after it.

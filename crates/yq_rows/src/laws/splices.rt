@@ -4,7 +4,7 @@ ghost use Rattle.yq_row_table.{specs.Counted.RowPlace, specs.Removal.{RepairFits
 ghost use Rattle.yq_row_table.{specs.Seams.{are_seamed, ends_in_block, ends_in_line}, specs.Splices.CutsItsText, specs.View.rows_of};
 ghost use Rattle.yq_rows.specs.RowSplices.{IsCutOfText, MayInsert, MayRemove, MayReplaceRows, MaySplice, RowSplice, cut_inserted};
 ghost use Rattle.yq_rows.specs.RowSplices.{cut_removed, cut_spliced};
-ghost use Rattle.yq_rows.specs.RowsBetween.{IsRowBetween, RowBetween, StandsForRow, TailFitsRow, TakesRowPlace};
+ghost use Rattle.yq_rows.specs.RowsBetween.{IsRowBetween, RowBetween, ReplacesRow, TailFitsRow, TakesRowPlace};
 ghost use Rattle.yq_rows.specs.RowLaws.{HasOldRows, HasNewRows, RowIsTaken, TailIsTaken};
 
 /// A cut, of which other rows are in the place of some, is a cut where they fit and the new text
@@ -29,7 +29,7 @@ pub fn row_replaced()
 /// One row exchanged for another one after the same gap and at the same column: the rows in front
 /// ask no more of it.
 pub fn row_exchanged()
-    ensures { (x : RowBetween) (new : Row) → IsRowBetween x → StandsForRow new x → RowIsTaken new x }
+    ensures { (x : RowBetween) (new : Row) → IsRowBetween x → ReplacesRow new x → RowIsTaken new x }
 {}
 
 /// A cut, of which a row has another tail that fits, is a cut where the new text may be.

@@ -63,7 +63,7 @@ mutual
   items_bytes : (d k : ℕ) (is : Items) (rest : List ℕ) → is_close k ≡ true → AreFlowItems d k is rest → 2 * items_among (items_tree is) + length rest ≤ length (flow_items_text k is rest)
   items_bytes d k none rest close h = omega arith
   items_bytes d k (item key n s is) rest close h =
-      let behind = flow_items_text k is rest in
+      let after = flow_items_text k is rest in
       let others = sep_bytes d k s is rest close h.3 h.4 (items_bytes d k is rest close h.4) in
-      let inside = node_bytes true (Some 0) d n (sep_text s behind) h.2 in
-      omega (arith, others, inside, key_bytes key (node_text n (sep_text s behind)) (is_empty_node n) h.1)
+      let inside = node_bytes true (Some 0) d n (sep_text s after) h.2 in
+      omega (arith, others, inside, key_bytes key (node_text n (sep_text s after)) (is_empty_node n) h.1)

@@ -4,7 +4,7 @@ use Rattle.std.{proofs.Common.{refl, sym, arith, ⊎_elim, length-append, rules,
 use Rattle.yq_core.{specs.Nodes.{FlowNode, node_text, IsFlowNode}, specs.Trees.{node_head, tree_of}, specs.Tree.{Node, Children}}
 use Rattle.yq_core.{specs.Block.{BlockText, block_text}, specs.Text.joined}
 use Rattle.yq_row_table.specs.Rows.{RowMark, Anchor, anchor_text, Content, Nothing, Inline, content_text, mark_text, dashes_text, Row}
-use Rattle.yq_row_table.specs.Rows.{behind_dashes, behind_gap, print_row, rows_text, Part, Cut, last, marked, cut_text, parent_indent}
+use Rattle.yq_row_table.specs.Rows.{after_dashes, following_gap, print_row, rows_text, Part, Cut, last, marked, cut_text, parent_indent}
 use Rattle.yq_row_table.specs.Grammar.{AreDashes, IsContent, IsMark, IsTail, IsRow, AreRows, AreParts, Limit, begins_document, limit_after}
 use Rattle.yq_row_table.{specs.Grammar.unlimited, specs.Gap.IsBreak}
 use Rattle.yq_outline.specs.Grammar.{IsNodeOutline, AreEntryLines, IsUnder, alone, mapping, sequence, no_more, entry, headed, missing}
@@ -116,9 +116,9 @@ mark_size : (m : RowMark) (c : Content) (rest : List ℕ) (left : ℕ) → IsMar
 mark_size rows.Bare c rest left h k = omega (arith, k)
 mark_size rows.Dash c rest left h k = omega (arith, k)
 mark_size (rows.Key key colon) c rest left h k =
-    let behind = content_text c rest in
+    let after = content_text c rest in
     let colon_is = h.colon_is in
-    rw colon_is.spelled (omega (arith, k, length-append key ((colon_is.white ++ 58 ∷ []) ++ behind), length-append (colon_is.white ++ 58 ∷ []) behind, length-append colon_is.white (58 ∷ [])))
+    rw colon_is.spelled (omega (arith, k, length-append key ((colon_is.white ++ 58 ∷ []) ++ after), length-append (colon_is.white ++ 58 ∷ []) after, length-append colon_is.white (58 ∷ [])))
 
 dashes_size : (above : List (List ℕ)) (column : ℕ) (dashes : List ℕ) (m : RowMark) (c : Content) (left end : ℕ) (t : List ℕ) → AreDashes dashes m →
     2 * of_mark (line_mark m) + (2 * of_head (head_of c) + left) ≤ length t + end → 2 * of_lines (lines_from above column dashes m c) + left ≤ length (dashes_text dashes t) + end
@@ -134,14 +134,14 @@ dashes_size above column (n ∷ ns) m c left end t are h =
 
 row_size : (limit : Limit) (r : Row) (rest : List ℕ) → IsRow limit r rest → 2 * of_lines (row_lines r) + length rest ≤ length (print_row r rest) + at_end rest
 row_size limit r rest h =
-    let inside = behind_dashes r rest in
+    let inside = after_dashes r rest in
     let content = content_size (parent_indent r) r.content rest h.content in
     let marked_so = mark_size r.mark r.content rest (2 * of_head (head_of r.content) + length rest) h.mark content in
     let dashed = dashes_size (comments.head_comment r.gap) r.column r.dashes r.mark r.content (length rest) (at_end rest) inside h.dashes marked_so in
-    omega (arith, dashed, length-append r.gap (behind_gap r rest), length-append (replicate r.column 32) (dashes_text r.dashes inside))
+    omega (arith, dashed, length-append r.gap (following_gap r rest), length-append (replicate r.column 32) (dashes_text r.dashes inside))
 
 -- no row follows the end of the text
-two_sizes : (x y size : ℕ) (behind rest : List ℕ) → 2 * x + length behind ≤ size + at_end behind → 2 * y + length rest ≤ length behind + at_end rest → 2 * (x + y) + length rest ≤ size + at_end rest
+two_sizes : (x y size : ℕ) (after rest : List ℕ) → 2 * x + length after ≤ size + at_end after → 2 * y + length rest ≤ length after + at_end rest → 2 * (x + y) + length rest ≤ size + at_end rest
 two_sizes x y size [] [] h k = omega (arith, h, k)
 two_sizes x y size [] (b ∷ bs) h k = omega (arith, h, k)
 two_sizes x y size (c ∷ cs) rest h k = omega (arith, h, k)
@@ -150,9 +150,9 @@ rows_size : (limit : Limit) (rs : List Row) (end rest : List ℕ) → AreRows li
     2 * of_lines (lines_of_rows rs) + length (end ++ rest) ≤ length (rows_text rs (end ++ rest)) + at_end (end ++ rest)
 rows_size limit [] end rest h = omega arith
 rows_size limit (r ∷ rs) end rest h =
-    let behind = rows_text rs (end ++ rest) in
+    let after = rows_text rs (end ++ rest) in
     rw (of_both (row_lines r) (lines_of_rows rs)) (
-    two_sizes (of_lines (row_lines r)) (of_lines (lines_of_rows rs)) _ behind (end ++ rest) (row_size limit r behind h.0) (rows_size (limit_after r) rs end rest h.1)
+    two_sizes (of_lines (row_lines r)) (of_lines (lines_of_rows rs)) _ after (end ++ rest) (row_size limit r after h.0) (rows_size (limit_after r) rs end rest h.1)
     )
 
 -- ---- documents
@@ -183,13 +183,13 @@ parts_size : (started is : Bool) (c : Cut) → AreParts started c → 2 * of_par
 parts_size started is (last p) h =
     omega (arith, of_parts_with is p [], rows_size unlimited p.rows p.end [] h.rows, end_size (p.end ++ []))
 parts_size started is (marked p marker c) h =
-    let behind = marker ++ cut_text c in
+    let after = marker ++ cut_text c in
     omega (
       arith,
       of_parts_with is p (parts_from (begins_document marker) c),
-      rows_size unlimited p.rows p.end behind h.0.rows,
-      end_size (p.end ++ behind),
-      length-append p.end behind,
+      rows_size unlimited p.rows p.end after h.0.rows,
+      end_size (p.end ++ after),
+      length-append p.end after,
       length-append marker (cut_text c),
       h.1.long,
       parts_size (begins_document marker) (begins_document marker) c h.2,

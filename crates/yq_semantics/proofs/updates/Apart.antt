@@ -8,7 +8,7 @@ use Rattle.yq_core.specs.Shapes.{AreItems, AreEntries, IsTree}
 use Rattle.yq_semantics.specs.NodeEdits.{NodeEdit, becomes, goes, NodeEdits, under, done_at, child_by, node_edit_inside, each_at_once}
 use Rattle.yq_semantics.{specs.NodeEdits.{at_once, same_path, and_at, done_by}, specs.Places.step_by, proofs.updates.AtOnce.one_more}
 use Rattle.yq_semantics.{proofs.ChildPlaces.{child_tree, children_tree}, proofs.PathLaws.{apart_root, bytes_refl, bytes_same}}
-use Rattle.yq_semantics.proofs.updates.Spares.{IsSpared, Spares, spares_root, spares_under, spares_behind, nothing, idle, child_done}
+use Rattle.yq_semantics.proofs.updates.Spares.{IsSpared, Spares, spares_root, spares_under, spares_after, nothing, idle, child_done}
 use Rattle.yq_semantics.proofs.updates.Spares.{node_edits_same, child_kept_or_gone}
 use Rattle.yq_semantics.{proofs.updates.Folds.{path_same, apart_irrefl, apart_sym}, proofs.updates.OneAt.one_becomes}
 
@@ -50,11 +50,11 @@ find_key k f free i (child label n cs) =
 
 find_item : (r m : ℕ) (f : NodeEdits) → f (Nth m ∷ []) ≡ None → ((i : ℕ) → f (Nth i ∷ []) ≡ Some goes → m < i) → (i : ℕ) → i + r ≡ m → (cs : Children) → AreItems cs → child_at (Nth r)
     (each_at_once f i cs) ≡ done_child (Nth m) f (child_at (Nth r) cs)
-find_item r m f free behind i is none items = refl
-find_item zero m f free behind i is (child label n cs) items = search (rules, child_done, find_past_item)
-find_item (suc r) m f free behind i is (child label n cs) items =
+find_item r m f free after i is none items = refl
+find_item zero m f free after i is (child label n cs) items = search (rules, child_done, find_past_item)
+find_item (suc r) m f free after i is (child label n cs) items =
     let next : suc i + r ≡ m = omega (arith, is) in
-    search (rules, child_done, find_past_item, find_item r m f free behind (suc i) next cs items.1)
+    search (rules, child_done, find_past_item, find_item r m f free after (suc i) next cs items.1)
 
 find_inside : (s : Step) (f : NodeEdits) → f (s ∷ []) ≡ None → ((m i : ℕ) → s ≡ Nth m → f (Nth i ∷ []) ≡ Some goes → m < i) → (n : Node) → IsTree n →
     child_at s (children_of (node_edit_inside f n)) ≡ done_child s f (child_at s (children_of n))
@@ -65,10 +65,10 @@ pub node_spared : (p : List Step) (f : NodeEdits) (n : Node) → IsTree n → Sp
 node_spared [] f n tree spared = ap Some (idle f n (λ q. nothing (f q) [] q (apart_root q) (spared q)))
 node_spared (s ∷ p) f n tree spared =
     let below : Spares (under s f) p = spares_under f s p spared in
-    let behind : (m i : ℕ) → s ≡ Nth m → f (Nth i ∷ []) ≡ Some goes → m < i =
-    λ m i is gone. spares_behind m i p (subst (λ (t : Step). Before (t ∷ p) (Nth i ∷ [])) is (subst (λ (d : Option NodeEdit). IsSpared d (s ∷ p) (Nth i ∷ [])) gone (spared (Nth i ∷ [])))) in
+    let after : (m i : ℕ) → s ≡ Nth m → f (Nth i ∷ []) ≡ Some goes → m < i =
+    λ m i is gone. spares_after m i p (subst (λ (t : Step). Before (t ∷ p) (Nth i ∷ [])) is (subst (λ (d : Option NodeEdit). IsSpared d (s ∷ p) (Nth i ∷ [])) gone (spared (Nth i ∷ [])))) in
     ap (λ (d : Option NodeEdit). node_at (s ∷ p) (done_at d n (node_edit_inside f n))) (spares_root f (s ∷ p) spared)
-    ∙ (ap (option_and_then (node_at p)) (find_inside s f (spares_root (under s f) p below) behind n tree)
+    ∙ (ap (option_and_then (node_at p)) (find_inside s f (spares_root (under s f) p below) after n tree)
     ∙ go (child_at s (children_of n)) (λ m is. node_spared p (under s f) m (child_tree s (children_of n) m (children_tree n tree) is) below))
   where
     go : (o : Option Node) → ((m : Node) → o ≡ Some m → node_at p (at_once (under s f) m) ≡ node_at p m) → option_and_then (node_at p) (done_child s f o) ≡ option_and_then (node_at p) o

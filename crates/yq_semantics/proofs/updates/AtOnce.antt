@@ -8,7 +8,7 @@ use Rattle.yq_core.specs.Shapes.{IsNew, AreItems, AreEntries, IsTree, AreTrees}
 use Rattle.yq_semantics.specs.NodeEdits.{step_to, NodeEdit, goes, NodeEdits, under, done_at, child_by, node_edit_inside, each_at_once}
 use Rattle.yq_semantics.{specs.NodeEdits.{at_once, same_path, and_at, at_child, here, one_at}, specs.Places.step_by}
 use Rattle.yq_semantics.proofs.PathLaws.{bytes_refl, bytes_same, to_nth, step_refl, step_other, apart_root}
-use Rattle.yq_semantics.proofs.updates.Spares.{node_edits_same, IsSpared, Spares, spares_under, nothing, spares_root, spares_behind}
+use Rattle.yq_semantics.proofs.updates.Spares.{node_edits_same, IsSpared, Spares, spares_under, nothing, spares_root, spares_after}
 use Rattle.yq_semantics.proofs.updates.Spares.{child_done, idle, child_kept_or_gone}
 
 -- none of the steps to these is this one
@@ -48,7 +48,7 @@ record More (s : Step) (x : NodeEdit) (p : List Step) (f g : NodeEdits) : Type 0
   at : f (s ∷ []) ≡ here x p
   free : g (s ∷ []) ≡ None
   within_it : (m : Node) → IsTree m → at_once (under s f) m ≡ one_at p x (at_once (under s g) m)
-  behind : (m i : ℕ) → s ≡ Nth m → g (Nth i ∷ []) ≡ Some goes → m < i
+  after : (m i : ℕ) → s ≡ Nth m → g (Nth i ∷ []) ≡ Some goes → m < i
 
 -- what is done where the step leads
 abbrev there : NodeEdit → List Step → Label → Node → Children → Children
@@ -189,6 +189,6 @@ one_more (s ∷ p) x f n tree spared =
       at = ap (λ (k : NodeEdits). k []) (and_under s p x f) ∙ and_here p x (under s f) (spares_root (under s f) p below);
       free = spares_root (under s f) p below;
       within_it = λ m is. ap (λ (k : NodeEdits). at_once k m) (and_under s p x f) ∙ one_more p x (under s f) m is below;
-      behind = λ m i is gone. spares_behind m i p (subst (λ (t : Step). Before (t ∷ p) (Nth i ∷ [])) is (subst (λ (d : Option NodeEdit). IsSpared d (s ∷ p) (Nth i ∷ [])) gone (spared (Nth i ∷ []))));
+      after = λ m i is gone. spares_after m i p (subst (λ (t : Step). Before (t ∷ p) (Nth i ∷ [])) is (subst (λ (d : Option NodeEdit). IsSpared d (s ∷ p) (Nth i ∷ [])) gone (spared (Nth i ∷ []))));
     } in
     cc (in_tree s x p (and_at (s ∷ p) x f) f more n tree)

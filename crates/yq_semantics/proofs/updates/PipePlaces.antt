@@ -42,5 +42,5 @@ are_in root [] h = tt
 are_in root (p ∷ ps) h = (h.0.1, are_in root ps h.1)
 
 -- the same, as it is reported
-pub places_stand : (doc : ℕ) (pipe : List Stage) (root : Node) (ps : List FoundPlace) → IsTree root → places doc pipe root ≡ gives ps → AreApart ps × AreIn root ps
-places_stand doc pipe root ps tree h = let good = places_apart doc pipe root ps tree h in (good.apart, are_in root ps good.sound)
+pub places_are_there : (doc : ℕ) (pipe : List Stage) (root : Node) (ps : List FoundPlace) → IsTree root → places doc pipe root ≡ gives ps → AreApart ps × AreIn root ps
+places_are_there doc pipe root ps tree h = let good = places_apart doc pipe root ps tree h in (good.apart, are_in root ps good.sound)

@@ -40,8 +40,8 @@ pub spares_root : (f : NodeEdits) (p : List Step) → Spares f p → f [] ≡ No
 spares_root f p h = search (rules, nothing, apart_root, apart_not_in)
 
 -- an item that goes comes after
-pub spares_behind : (m i : ℕ) (p : List Step) → Before (Nth m ∷ p) (Nth i ∷ []) → m < i
-spares_behind m i p h = search (rules, before_not_in)
+pub spares_after : (m i : ℕ) (p : List Step) → Before (Nth m ∷ p) (Nth i ∷ []) → m < i
+spares_after m i p h = search (rules, before_not_in)
 
 -- ---- where nothing is done
 

@@ -2,7 +2,7 @@ use Rattle.std.proofs.Common.{◌∙◌, Bool, Some, map, refl, sym, ap, subst, 
 use Rattle.yq_core.{specs.Entries.{entry_view, tree_step}, specs.Values.value_node, specs.View.inline_view}
 use Rattle.yq_core.specs.declared.inline.Inline.{Inline}
 use Rattle.yq_documents.specs.Located.{steps_of}
-use Rattle.yq_places.{specs.Standings.last_step, specs.FlowViews.collection_along}
+use Rattle.yq_places.{specs.Placements.last_step, specs.FlowViews.collection_along}
 use Rattle.yq_edit_laws.{specs.NearParts.{IsUniqueNode, head_with}, proofs.FlowAnswers.coll_found, proofs.FlowKeys.collection_unique}
 use Rattle.yq_edit_laws.proofs.PutAnswers.{puts_found}
 use Rattle.yq_semantics.specs.Operations.{operation_of}

@@ -1,7 +1,7 @@
 use Rattle.std.proofs.Common.{map, ap, ◌∙◌}
 use Rattle.yq_core.specs.Entries.{tree_step}
 use Rattle.yq_documents.specs.Located.{steps_of}
-use Rattle.yq_places.specs.Standings.{last_step}
+use Rattle.yq_places.specs.Placements.{last_step}
 use Rattle.yq_batch.proofs.RunAnswers.{ends_there}
 use Rattle.yq_batch.proofs.change.steps_in_head.Goals as goal
 

@@ -1,6 +1,6 @@
 use Rattle.std.proofs.Common.{List, ℕ, map, refl, ap, subst, ◌∙◌}
 use Rattle.yq_core.{specs.Entries.{parts_of, tree_step}, specs.View.inline_view}
-use Rattle.yq_places.specs.Standings.{last_step}
+use Rattle.yq_places.specs.Placements.{last_step}
 use Rattle.yq_batch.specs.LeftPlaces.{IsLeftPlace}
 use Rattle.yq_batch.proofs.gone.part_gone.Goals as goal
 
@@ -23,5 +23,5 @@ returns c = record {
   steps_are = refl;
   count = refl;
   after = refl;
-  behind = refl;
+  following = refl;
 }

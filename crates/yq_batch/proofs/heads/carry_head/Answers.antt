@@ -14,7 +14,7 @@ put_in_found-requires-clause-run c =
     let row = some_is (IsRowAt (cut_of c.go_along.new.self) c.in-Some.found.doc steps) c.in_ok-row.field-0 c.in-Some-2.row c.in_ok-row.ensures.row c.in-Some-2.is in
     subst (λ (u : List ℕ). RunsIn u c.in-Some.found c.args.run.now.run) (sym same)
     (head_run t c.args.last c.args.run.now.run c.in-Some.found.doc c.in-Some-2.row steps read c.requires.run (subst (λ (u : List ℕ). IsRowAt (cut_of u) c.in-Some.found.doc steps c.in-Some-2.row) along row)
-    (c.is_behind.ensures c.if-not-is_behind.false))
+    (c.comes_later.ensures c.if-not-comes_later.false))
 
 pub put_in_found-requires-clause-head : goal.put_in_found-requires-clause-head
 put_in_found-requires-clause-head c =

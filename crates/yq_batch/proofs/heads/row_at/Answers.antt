@@ -1,7 +1,7 @@
 use Rattle.std.proofs.Common.{List, map, subst}
 use Rattle.yq_core.{specs.Entries.tree_step, specs.Paths.Step}
 use Rattle.yq_documents.specs.Reading.{cut_of}
-use Rattle.yq_places.specs.StandingViews.{IsHeldRow}
+use Rattle.yq_places.specs.PlacementViews.{IsHeldRow}
 use Rattle.yq_batch.{specs.HeadRuns.IsRowAt, proofs.HeadRunLaws.{row_found, some_is}}
 use Rattle.yq_batch.proofs.heads.row_at.Goals as goal
 

@@ -9,7 +9,7 @@ pub returns-in_default-written-clause-ok : goal.returns-in_default-written-claus
 returns-in_default-written-clause-ok c =
     let h = subst (λ (o : Option RowPut). IfSome o (PutsInRow (op_meant c.args.at) (cut_of c.args.cut.now))) c.in-Some.is c.in_ok-found.ensures.puts in
     row_kept_on c.args.cut.now (whole c.text-text.result) (op_meant c.args.at) c.args.last c.args.run.now c.in-Some.found c.text-text.ensures.read c.text-text.ensures.text c.requires.run h
-    (c.is_behind.ensures c.if-not-is_behind.false) (omega (arith, c.if-start-run.false)) c.requires.fits (c.writes_same_break.ensures c.if-not-writes_same_break.false c.args.at.path.now) c.in_default-written.is
+    (c.comes_later.ensures c.if-not-comes_later.false) (omega (arith, c.if-start-run.false)) c.requires.fits (c.writes_same_break.ensures c.if-not-writes_same_break.false c.args.at.path.now) c.in_default-written.is
 
 pub put-requires-clause-edge : goal.put-requires-clause-edge
 put-requires-clause-edge c = row_edge c.args.cut.now (whole c.text-text.result) c.text-text.ensures.read c.text-text.ensures.text c.args.last c.args.run.now c.requires.run
@@ -34,7 +34,7 @@ returns-in_err-put-clause-err c =
     let h = subst (λ (o : Option RowPut). IfSome o (PutsInRow (op_meant c.args.at) (cut_of c.args.cut.now))) c.in-Some.is c.in_ok-found.ensures.puts in
     let p = err_from_is_err_and c.from_residual-in_err-put.result c.from_residual-in_err-put.ensures.1 in
     rw (p.1, p.2) (row_put_fails c.args.cut.now (whole c.text-text.result) (op_meant c.args.at) c.args.last c.args.run.now c.in-Some.found c.text-text.ensures.read c.text-text.ensures.text c.requires.run h
-    (c.is_behind.ensures c.if-not-is_behind.false) (omega (arith, c.if-start-run.false)) c.requires.fits
+    (c.comes_later.ensures c.if-not-comes_later.false) (omega (arith, c.if-start-run.false)) c.requires.fits
     (c.writes_same_break.ensures c.if-not-writes_same_break.false c.args.at.path.now) c.in-Some-written.written c.in-Some-written.is c.in_err-put.field-0.0
     c.in_err-put.ensures.err)
 
@@ -42,6 +42,6 @@ pub returns-clause-ok : goal.returns-clause-ok
 returns-clause-ok c =
     let h = subst (λ (o : Option RowPut). IfSome o (PutsInRow (op_meant c.args.at) (cut_of c.args.cut.now))) c.in-Some.is c.in_ok-found.ensures.puts in
     row_put_on c.args.cut.now (whole c.text-text.result) (op_meant c.args.at) c.args.last c.args.run.now c.in-Some.found c.text-text.ensures.read c.text-text.ensures.text c.requires.run h
-    (c.is_behind.ensures c.if-not-is_behind.false) (omega (arith, c.if-start-run.false)) c.requires.fits
+    (c.comes_later.ensures c.if-not-comes_later.false) (omega (arith, c.if-start-run.false)) c.requires.fits
     (c.writes_same_break.ensures c.if-not-writes_same_break.false c.args.at.path.now) c.in-Some-written.written c.in-Some-written.is c.put.new.self
     c.in_ok-put.ensures.ok

@@ -8,7 +8,7 @@ returns-then-index-count-2 c =
     IfSome_then c.before_other.result c.before_other.ensures (λ x goes.
     goes_up_to c.args.text.now (parts_of (inline_view c.args.node.now)) c.args.index c.args.count c.args.after c.in-Some.start c.in-Some.end c.in-Some-part_place.next c.in-Some-part_place.field-0-1 c.begins_marker.result x
     (sym c.part_place.ensures ∙ c.in-Some.is) (sym c.part_place-then-index-count-2.ensures ∙ c.in-Some-part_place.is) (omega (arith, c.if-index-count-2.true))
-    (λ _. ap begins_marker (sym c.behind.ensures) ∙ sym c.begins_marker.ensures) (λ same. absurd (omega (arith, same, c.if-index-count-2.true))) goes)
+    (λ _. ap begins_marker (sym c.bytes_after.ensures) ∙ sym c.begins_marker.ensures) (λ same. absurd (omega (arith, same, c.if-index-count-2.true))) goes)
 
 pub returns-in-Some-after : goal.returns-in-Some-after
 returns-in-Some-after c =

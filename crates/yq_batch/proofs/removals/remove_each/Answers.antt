@@ -2,7 +2,7 @@ use Rattle.std.{proofs.Common.{◌≡◌, ◌∙◌, ℕ, List, Option, length, 
 use Rattle.yq_text.specs.TextGapBuffer.{buffer_text}
 use Rattle.yq_semantics.specs.Operations.{operation_of, operations_of}
 use Rattle.yq_edit_laws.{specs.Carried.carry_all, specs.Edit.edit_after, specs.Valid.AreServed}
-use Rattle.yq_edit_laws.{proofs.OperationsLaws.{first_fits, others_come, others_served}, proofs.OrderLaws.behind_none}
+use Rattle.yq_edit_laws.{proofs.OperationsLaws.{first_fits, others_come, others_served}, proofs.OrderLaws.following_none}
 use Rattle.yq_batch.{specs.Runs.{cut_with, stem_of}, specs.RemovalRuns.RemovesOn, specs.declared.gone.LeftOf.LeftOf}
 use Rattle.yq_batch.proofs.RemovalAnswers.{removals_begin}
 use Rattle.yq_batch.proofs.removals.remove_each.Goals as goal
@@ -12,7 +12,7 @@ operations-init c =
     let t : List ℕ = c.args.at.now.cut.now in
     let text : buffer_text c.in_ok-run.run'.text ≡ t = c.in_ok-run.ensures.text ∙ c.text.ensures.text in
     record {
-      whole = (λ i. edit_after (c.in_ok-run.ensures.splices i) (carry_all (operations_of c.args.ops.now) (text i))) ∙ behind_none (carry_all (operations_of c.args.ops.now) t);
+      whole = (λ i. edit_after (c.in_ok-run.ensures.splices i) (carry_all (operations_of c.args.ops.now) (text i))) ∙ following_none (carry_all (operations_of c.args.ops.now) t);
       serves = subst (AreServed (operations_of c.args.ops.now)) (sym text) c.requires.serves;
       runs = removals_begin t c.args.at.now.doc (stem_of c.args.at.now) c.in_ok-run.run' c.requires.there.read c.requires.there.reports.leads text (c.in_ok-run.ensures.keep ∙ ap length c.text.ensures.text);
     }

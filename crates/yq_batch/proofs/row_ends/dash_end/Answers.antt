@@ -1,6 +1,6 @@
 use Rattle.std.proofs.Common.{◌∙◌, length, refl, ap}
 use Rattle.yq_documents.specs.Located.{steps_of}
-use Rattle.yq_places.specs.StandingViews.{lines_view}
+use Rattle.yq_places.specs.PlacementViews.{lines_view}
 use Rattle.yq_batch.proofs.RowEndAnswers.{dash_there}
 use Rattle.yq_batch.proofs.row_ends.dash_end.Goals as goal
 

@@ -1,6 +1,6 @@
 use Rattle.std.proofs.Common.{◌∙◌, length, refl, ap, arith}
 use Rattle.yq_documents.specs.Located.{steps_of}
-use Rattle.yq_places.specs.StandingViews.{held_view}
+use Rattle.yq_places.specs.PlacementViews.{held_view}
 use Rattle.yq_batch.proofs.RowEndAnswers.{under_there}
 use Rattle.yq_batch.proofs.row_ends.under_end.Goals as goal
 

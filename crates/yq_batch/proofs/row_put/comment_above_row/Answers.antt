@@ -1,5 +1,5 @@
 use Rattle.std.{proofs.Common.{option_map, Some, ◌+◌, ℕ, length, refl, sym, ap, ◌∙◌, subst, arith}, specs.Str.IsUtf8}
-use Rattle.yq_places.specs.StandingViews.{piece_view}
+use Rattle.yq_places.specs.PlacementViews.{piece_view}
 use Rattle.yq_batch.proofs.RowHeadLaws.{above_fits, head_comment_puts_there}
 use Rattle.yq_batch.proofs.row_put.comment_above_row.Goals as goal
 

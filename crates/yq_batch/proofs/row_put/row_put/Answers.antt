@@ -1,7 +1,7 @@
 use Rattle.std.{proofs.Common.{ℕ, List, sym, subst}, specs.Prelude.IfSome}
 use Rattle.yq_documents.{specs.Located.steps_of, specs.Reading.cut_of}
 use Rattle.yq_lookup.specs.PathLines.{IsLineOf}
-use Rattle.yq_places.specs.StandingViews.{IsHeldRow}
+use Rattle.yq_places.specs.PlacementViews.{IsHeldRow}
 use Rattle.yq_batch.proofs.row_put.row_put.Goals as goal
 
 pub value_in_row-requires-clause-row : goal.value_in_row-requires-clause-row

@@ -4,7 +4,7 @@ use Rattle.yq_text.specs.TextGapBuffer.{buffer_text}
 use Rattle.yq_core.specs.Entries.{tree_step}
 use Rattle.yq_semantics.{specs.Operations.Operation, specs.declared.op.Op.Op, specs.Under.ops_under}
 use Rattle.yq_documents.specs.Reading.{cut_of}
-use Rattle.yq_edit_laws.{specs.Carried.{carried, carry_all}, specs.Edit.edit_after, specs.Valid.AreServed, proofs.OrderLaws.behind_none}
+use Rattle.yq_edit_laws.{specs.Carried.{carried, carry_all}, specs.Edit.edit_after, specs.Valid.AreServed, proofs.OrderLaws.following_none}
 use Rattle.yq_edit_laws.{specs.Answers.EditFails, specs.Theorems.IsFitting}
 use Rattle.yq_batch.proofs.UnderLaws.{first_fails, first_fits, others_come, others_served}
 use Rattle.yq_batch.{specs.RowRemovals.{GoesOnWithout, RemovesBeside, RemovesRows}, proofs.RowRunBegins.row_run_begins}
@@ -18,7 +18,7 @@ operations-init c =
     record {
       same = c.again-way.ensures;
       begins = c.in_ok-path.ensures;
-      whole = (λ i. edit_after (c.in_ok-run.ensures.splices i) (carry_all (ops_under c.args.front.now c.args.ops.now) (text i))) ∙ behind_none (carry_all (ops_under c.args.front.now c.args.ops.now) t);
+      whole = (λ i. edit_after (c.in_ok-run.ensures.splices i) (carry_all (ops_under c.args.front.now c.args.ops.now) (text i))) ∙ following_none (carry_all (ops_under c.args.front.now c.args.ops.now) t);
       serves = subst (AreServed (ops_under c.args.front.now c.args.ops.now)) (sym text) c.requires;
       runs = row_run_begins t c.args.from.0 (map tree_step c.args.front.now ++ map tree_step c.args.from.1.now) c.in_ok-run.run' c.text.ensures.read text (c.in_ok-run.ensures.keep ∙ ap length c.text.ensures.text);
     }

@@ -1,7 +1,7 @@
 use Rattle.std.proofs.Common.{map, sym, ap, ◌∙◌, List, Some}
 use Rattle.yq_core.{specs.Entries.tree_step, specs.Paths.Step}
 use Rattle.yq_documents.specs.Located.{steps_of}
-use Rattle.yq_places.specs.Standings.{last_step}
+use Rattle.yq_places.specs.Placements.{last_step}
 use Rattle.yq_semantics.specs.Operations.{operation_of, remove}
 use Rattle.yq_batch.proofs.row_removals.takes_from.Goals as goal
 

@@ -2,7 +2,7 @@ use Rattle.std.proofs.Common.{rules, ◌≡◌, ℕ, Some, option_map, sym, ap, 
 use Rattle.yq_core.specs.BlockWritten.{break_text}
 use Rattle.yq_row_table.specs.Rows.{cut_text}
 use Rattle.yq_documents.{specs.Located.steps_of, specs.Pieces.TextPiece, specs.Reading.cut_of}
-use Rattle.yq_places.{specs.CommentPlaces.lines_above, specs.FirstBreak.first_break, specs.StandingViews.piece_view}
+use Rattle.yq_places.{specs.CommentPlaces.lines_above, specs.FirstBreak.first_break, specs.PlacementViews.piece_view}
 use Rattle.yq_edit_rules.{specs.Answers.GivesSegments, specs.CommentEdits.head_comment_segments}
 use Rattle.yq_block_edits.proofs.AboveLaws.{head_there}
 use Rattle.yq_block_edits.proofs.head_comment.head_comment_at.Goals as goal

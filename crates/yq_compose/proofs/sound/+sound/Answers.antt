@@ -21,30 +21,30 @@ pub check_line-returns-in-Err-clause-sound : goal.check_line-returns-in-Err-clau
 check_line-returns-in-Err-clause-sound t c = λ r l is.
     let h = r.document in
     let same = sym (c.requires.at.agrees c.requires.line.upto h l is) ∙ c.if-level-n.false in
-    let none = (λ i. has_no_lines (part (lines_of_rows h.rows) (sym (c.line_behind-after.ensures.number h) i) (same i))) ∙ is_at_end _ (c.if-not-is_deeper.ensures.test h) in
+    let none = (λ i. has_no_lines (part (lines_of_rows h.rows) (sym (c.line_after-after.ensures.number h) i) (same i))) ∙ is_at_end _ (c.if-not-is_deeper.ensures.test h) in
     denies_as c.in-Err.e _ _ (λ bad. alone_sound c.args.depth c.args.n l _ same none ∙ bad) (c.in-Err.ensures.sound r l is)
 
 pub check_line-returns-in-Ok-clause-sound : goal.check_line-returns-in-Ok-clause-sound
 check_line-returns-in-Ok-clause-sound t c = λ r l is.
     let h = r.document in
     let same = sym (c.requires.at.agrees c.requires.line.upto h l is) ∙ c.if-level-n.false in
-    let none = (λ i. has_no_lines (part (lines_of_rows h.rows) (sym (c.line_behind-after.ensures.number h) i) (same i))) ∙ is_at_end _ (c.if-not-is_deeper.ensures.test h) in
+    let none = (λ i. has_no_lines (part (lines_of_rows h.rows) (sym (c.line_after-after.ensures.number h) i) (same i))) ∙ is_at_end _ (c.if-not-is_deeper.ensures.test h) in
     alone_sound c.args.depth c.args.n l _ same none ∙ c.in-Ok.ensures.sound r l is
 
 pub check_line-returns-in-Ok-clause-reached : goal.check_line-returns-in-Ok-clause-reached
-check_line-returns-in-Ok-clause-reached t c = c.line_behind-after.ensures.reached
+check_line-returns-in-Ok-clause-reached t c = c.line_after-after.ensures.reached
 
-pub check_line-returns-in-Ok-clause-behind : goal.check_line-returns-in-Ok-clause-behind
-check_line-returns-in-Ok-clause-behind t c =
+pub check_line-returns-in-Ok-clause-after : goal.check_line-returns-in-Ok-clause-after
+check_line-returns-in-Ok-clause-after t c =
     let x = c.args.x in
-    gives_alone x.rows.now x.document c.args.at.position c.line_behind-after.result.position c.args.n c.requires.ready.document c.requires.line c.line_behind-after.ensures.reached.position c.line_behind-after.ensures.number
+    gives_alone x.rows.now x.document c.args.at.position c.line_after-after.result.position c.args.n c.requires.ready.document c.requires.line c.line_after-after.ensures.reached.position c.line_after-after.ensures.number
     (λ h l is. sym c.if-level-n.false ∙ c.requires.at.agrees c.requires.line.upto h l is) (λ h. is_at_end _ (c.if-not-is_deeper.ensures.test h))
 
 pub check_line-returns-then-has_head-clause-sound : goal.check_line-returns-then-has_head-clause-sound
 check_line-returns-then-has_head-clause-sound t c = λ r l is.
     let h = r.document in
     let same = sym (c.requires.at.agrees c.requires.line.upto h l is) ∙ c.if-level-n.false in
-    let some = (λ i. has_no_lines (part (lines_of_rows h.rows) (sym (c.line_behind-after.ensures.number h) i) (same i))) ∙ not_end _ (c.if-not-is_deeper.ensures.test h) in
+    let some = (λ i. has_no_lines (part (lines_of_rows h.rows) (sym (c.line_after-after.ensures.number h) i) (same i))) ∙ not_end _ (c.if-not-is_deeper.ensures.test h) in
     both_there c.args.depth c.args.n l _ (c.if-has_head.ensures h l is) some
 
 pub check_line-returns-clause-sound : goal.check_line-returns-clause-sound
@@ -52,25 +52,25 @@ check_line-returns-clause-sound t c = λ r l is.
     let h = r.document in
     let same = sym (c.requires.at.agrees c.requires.line.upto h l is) ∙ c.if-level-n.false in
     decides_as c.check_lines.result _ _
-    ((λ i. is_sound_outline c.args.depth (part (lines_of_rows h.rows) (c.line_behind-after.ensures.number h i) (sym same i))) ∙ under_sound c.args.depth c.args.n l _ same (c.if-has_head.ensures h l is))
+    ((λ i. is_sound_outline c.args.depth (part (lines_of_rows h.rows) (c.line_after-after.ensures.number h i) (sym same i))) ∙ under_sound c.args.depth c.args.n l _ same (c.if-has_head.ensures h l is))
     (c.check_lines.ensures.sound r)
 
-pub check_line-returns-clause-behind : goal.check_line-returns-clause-behind
-check_line-returns-clause-behind t c =
+pub check_line-returns-clause-after : goal.check_line-returns-clause-after
+check_line-returns-clause-after t c =
     let x = c.args.x in
     IfOk-weaker c.check_lines.result _ _
     (λ q g.
-    gives_end x.rows.now x.document c.args.at.position c.line_behind-after.result.position q.position c.args.n c.requires.ready.document c.requires.line c.line_behind-after.ensures.reached.position c.line_behind-after.ensures.number
+    gives_end x.rows.now x.document c.args.at.position c.line_after-after.result.position q.position c.args.n c.requires.ready.document c.requires.line c.line_after-after.ensures.reached.position c.line_after-after.ensures.number
     (λ h l is. sym c.if-level-n.false ∙ c.requires.at.agrees c.requires.line.upto h l is) (λ h. not_end _ (c.if-not-is_deeper.ensures.test h)) g)
-    c.check_lines.ensures.behind
+    c.check_lines.ensures.after
 
 -- lines that are deeper than a level
 pub check_lines-returns-then-not-is_deeper-clause-sound : goal.check_lines-returns-then-not-is_deeper-clause-sound
 check_lines-returns-then-not-is_deeper-clause-sound t c = λ r.
     let h = r.document in none_sound c.args.depth _ (is_at_end _ (c.if-not-is_deeper.ensures.test h))
 
-pub check_lines-returns-then-not-is_deeper-clause-behind : goal.check_lines-returns-then-not-is_deeper-clause-behind
-check_lines-returns-then-not-is_deeper-clause-behind t c =
+pub check_lines-returns-then-not-is_deeper-clause-after : goal.check_lines-returns-then-not-is_deeper-clause-after
+check_lines-returns-then-not-is_deeper-clause-after t c =
     gives_none c.args.x.rows.now c.args.x.document c.args.start.position c.args.floor c.requires.start.position (λ h. is_at_end _ (c.if-not-is_deeper.ensures.test h))
 
 pub check_lines-is_bare-requires-clause-line : goal.check_lines-is_bare-requires-clause-line
@@ -139,7 +139,7 @@ pub check_lines-lines-preserved : goal.check_lines-lines-preserved
 check_lines-lines-preserved t c =
     let x = c.args.x in
     let at = position_line x.rows.now x.document c.lines.at.position c.lines.invariant.at.position (c.lines-test.ensures.some refl) in
-    let g = c.in-Ok.ensures.behind in
+    let g = c.in-Ok.ensures.after in
     record {
       at = c.in-Ok.ensures.reached;
       moved = moved_on c.args.start.position c.lines.at.position c.in-Ok.after.position c.lines.invariant.moved g.later;
@@ -170,8 +170,8 @@ check_lines-returns-clause-sound t c = λ r.
     let h = r.document in
     c.lines.invariant.so_far r ∙ (no_more (c.args.depth - 1) _ (drop c.len-others.result (key_texts c.lines.keys.items)) _ (c.lines-test.ensures.test h) ∙ distinct_agrees _ _ c.if-not-take_distinct.ensures.differ)
 
-pub check_lines-returns-clause-behind : goal.check_lines-returns-clause-behind
-check_lines-returns-clause-behind t c =
+pub check_lines-returns-clause-after : goal.check_lines-returns-clause-after
+check_lines-returns-clause-after t c =
     gives_all c.args.x.rows.now c.args.x.document c.args.start.position c.lines.at.position c.args.floor c.lines.invariant.at.position c.lines.invariant.stop c.lines.invariant.moved (λ h. is_at_end _ (c.lines-test.ensures.test h))
 
 pub check_lines-returns-clause-reached : goal.check_lines-returns-clause-reached
@@ -186,7 +186,7 @@ check_lines-check_line-requires t c =
     (omega (arith, c.lines.invariant.more), (c.requires.ready, (c.lines.invariant.at, line)))
 
 pub check_line-check_lines-requires : goal.check_line-check_lines-requires
-check_line-check_lines-requires t c = (omega arith, (c.requires.ready, c.line_behind-after.ensures.reached))
+check_line-check_lines-requires t c = (omega arith, (c.requires.ready, c.line_after-after.ensures.reached))
 
 pub check_lines-returns-then-not-take_distinct-clause-fault : goal.check_lines-returns-then-not-take_distinct-clause-fault
 check_lines-returns-then-not-take_distinct-clause-fault t c = c.row_fault-then-not-take_distinct.ensures

@@ -12,7 +12,7 @@ pub returns-then-is_deeper-clause-sound : goal.returns-then-is_deeper-clause-sou
 returns-then-is_deeper-clause-sound c = λ r l is.
     let h = r.document in
     bare_under _ _ (head_is_sound c.args.depth l.head)
-    (ap (λ m. has_no_lines (part (lines_of_rows h.rows) m c.args.floor)) (sym (c.line_behind-after.ensures.number h)) ∙ not_end _ (c.if-is_deeper.ensures.test h))
+    (ap (λ m. has_no_lines (part (lines_of_rows h.rows) m c.args.floor)) (sym (c.line_after-after.ensures.number h)) ∙ not_end _ (c.if-is_deeper.ensures.test h))
 
 pub returns-in-Err-clause-sound : goal.returns-in-Err-clause-sound
 returns-in-Err-clause-sound c = λ r l is.
@@ -25,14 +25,14 @@ pub returns-in-Ok-clause-sound : goal.returns-in-Ok-clause-sound
 returns-in-Ok-clause-sound c = λ r l is.
     let h = r.document in
     bare_passes _ _ _ (c.if-not-has_head.ensures h l is)
-    (ap (λ m. has_no_lines (part (lines_of_rows h.rows) m c.args.floor)) (sym (c.line_behind-after.ensures.number h)) ∙ is_at_end _ (c.if-is_deeper.ensures.test h))
+    (ap (λ m. has_no_lines (part (lines_of_rows h.rows) m c.args.floor)) (sym (c.line_after-after.ensures.number h)) ∙ is_at_end _ (c.if-is_deeper.ensures.test h))
     (c.in-Ok.ensures.sound r l is)
 
-pub returns-in-Ok-clause-behind : goal.returns-in-Ok-clause-behind
-returns-in-Ok-clause-behind c =
-    gives_bare c.args.x.rows.now c.args.x.document c.args.at.position c.line_behind-after.result.position c.args.floor c.requires.line
-    c.line_behind-after.ensures.reached.position c.line_behind-after.ensures.number c.if-not-has_head.ensures c.requires.deep
+pub returns-in-Ok-clause-after : goal.returns-in-Ok-clause-after
+returns-in-Ok-clause-after c =
+    gives_bare c.args.x.rows.now c.args.x.document c.args.at.position c.line_after-after.result.position c.args.floor c.requires.line
+    c.line_after-after.ensures.reached.position c.line_after-after.ensures.number c.if-not-has_head.ensures c.requires.deep
     (λ h. is_at_end _ (c.if-is_deeper.ensures.test h))
 
 pub returns-in-Ok-clause-reached : goal.returns-in-Ok-clause-reached
-returns-in-Ok-clause-reached c = c.line_behind-after.ensures.reached
+returns-in-Ok-clause-reached c = c.line_after-after.ensures.reached

@@ -5,5 +5,5 @@ use Rattle.yq_compose.proofs.sound.repeated_line.Goals as goal
 pub line_key-requires-clause-line : goal.line_key-requires-clause-line
 line_key-requires-clause-line c = position_line c.args.x.rows.now c.args.x.document c.lines.at c.lines.invariant (c.lines-test.ensures.some refl)
 
-pub behind-at-requires-clause-position : goal.behind-at-requires-clause-position
-behind-at-requires-clause-position c = position_line c.args.x.rows.now c.args.x.document c.lines.at c.lines.invariant (c.lines-test.ensures.some refl)
+pub position_after-at-requires-clause-position : goal.position_after-at-requires-clause-position
+position_after-at-requires-clause-position c = position_line c.args.x.rows.now c.args.x.document c.lines.at c.lines.invariant (c.lines-test.ensures.some refl)

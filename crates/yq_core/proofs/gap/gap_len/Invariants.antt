@@ -10,5 +10,5 @@ abbrev pub invariant-bytes : goal.invariant-bytes
 invariant-bytes l = record {
   within : l.n + length l.rest ≡ length l.text;
   so_far : l.n + spec.flow_gap_len l.before l.rest ≡ spec.flow_gap_len Token l.text;
-  stands : spec.gap_end l.before l.rest ≡ spec.gap_end Token l.text;
+  is_located : spec.gap_end l.before l.rest ≡ spec.gap_end Token l.text;
 }

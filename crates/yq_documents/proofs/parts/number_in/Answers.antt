@@ -14,4 +14,4 @@ parts-preserved c =
     c.parts.invariant
     ∙ (part_later c.parts.is_document c.parts.left c.parts.at (bound_view c.part-bound.result) (drop c.parts.at bs) (drop (c.parts.at + 1) bs)
     (drop_at bs c.parts.at (bound_view c.part-bound.result) c.part-bound.ensures) c.if-is_sought.ensures
-    ∙ (λ j. number_in (sym begins j) (sym c.left_behind-left.ensures j) (c.parts.at + 1) (drop (c.parts.at + 1) bs)))
+    ∙ (λ j. number_in (sym begins j) (sym c.left_past-left.ensures j) (c.parts.at + 1) (drop (c.parts.at + 1) bs)))

@@ -1,6 +1,6 @@
 use Rattle.std.proofs.Common.{map, option_map, refl, sym, ap, ◌∙◌, arith}
 use Rattle.yq_core.{specs.Entries.{entry_view, tree_step}, specs.View.inline_view}
-use Rattle.yq_places.specs.FlowViews.{behind_anchor}
+use Rattle.yq_places.specs.FlowViews.{following_anchor}
 use Rattle.yq_edit_laws.proofs.NearCollections.{ended, goes_on, no_own_along, none_along, own_along, part_unique, stops}
 use Rattle.yq_edit_laws.proofs.near.collection_near.Goals as goal
 
@@ -12,7 +12,7 @@ part_at_depth-requires c = c.steps.invariant.unique
 
 pub returns-in_err-found : goal.returns-in_err-found
 returns-in_err-found c =
-    ap (option_map (λ n. behind_anchor (inline_view n.now))) c.from_residual.ensures
+    ap (option_map (λ n. following_anchor (inline_view n.now))) c.from_residual.ensures
     ∙ none_along (map tree_step c.args.steps.now) (inline_view c.args.node.now) (stops c.steps.rest.now c.step-item.result (entry_view c.steps.found) _ c.in-len1-up.len_at_least c.step-item.is c.in_err-found.ensures c.steps.invariant.leads)
 
 pub steps-preserved : goal.steps-preserved

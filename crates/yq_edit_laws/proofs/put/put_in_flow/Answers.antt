@@ -2,7 +2,7 @@ use Rattle.std.proofs.Common.{◌∙◌, ℕ, List, Some, map, sym, ap, subst, r
 use Rattle.yq_text.specs.Halves.{whole}
 use Rattle.yq_core.{specs.Entries.tree_step, specs.Values.value_node}
 use Rattle.yq_documents.{specs.Located.steps_of, specs.Reading.cut_of}
-use Rattle.yq_places.specs.Standings.{last_step}
+use Rattle.yq_places.specs.Placements.{last_step}
 use Rattle.yq_edit_rules.specs.Answers.{GivesSegments}
 use Rattle.yq_edit_laws.{specs.EditPlaces.LiesIn, specs.PartPuts.place_after, proofs.FlowAnswers.whole_text}
 use Rattle.yq_edit_laws.proofs.PartAnswers.{content_missing, part_found, puts_found}

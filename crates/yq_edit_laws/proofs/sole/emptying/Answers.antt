@@ -1,7 +1,7 @@
 use Rattle.std.proofs.Common.{map, option_map, sym, ap, ◌∙◌, rules}
 use Rattle.yq_core.specs.Entries.{tree_step}
 use Rattle.yq_documents.{specs.Located.steps_of, specs.Reading.cut_of}
-use Rattle.yq_places.{specs.NodesAt.node_view, specs.Standings.last_step}
+use Rattle.yq_places.{specs.NodesAt.node_view, specs.Placements.last_step}
 use Rattle.yq_edit_laws.{specs.Emptying.emptying, proofs.EmptyingAnswers.{emptied_above, put_at}}
 use Rattle.yq_edit_laws.proofs.sole.emptying.Goals as goal
 

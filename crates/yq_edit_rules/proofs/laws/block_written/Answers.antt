@@ -3,7 +3,7 @@ use Rattle.yq_outline.{proofs.ByRules.rules_give, specs.Lines.lines_of_rows}
 use Rattle.yq_core.specs.FitKeys.{key_limit}
 use Rattle.yq_edit_rules.{specs.BlockRows.node_rows, specs.BlockValues.level_at, proofs.CharacterLaws.value_sound}
 use Rattle.yq_edit_rules.{proofs.FitLaws.{node_fit, keys_fit, anchors_fit}, proofs.KeyLaws.near_key}
-use Rattle.yq_edit_rules.{proofs.LaidRows.{laid_rows, laid_follow}, proofs.BlockLineLaws.{node_stands, lines_deeper}}
+use Rattle.yq_edit_rules.{proofs.LaidRows.{laid_rows, laid_follow}, proofs.BlockLineLaws.{node_is_there, lines_deeper}}
 use Rattle.yq_edit_rules.{proofs.RowLaws.value_laid, proofs.ScalarLaws.{Heads, heads}, proofs.TextLaws.value_spelled}
 use Rattle.yq_edit_rules.proofs.laws.block_written.Goals as goal
 
@@ -20,7 +20,7 @@ pub returns-clause-follow : goal.returns-clause-follow
 returns-clause-follow c = λ v l column k end rest limit h within. laid_follow column (node_rows l column end v) rest limit k (value_laid v l column end rest h) within
 
 pub returns-clause-lines : goal.returns-clause-lines
-returns-clause-lines c = λ v l column end step h uncommented. rules_give (level_at column v) (lines_of_rows (node_rows l column end v)) v (node_stands v l column end step h.filled h.value uncommented)
+returns-clause-lines c = λ v l column end step h uncommented. rules_give (level_at column v) (lines_of_rows (node_rows l column end v)) v (node_is_there v l column end step h.filled h.value uncommented)
 
 pub returns-clause-fit : goal.returns-clause-fit
 returns-clause-fit c = λ v l column end h. let fit = node_fit v l column end h in (keys_fit (node_rows l column end v) fit, anchors_fit (node_rows l column end v) fit)

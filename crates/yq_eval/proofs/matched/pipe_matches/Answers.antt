@@ -2,7 +2,7 @@ use Rattle.std.{proofs.Common.{◌<◌, List, length, map, Err, ap, sym, ◌∙�
 use Rattle.yq_core.specs.Tree.{Node}
 use Rattle.yq_documents.{specs.Documents.{Document, document_parts}, specs.Reading.{cut_of, documents_of}}
 use Rattle.yq_semantics.{specs.Copies.{matches, matches_in}, specs.Judgement.MatchFails, specs.View.stage_of}
-use Rattle.yq_eval.{specs.MatchView.matches_of, specs.PlaceView.put_behind, specs.TreeScalars.HasScalars, proofs.EachLaws.failed}
+use Rattle.yq_eval.{specs.MatchView.matches_of, specs.PlaceView.put_after, specs.TreeScalars.HasScalars, proofs.EachLaws.failed}
 use Rattle.yq_eval.{proofs.MatchLaws.{document_there, document_more, document_fails, documents_done}, proofs.TreeScalarLaws.documents_have}
 use Rattle.yq_eval.proofs.matched.pipe_matches.Goals as goal
 
@@ -23,7 +23,7 @@ returns-in_err-push_document c =
     failed _ _ _ _ (p.1 ∙ ap Err p.2)
     (document_fails (map stage_of c.args.pipe.now) docs c.documents.doc d.0 (matches_of c.documents.matches.items) _ _ d.2
     (subst (λ (n : Node). MatchFails c.in_err-push_document.field-0.0
-    (put_behind (matches_of c.documents.matches.items) (matches_in c.documents.doc (map stage_of c.args.pipe.now) n)))
+    (put_after (matches_of c.documents.matches.items) (matches_in c.documents.doc (map stage_of c.args.pipe.now) n)))
     (c.root.ensures.node d.0 d.1) c.in_err-push_document.ensures)
     c.documents.invariant)
 
@@ -33,7 +33,7 @@ documents-preserved c =
     let within : c.documents.doc < length docs = omega (arith, c.count-doc-end.ensures, c.documents-test.true) in
     let d = document_there docs c.documents.doc within in
     document_more (map stage_of c.args.pipe.now) docs c.documents.doc d.0 (matches_of c.documents.matches.items) (matches_of c.push_document.new.matches.items) _ d.2
-    (ap (λ (n : Node). put_behind (matches_of c.documents.matches.items) (matches_in c.documents.doc (map stage_of c.args.pipe.now) n)) (sym (c.root.ensures.node d.0 d.1)) ∙ c.in_ok-push_document.ensures)
+    (ap (λ (n : Node). put_after (matches_of c.documents.matches.items) (matches_in c.documents.doc (map stage_of c.args.pipe.now) n)) (sym (c.root.ensures.node d.0 d.1)) ∙ c.in_ok-push_document.ensures)
     c.documents.invariant
 
 pub returns : goal.returns

@@ -6,7 +6,7 @@ use Rattle.yq_semantics.{specs.Changes.{Changed, all_allowed}, specs.Judgement.{
 use Rattle.yq_semantics.{specs.PlacesApart.{AreIn, IsIn}, specs.Places.FoundPlace}
 use Rattle.yq_expr.{specs.JudgedChanges.effect_of, proofs.ChildPlaces.{nothing_before, first_child, child_more, child_fails, children_done}}
 use Rattle.yq_planner.specs.ChangeView.{changes_below}
-use Rattle.yq_eval.{specs.FoundView.place_at_path, specs.PlaceView.{path_of, put_behind}, specs.TreeScalars.{HasScalars, HaveScalars}}
+use Rattle.yq_eval.{specs.FoundView.place_at_path, specs.PlaceView.{path_of, put_after}, specs.TreeScalars.{HasScalars, HaveScalars}}
 use Rattle.yq_eval.{proofs.EachLaws.failed, proofs.PlaceLaws.none_counted}
 use Rattle.yq_expr.proofs.at_node.at_children.Goals as goal
 
@@ -32,7 +32,7 @@ returns-in_err-push_below-clause-changes c = λ root named within.
     failed _ _ _ _ (e.1 ∙ ap Err e.2)
     (child_fails f p c.children.before (left_of c.children.children) (left_of c.next.new.self) (label_of c.in-Some.child) (node_of c.in-Some.child)
     (changes_below (path_of c.args.parent.now.path) c.children.so_far.changes.items) _ _ c.in-Some.ensures.steps
-    (subst (λ (q : FoundPlace). MatchFails c.in_err-push_below.field-0.0 (put_behind (changes_below (path_of c.args.parent.now.path) c.children.so_far.changes.items) (f q))) here
+    (subst (λ (q : FoundPlace). MatchFails c.in_err-push_below.field-0.0 (put_after (changes_below (path_of c.args.parent.now.path) c.children.so_far.changes.items) (f q))) here
     ((rw (c.children.invariant.same, c.children.invariant.steps) at c.in_err-push_below.ensures.change) root named (subst (IsIn root) (sym here) (subst (AreIn root) first (c.children.invariant.within root within)).0)))
     (c.children.invariant.so_far root named within))
 
@@ -55,7 +55,7 @@ children-preserved c =
           child_more f p c.children.before (left_of c.children.children) (left_of c.next.new.self) (label_of c.in-Some.child)
           (node_of c.in-Some.child) (changes_below (path_of c.args.parent.now.path) c.children.so_far.changes.items) (changes_below (path_of c.args.parent.now.path) c.push_below.new.so_far.changes.items) _
           c.in-Some.ensures.steps
-          (subst (λ (q : FoundPlace). put_behind (changes_below (path_of c.args.parent.now.path) c.children.so_far.changes.items) (f q) ≡ gives (changes_below (path_of c.args.parent.now.path) c.push_below.new.so_far.changes.items)) here
+          (subst (λ (q : FoundPlace). put_after (changes_below (path_of c.args.parent.now.path) c.children.so_far.changes.items) (f q) ≡ gives (changes_below (path_of c.args.parent.now.path) c.push_below.new.so_far.changes.items)) here
           ((rw (c.children.invariant.same, c.children.invariant.steps) at c.in_ok-push_below.ensures.change) root named (subst (IsIn root) (sym here) (subst (AreIn root) first (c.children.invariant.within root within)).0)))
           (c.children.invariant.so_far root named within);
     }

@@ -6,7 +6,7 @@ use Rattle.yq_semantics.{specs.Changes.at_each, specs.Places.{child_place, stepp
 use Rattle.yq_documents.specs.Located.{steps_of}
 use Rattle.yq_planner.{specs.Indexes.HasAliases, specs.ValidChanges.AreValidChanges, specs.ChangeView.changes_below}
 use Rattle.yq_expr.specs.JudgedChanges.{effect_of}
-use Rattle.yq_eval.{specs.FoundView.{child_places, place_at_path}, specs.PlaceView.{path_of, put_behind}, specs.TreeScalars.HaveScalars}
+use Rattle.yq_eval.{specs.FoundView.{child_places, place_at_path}, specs.PlaceView.{path_of, put_after}, specs.TreeScalars.HaveScalars}
 use Rattle.yq_expr.proofs.at_node.at_children.Given as goal
 
 abbrev pub invariant-children : goal.invariant-children
@@ -21,7 +21,7 @@ invariant-children l =
       doc : l.so_far.node.doc ≡ l.effect.doc;
       steps : steps_of l.so_far.node ≡ path_of l.parent.path;
       so_far : (root : Node) → HasAliases (names_of root) l.effect.aliases.now → AreIn root (child_places (path_of l.parent.path) (node_of l.parent.node)) →
-          put_behind (changes_below (path_of l.parent.path) l.so_far.changes.items) (at_each root (effect_of l.effect l.documents) left)
+          put_after (changes_below (path_of l.parent.path) l.so_far.changes.items) (at_each root (effect_of l.effect l.documents) left)
           ≡ at_each root (effect_of l.effect l.documents) (child_places (path_of l.parent.path) (node_of l.parent.node));
     }
 

@@ -3,9 +3,9 @@ use Rattle.yq_nodes.{specs.Children.left_of, specs.Nodes.{label_of, node_of}}
 use Rattle.yq_outline.specs.Counts.{count}
 use Rattle.yq_semantics.{specs.Changes.{Changed, all_allowed}, specs.Judgement.{Judgement, MatchFails, and_then, gives}}
 use Rattle.yq_semantics.{specs.PlacesApart.{AreIn, IsIn}, specs.Places.FoundPlace}
-use Rattle.yq_planner.specs.StandIns.{verdict}
+use Rattle.yq_planner.specs.Substitutes.{verdict}
 use Rattle.yq_expr.{specs.JudgedChanges.effect_of, proofs.ChildPlaces.{nothing_before, first_child, child_more, child_fails, children_done}}
-use Rattle.yq_expr.proofs.VerdictLaws.{behind_given, behind_fails, verdict_fails}
+use Rattle.yq_expr.proofs.VerdictLaws.{after_given, after_fails, verdict_fails}
 use Rattle.yq_eval.{specs.FoundView.place_at_path, specs.PlaceView.path_of, specs.TreeScalars.{HasScalars, HaveScalars}}
 use Rattle.yq_eval.{proofs.EachLaws.failed, proofs.PlaceLaws.none_counted}
 use Rattle.yq_expr.proofs.judged_places.judge_children.Goals as goal
@@ -27,7 +27,7 @@ returns-in_err-judge_place c = λ root named within.
     failed _ _ _ _ (e.1 ∙ ap Err e.2)
     (verdict_fails _ _
     (child_fails f p c.children.before (left_of c.children.children) (left_of c.next.new.self) (label_of c.in-Some.child) (node_of c.in-Some.child) before.0 _ _ c.in-Some.ensures.steps
-    (behind_fails before.0 _ _
+    (after_fails before.0 _ _
     (subst (λ (q : FoundPlace). MatchFails c.in_err-judge_place.field-0.0 (verdict (f q))) here
     ((rw c.children.invariant.same at c.in_err-judge_place.ensures.verdict) root named (subst (IsIn root) (sym here) (subst (AreIn root) first (c.children.invariant.within root within)).0))))
     before.1))
@@ -46,7 +46,7 @@ children-preserved c =
       so_far = λ root named within.
           let f : FoundPlace → Judgement (List Changed) = λ q. and_then (all_allowed root) (effect_of c.args.effect.now c.args.documents.now q) in
           let before = c.children.invariant.so_far root named within in
-          let more = behind_given before.0 _
+          let more = after_given before.0 _
           (subst (λ (q : FoundPlace). verdict (f q) ≡ gives tt) here
           ((rw c.children.invariant.same at c.in_ok-judge_place.ensures.verdict) root named (subst (IsIn root) (sym here) (subst (AreIn root) first (c.children.invariant.within root within)).0))) in
           (more.0, child_more f p c.children.before (left_of c.children.children) (left_of c.next.new.self) (label_of c.in-Some.child) (node_of c.in-Some.child) before.0 more.0 _ c.in-Some.ensures.steps more.1 before.1);

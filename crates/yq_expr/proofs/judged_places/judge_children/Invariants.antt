@@ -5,7 +5,7 @@ use Rattle.yq_outline.specs.Counts.{count}
 use Rattle.yq_semantics.{specs.Changes.{Changed, at_each}, specs.Places.{child_place, stepped}, specs.PlacesApart.AreIn}
 use Rattle.yq_planner.specs.Indexes.{HasAliases}
 use Rattle.yq_expr.specs.JudgedChanges.{effect_of}
-use Rattle.yq_eval.{specs.FoundView.{child_places, place_at_path}, specs.PlaceView.{path_of, put_behind}, specs.TreeScalars.HaveScalars}
+use Rattle.yq_eval.{specs.FoundView.{child_places, place_at_path}, specs.PlaceView.{path_of, put_after}, specs.TreeScalars.HaveScalars}
 use Rattle.yq_expr.proofs.judged_places.judge_children.Given as goal
 
 abbrev pub invariant-children : goal.invariant-children
@@ -17,7 +17,7 @@ invariant-children l =
       scalars : HaveScalars left;
       within : (root : Node) → AreIn root (child_places (path_of l.parent.path) (node_of l.parent.node)) → AreIn root left;
       so_far : (root : Node) → HasAliases (names_of root) l.effect.aliases.now → AreIn root (child_places (path_of l.parent.path) (node_of l.parent.node)) → (cs : List Changed) ×
-          (put_behind cs (at_each root (effect_of l.effect l.documents) left)
+          (put_after cs (at_each root (effect_of l.effect l.documents) left)
           ≡ at_each root (effect_of l.effect l.documents) (child_places (path_of l.parent.path) (node_of l.parent.node)));
     }
 

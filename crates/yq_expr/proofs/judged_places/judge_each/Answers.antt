@@ -2,7 +2,7 @@ use Rattle.std.{proofs.Common.{Err, List, ap, ◌∙◌, subst, rules}, proofs.l
 use Rattle.yq_semantics.{specs.Changes.{Changed, all_allowed}, specs.Judgement.{Judgement, and_then}, specs.PlacesApart.AreIn}
 use Rattle.yq_semantics.specs.Places.{FoundPlace}
 use Rattle.yq_expr.{specs.JudgedChanges.effect_of, proofs.AllChanges.each_done, proofs.ChildPlaces.nothing_before}
-use Rattle.yq_expr.proofs.VerdictLaws.{behind_given, behind_fails, verdict_fails}
+use Rattle.yq_expr.proofs.VerdictLaws.{after_given, after_fails, verdict_fails}
 use Rattle.yq_eval.{specs.PlaceView.place_of, specs.TreeScalars.HaveScalars, proofs.EachLaws.{each_more, each_fails, failed, reached}}
 use Rattle.yq_expr.proofs.judged_places.judge_each.Goals as goal
 
@@ -18,7 +18,7 @@ returns-in_err-judge_place c = λ root named within.
     failed _ _ _ _ (p.1 ∙ ap Err p.2)
     (verdict_fails _ _
     (each_fails place_of f before.0 c.args.places.now c.places.place-index c.place-item.result _ _ c.places-test.true c.place-item.is
-    (behind_fails before.0 (f (place_of c.place-item.result)) _
+    (after_fails before.0 (f (place_of c.place-item.result)) _
     ((rw c.places.invariant.same at c.in_err-judge_place.ensures.verdict) root named (subst (AreIn root) here (c.places.invariant.within root within)).0))
     before.1))
 
@@ -32,7 +32,7 @@ places-preserved c =
       so_far = λ root named within.
           let f : FoundPlace → Judgement (List Changed) = λ q. and_then (all_allowed root) (effect_of c.args.effect.now c.args.documents.now q) in
           let before = c.places.invariant.so_far root named within in
-          let more = behind_given before.0 (f (place_of c.place-item.result))
+          let more = after_given before.0 (f (place_of c.place-item.result))
           ((rw c.places.invariant.same at c.in_ok-judge_place.ensures.verdict) root named (subst (AreIn root) here (c.places.invariant.within root within)).0) in
           (more.0, each_more place_of f before.0 more.0 c.args.places.now c.places.place-index c.place-item.result _ c.places-test.true c.place-item.is more.1 before.1);
     }

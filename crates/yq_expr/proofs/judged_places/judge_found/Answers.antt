@@ -1,7 +1,7 @@
 use Rattle.std.proofs.Common.{List, sym, ap, ◌∙◌, subst}
 use Rattle.yq_expr.specs.JudgedChanges.{action_in}
 use Rattle.yq_eval.{specs.FoundView.found_places, specs.PlaceView.places_of}
-use Rattle.yq_planner.specs.StandIns.{verdict}
+use Rattle.yq_planner.specs.Substitutes.{verdict}
 use Rattle.yq_semantics.{specs.Changes.at_each, specs.Judgement.Judges, specs.Places.FoundPlace, specs.PlacesApart.AreIn}
 use Rattle.yq_expr.proofs.judged_places.judge_found.Goals as goal
 

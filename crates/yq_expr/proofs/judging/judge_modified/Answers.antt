@@ -1,6 +1,6 @@
 use Rattle.std.proofs.Common.{map, ap, subst}
 use Rattle.yq_nodes.specs.Nodes.{node_of}
-use Rattle.yq_planner.specs.StandIns.{verdict}
+use Rattle.yq_planner.specs.Substitutes.{verdict}
 use Rattle.yq_semantics.{specs.Judgement.Judges, specs.Rooms.room_of, specs.View.{stage_of, term_of}}
 use Rattle.yq_eval.specs.FoundView.{found_places}
 use Rattle.yq_expr.proofs.AllChanges.{modified}

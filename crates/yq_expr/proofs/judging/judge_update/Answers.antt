@@ -1,7 +1,7 @@
 use Rattle.std.{proofs.Common.{◌<◌, List, length, ap, sym, ◌∙◌, arith, rules}, proofs.lemmas.Result.err_from_is_err_and}
 use Rattle.yq_core.specs.Tree.{Node}
 use Rattle.yq_documents.{specs.Documents.Document, specs.Reading.documents_of}
-use Rattle.yq_planner.specs.StandIns.{verdict}
+use Rattle.yq_planner.specs.Substitutes.{verdict}
 use Rattle.yq_semantics.{specs.Changes.changes_in, specs.Rooms.room_of, specs.View.update_of}
 use Rattle.yq_eval.{proofs.EachLaws.failed, proofs.MatchLaws.document_there}
 use Rattle.yq_expr.{proofs.VerdictLaws.{document_judged, document_refused, documents_judged}, proofs.DocumentLaws.document_root}

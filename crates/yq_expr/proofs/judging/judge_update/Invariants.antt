@@ -1,6 +1,6 @@
 use Rattle.std.proofs.Common.{◌≡◌, drop}
 use Rattle.yq_documents.specs.Reading.{documents_of}
-use Rattle.yq_planner.specs.StandIns.{verdict}
+use Rattle.yq_planner.specs.Substitutes.{verdict}
 use Rattle.yq_semantics.{specs.Changes.{changes_from, update_changes}, specs.Meaning.roots_of, specs.Rooms.room_of, specs.View.update_of}
 use Rattle.yq_expr.proofs.judging.judge_update.Given as goal
 

@@ -1,6 +1,6 @@
 use Rattle.std.proofs.Common.{◌≡◌, true, List, Option, IfSome, sym, subst, rules}
 use Rattle.yq_core.{specs.Anchors.{Name, names_of}, specs.Values.value_node, specs.declared.value.Value.Value}
-use Rattle.yq_planner.{specs.Indexes.HasAliases, specs.StandIns.{HaveNoAlias, IsStandIn}}
+use Rattle.yq_planner.{specs.Indexes.HasAliases, specs.Substitutes.{HaveNoAlias, IsSubstitute}}
 use Rattle.yq_semantics.specs.Judgement.{Judges}
 use Rattle.yq_eval.specs.FoundView.{found_places}
 use Rattle.yq_expr.{specs.EffectView.is_mapping, proofs.VerdictLaws.places_alike}
@@ -8,7 +8,7 @@ use Rattle.yq_expr.proofs.judging.judge_value.Goals as goal
 
 pub returns-in-Some : goal.returns-in-Some
 returns-in-Some c = λ root named within.
-    let small : IsStandIn (value_node c.args.value.now) (value_node c.in-Some.small) = search rules in
+    let small : IsSubstitute (value_node c.args.value.now) (value_node c.in-Some.small) = search rules in
     let free : c.args.adds ≡ true → is_mapping (value_node c.args.value.now) ≡ true → (names : List Name) → HasAliases names c.args.aliases.now → HaveNoAlias names =
     subst (λ (o : Option Value). IfSome o
     (λ _. c.args.adds ≡ true → is_mapping (value_node c.args.value.now) ≡ true → (names : List Name) → HasAliases names c.args.aliases.now →

@@ -6,4 +6,4 @@ pub returns-then-is_mapping-clause-free : goal.returns-then-is_mapping-clause-fr
 returns-then-is_mapping-clause-free c = search (rules, ok_given)
 
 pub returns-clause-free : goal.returns-clause-free
-returns-clause-free c = ok_some c.stand_in.result (λ is. absurd (false≢true (sym (sym c.is_mapping.ensures ∙ c.if-is_mapping.false) ∙ is)))
+returns-clause-free c = ok_some c.substitute.result (λ is. absurd (false≢true (sym (sym c.is_mapping.ensures ∙ c.if-is_mapping.false) ∙ is)))

@@ -5,4 +5,4 @@ use Rattle.yq_expr.proofs.judging.small_entries.Goals as goal
 
 pub returns-then-is_empty-clause-free : goal.returns-then-is_empty-clause-free
 returns-then-is_empty-clause-free c =
-    ok_some c.stand_in.result (λ names h. no_aliases names c.args.aliases.now (nil_from_length _ (c.is_empty.ensures.0 c.if-is_empty.true)) h)
+    ok_some c.substitute.result (λ names h. no_aliases names c.args.aliases.now (nil_from_length _ (c.is_empty.ensures.0 c.if-is_empty.true)) h)

@@ -6,4 +6,4 @@ pub returns-then-adds-clause-free : goal.returns-then-adds-clause-free
 returns-then-adds-clause-free c = search (rules, ok_given)
 
 pub returns-clause-free : goal.returns-clause-free
-returns-clause-free c = ok_some c.stand_in.result (λ is. absurd (false≢true (sym c.if-adds.false ∙ is)))
+returns-clause-free c = ok_some c.substitute.result (λ is. absurd (false≢true (sym c.if-adds.false ∙ is)))

@@ -4,7 +4,7 @@ use Rattle.yq_core.specs.Tree.{Node}
 use Rattle.yq_nodes.specs.Nodes.{node_of}
 use Rattle.yq_semantics.{specs.Changes.{Room, changes_at, left_pipe}, specs.Judgement.{MatchFails, gives}, specs.Operations.operations_of}
 use Rattle.yq_semantics.{specs.Pipes.places, specs.Places.FoundPlace, specs.PlacesApart.AreIn, specs.Program.{Stage, Update}}
-use Rattle.yq_semantics.{specs.Rooms.room_of, specs.View.update_of, proofs.updates.PipePlaces.places_stand}
+use Rattle.yq_semantics.{specs.Rooms.room_of, specs.View.update_of, proofs.updates.PipePlaces.places_are_there}
 use Rattle.yq_planner.{specs.ChangeView.changes_under, specs.ValidChanges.{HasValidValue, HaveValidValues}}
 use Rattle.yq_planner.proofs.ValidLaws.{each_joined, ops_valid}
 use Rattle.yq_eval.{specs.PlaceView.{place_of, places_of}, specs.TreeScalars.HaveScalars, proofs.MatchLaws.places_have}
@@ -44,7 +44,7 @@ changes_at-requires c =
     record {
       root = c.requires.document.scalars;
       scalars = subst HaveScalars (sym some) (some_have few c.args.place ps (places_have c.args.document.doc (left_pipe u) root ps c.requires.document.scalars found));
-      within = subst (AreIn root) (sym some) (some_in root few c.args.place ps (places_stand c.args.document.doc (left_pipe u) root ps c.requires.document.tree found).1);
+      within = subst (AreIn root) (sym some) (some_in root few c.args.place ps (places_are_there c.args.document.doc (left_pipe u) root ps c.requires.document.tree found).1);
     }
 
 pub returns-in_err-changes-clause-err : goal.returns-in_err-changes-clause-err

@@ -8,11 +8,11 @@ use Rattle.yq_expr.proofs.right_value.with_terms.Goals as goal
 
 pub terms-preserved : goal.terms-preserved
 terms-preserved c =
-    let behind : List Term = take (length c.terms.rest.now - 1) (drop 1 c.terms.rest.now) in
+    let after : List Term = take (length c.terms.rest.now - 1) (drop 1 c.terms.rest.now) in
     record {
       short = fewer c.terms.rest.now c.count_same-again.result _ c.terms.invariant.short;
-      so_far = ap (λ (ts : List Term). sum_from c.args.doc (place_of c.args.place.now) (value_node c.in_ok-total.total) (map term_of ts)) (take_rest behind c.count_same-again.result)
-          ∙ terms_more term_of c.args.doc (place_of c.args.place.now) c.terms.rest.now c.term-item.result behind c.count_same-again.result (value_node c.terms.total) (value_node c.in_ok-total.total) _
+      so_far = ap (λ (ts : List Term). sum_from c.args.doc (place_of c.args.place.now) (value_node c.in_ok-total.total) (map term_of ts)) (take_rest after c.count_same-again.result)
+          ∙ terms_more term_of c.args.doc (place_of c.args.place.now) c.terms.rest.now c.term-item.result after c.count_same-again.result (value_node c.terms.total) (value_node c.in_ok-total.total) _
           c.in-len1-up.len_at_least c.term-item.is refl c.count_same-again.ensures.same c.in_ok-total.ensures c.terms.invariant.so_far;
     }
 

@@ -10,9 +10,9 @@ tokens-preserved-then-is_foreign c =
       | else-other w ↦ rw (w.if-other.false, w.value-is) (sym w.is_foreign.ensures)
     ] in (
       search rules,
-      counted_within c.is_opening.result _ c.tokens.opened (length c.in-Some.behind.now) (length c.tokens.rest.now) _ c.counted-opened.ensures c.tokens.invariant.1 c.in-Some.ensures.shorter,
-      counted_within c.is_closing.result _ c.tokens.closed (length c.in-Some.behind.now) (length c.tokens.rest.now) _ c.counted-closed.ensures c.tokens.invariant.2 c.in-Some.ensures.shorter,
-      rw c.if-is_foreign.true (survey_turn c.tokens.other c.tokens.opened c.tokens.closed c.tokens.rest.now (token_view c.in-Some.token, c.in-Some.behind.now) true c.is_opening.result c.is_closing.result _ _ _
+      counted_within c.is_opening.result _ c.tokens.opened (length c.in-Some.after.now) (length c.tokens.rest.now) _ c.counted-opened.ensures c.tokens.invariant.1 c.in-Some.ensures.shorter,
+      counted_within c.is_closing.result _ c.tokens.closed (length c.in-Some.after.now) (length c.tokens.rest.now) _ c.counted-closed.ensures c.tokens.invariant.2 c.in-Some.ensures.shorter,
+      rw c.if-is_foreign.true (survey_turn c.tokens.other c.tokens.opened c.tokens.closed c.tokens.rest.now (token_view c.in-Some.token, c.in-Some.after.now) true c.is_opening.result c.is_closing.result _ _ _
           c.in-Some.ensures.value c.if-is_unread.ensures c.is_opening.ensures c.is_closing.ensures c.counted-opened.ensures c.counted-closed.ensures (flag ∙ c.if-is_foreign.true) c.tokens.invariant.3),
     )
 
@@ -23,12 +23,12 @@ tokens-preserved c =
       | else-other w ↦ rw (w.if-other.false, w.value-is) (sym w.is_foreign.ensures)
     ] in (
       search rules,
-      counted_within c.is_opening.result _ c.tokens.opened (length c.in-Some.behind.now) (length c.tokens.rest.now) _ c.counted-opened.ensures c.tokens.invariant.1 c.in-Some.ensures.shorter,
-      counted_within c.is_closing.result _ c.tokens.closed (length c.in-Some.behind.now) (length c.tokens.rest.now) _ c.counted-closed.ensures c.tokens.invariant.2 c.in-Some.ensures.shorter,
-      survey_turn c.tokens.other c.tokens.opened c.tokens.closed c.tokens.rest.now (token_view c.in-Some.token, c.in-Some.behind.now) false c.is_opening.result c.is_closing.result _ _ _
+      counted_within c.is_opening.result _ c.tokens.opened (length c.in-Some.after.now) (length c.tokens.rest.now) _ c.counted-opened.ensures c.tokens.invariant.1 c.in-Some.ensures.shorter,
+      counted_within c.is_closing.result _ c.tokens.closed (length c.in-Some.after.now) (length c.tokens.rest.now) _ c.counted-closed.ensures c.tokens.invariant.2 c.in-Some.ensures.shorter,
+      survey_turn c.tokens.other c.tokens.opened c.tokens.closed c.tokens.rest.now (token_view c.in-Some.token, c.in-Some.after.now) false c.is_opening.result c.is_closing.result _ _ _
           c.in-Some.ensures.value c.if-is_unread.ensures c.is_opening.ensures c.is_closing.ensures c.counted-opened.ensures c.counted-closed.ensures (flag ∙ c.if-is_foreign.false) c.tokens.invariant.3,
     )
 
 pub returns-then-is_unread : goal.returns-then-is_unread
 returns-then-is_unread c =
-    (c.misread.ensures, survey_stops c.tokens.other c.tokens.opened c.tokens.closed c.tokens.rest.now (token_view c.in-Some.token, c.in-Some.behind.now) _ c.in-Some.ensures.value c.if-is_unread.ensures c.tokens.invariant.3)
+    (c.misread.ensures, survey_stops c.tokens.other c.tokens.opened c.tokens.closed c.tokens.rest.now (token_view c.in-Some.token, c.in-Some.after.now) _ c.in-Some.ensures.value c.if-is_unread.ensures c.tokens.invariant.3)

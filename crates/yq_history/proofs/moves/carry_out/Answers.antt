@@ -61,7 +61,7 @@ returns g c =
 pub returns-in_err-write_journal-clause-err : goal.returns-in_err-write_journal-clause-err
 returns-in_err-write_journal-clause-err g c = λ keeps apart h k. on_err _ (inl
     (either (c.in_err-write_journal.ensures.err keeps)
-    (λ same. same_content _ _ _ _ _ same k.stands)
+    (λ same. same_content _ _ _ _ _ same k.is_located)
     (λ w. first_write _ _ apart _ _ _ _ _ _ _ k c.requires.moves _ c.requires.changes c.in_ok-start_known.ensures.ok w)))
 
 pub returns-in_err-replace-clause-err : goal.returns-in_err-replace-clause-err

@@ -12,7 +12,7 @@ returns-clause-arrives g c = λ keeps apart h k.
     let e = c.write_journal.ensures in
     let moves = turned _ _ apart _ _ _ _ _ _ _ k c.requires.equal _ refl c.in_ok-make.ensures.moved in
     equal_move _ _ _ _ _ _ _ _ _ refl k c.write_journal.result c.requires.way (on_ok_map _ (e.ok keeps) moves)
-    (on_err_map _ (e.err keeps) (λ x. either x (λ same. inl (same_content _ _ _ _ _ same k.stands)) (λ w. inr (moves w)))) e.outside
+    (on_err_map _ (e.err keeps) (λ x. either x (λ same. inl (same_content _ _ _ _ _ same k.is_located)) (λ w. inr (moves w)))) e.outside
 
 pub returns-in_err-make-clause-effect : goal.returns-in_err-make-clause-effect
 returns-in_err-make-clause-effect g c = search (rules, err_from_is_err_and, way_of, move_refused, g.D.Store.content)

@@ -8,13 +8,13 @@ use Rattle.yq_inline.proofs.borrowed.+passing.Goals as goal
 
 pub pass_collection-returns-in-Some-clause-passed : goal.pass_collection-returns-in-Some-clause-passed
 pass_collection-returns-in-Some-clause-passed t c =
-    let front = bracket_front 93 c.args.text.now c.in-Some.behind.now c.in-Some.ensures.0 c.in-Some.ensures.1 in
-    IfSome_then c.pass_sequence.result c.pass_sequence.ensures.passed (λ p is. collection_passed 93 p.nested c.args.text.now c.in-Some.behind.now p.rest.now front is)
+    let front = bracket_front 93 c.args.text.now c.in-Some.after.now c.in-Some.ensures.0 c.in-Some.ensures.1 in
+    IfSome_then c.pass_sequence.result c.pass_sequence.ensures.passed (λ p is. collection_passed 93 p.nested c.args.text.now c.in-Some.after.now p.rest.now front is)
 
 pub pass_collection-returns-in-Some-strip-clause-passed : goal.pass_collection-returns-in-Some-strip-clause-passed
 pass_collection-returns-in-Some-strip-clause-passed t c =
-    let front = bracket_front 125 c.args.text.now c.in-Some-strip.behind.now c.in-Some-strip.ensures.0 c.in-Some-strip.ensures.1 in
-    IfSome_then c.pass_mapping.result c.pass_mapping.ensures.passed (λ p is. collection_passed 125 p.nested c.args.text.now c.in-Some-strip.behind.now p.rest.now front is)
+    let front = bracket_front 125 c.args.text.now c.in-Some-strip.after.now c.in-Some-strip.ensures.0 c.in-Some-strip.ensures.1 in
+    IfSome_then c.pass_mapping.result c.pass_mapping.ensures.passed (λ p is. collection_passed 125 p.nested c.args.text.now c.in-Some-strip.after.now p.rest.now front is)
 
 pub pass_node-returns-in-Some-clause-passed : goal.pass_node-returns-in-Some-clause-passed
 pass_node-returns-in-Some-clause-passed t c = c.in-Some.ensures.passed.passed
@@ -34,7 +34,7 @@ pass_mapping-returns-clause-passed t c =
 
 pub pass_items-returns-in-Some-clause-passed : goal.pass_items-returns-in-Some-clause-passed
 pass_items-returns-in-Some-clause-passed t c =
-    c.each.invariant.so_far c.each.nested c.in-Some.behind.now (omega arith) (none_passed c.each.nested 93 c.each.rest.now c.in-Some.behind.now c.in-Some.ensures.0 c.in-Some.ensures.1)
+    c.each.invariant.so_far c.each.nested c.in-Some.following.now (omega arith) (none_passed c.each.nested 93 c.each.rest.now c.in-Some.following.now c.in-Some.ensures.0 c.in-Some.ensures.1)
 
 pub pass_items-each-preserved : goal.pass_items-each-preserved
 pass_items-each-preserved t c =
@@ -52,10 +52,10 @@ pass_items-each-preserved t c =
 pub pass_entries-returns-in-Some-clause-passed : goal.pass_entries-returns-in-Some-clause-passed
 pass_entries-returns-in-Some-clause-passed t c =
     let keys : List (List ℕ) = drop c.len-others.result (key_texts c.each.keys.items) in
-    let all = c.each.invariant.so_far c.each.nested [] c.in-Some.behind.now (omega arith) (none_passed c.each.nested 125 c.each.rest.now c.in-Some.behind.now c.in-Some.ensures.0 c.in-Some.ensures.1) in
+    let all = c.each.invariant.so_far c.each.nested [] c.in-Some.following.now (omega arith) (none_passed c.each.nested 125 c.each.rest.now c.in-Some.following.now c.in-Some.ensures.0 c.in-Some.ensures.1) in
     record {
       keys = keys;
-      passed = subst (λ (ks : List (List ℕ)). ArePassedParts c.each.nested 125 ks c.args.text.now c.in-Some.behind.now) (append-nil keys) all;
+      passed = subst (λ (ks : List (List ℕ)). ArePassedParts c.each.nested 125 ks c.args.text.now c.in-Some.following.now) (append-nil keys) all;
       apart = distinct_agrees keys true c.if-not-take_distinct.ensures.differ;
     }
 

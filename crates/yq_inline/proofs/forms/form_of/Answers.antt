@@ -13,8 +13,8 @@ returns-then-not-begins_scalar-clause-parts c =
     let n = c.args.node in
     sym (nothing_front n.total n.depth n.text.now n.borrowed c.in_default.ensures c.in_default-strip.ensures (ap (begins true) (sym c.as_bytes.ensures.value) ∙ (sym c.begins_scalar.ensures ∙ c.if-not-begins_scalar.true))).1
 
-pub scalar_in_front-kind-requires : goal.scalar_in_front-kind-requires
-scalar_in_front-kind-requires c =
+pub leading_scalar-kind-requires : goal.leading_scalar-kind-requires
+leading_scalar-kind-requires c =
     let n = c.args.node in
     let x = scalar_front n.total n.depth n.text.now n.borrowed c.in_default.ensures c.in_default-strip.ensures (ap (begins true) (sym c.as_bytes.ensures.value) ∙ (sym c.begins_scalar.ensures ∙ c.if-not-begins_scalar.false)) in
     ap borrows_front x.read ∙ x.borrows
@@ -23,7 +23,7 @@ pub returns-clause-node : goal.returns-clause-node
 returns-clause-node c =
     let n = c.args.node in
     let x = scalar_front n.total n.depth n.text.now n.borrowed c.in_default.ensures c.in_default-strip.ensures (ap (begins true) (sym c.as_bytes.ensures.value) ∙ (sym c.begins_scalar.ensures ∙ c.if-not-begins_scalar.false)) in
-    same_Some _ _ (sym c.scalar_in_front-kind.ensures ∙ ap front_node x.read) ∙ sym x.tree
+    same_Some _ _ (sym c.leading_scalar-kind.ensures ∙ ap front_node x.read) ∙ sym x.tree
 
 pub returns-clause-parts : goal.returns-clause-parts
 returns-clause-parts c =

@@ -8,5 +8,5 @@ returns-in_default c = collection_in (map tree_step c.args.steps.now) (front_rea
 
 pub returns : goal.returns
 returns c =
-    subst (λ o. FindsCollection o c.parts_in_front.result)
-    (ap (coll_read []) c.in-Some.ensures ∙ sym (collection_in (map tree_step c.args.steps.now) (front_read c.args.node))) c.parts_in_front.ensures
+    subst (λ o. FindsCollection o c.leading_parts.result)
+    (ap (coll_read []) c.in-Some.ensures ∙ sym (collection_in (map tree_step c.args.steps.now) (front_read c.args.node))) c.leading_parts.ensures

@@ -10,22 +10,22 @@ each-init c = record { keyed = refl; so_far = ap (λ s. from_read s None c.args.
 pub returns-then-is_here : goal.returns-then-is_here
 returns-then-is_here c = record {
   keyed = c.each.invariant.keyed;
-  first = c.key_in_front.ensures.first;
+  first = c.leading_key.ensures.first;
   found = sym c.each.invariant.so_far
-      ∙ by_first c.each.rest c.key_in_front.result c.key_in_front.ensures (with_index c.each.left (tree_step c.args.step.now)) (option_map passed_view c.each.before) true (sym c.is_here.ensures ∙ c.if-is_here.true);
+      ∙ by_first c.each.rest c.leading_key.result c.leading_key.ensures (with_index c.each.left (tree_step c.args.step.now)) (option_map passed_view c.each.before) true (sym c.is_here.ensures ∙ c.if-is_here.true);
 }
 
 pub each-preserved : goal.each-preserved
 each-preserved c =
-    let first = c.key_in_front.ensures.first in
+    let first = c.leading_key.ensures.first in
     let h = c.pass.ensures first in
     let s = with_index c.each.left (tree_step c.args.step.now) in
     let less : c.saturating_sub-left.result ≡ c.each.left - 1 = omega (arith, c.saturating_sub-left.ensures) in
     record {
       keyed = h.keyed ∙ c.each.invariant.keyed;
       so_far = ap (λ r. from_read r (Some (passed_view c.pass.result.0)) c.pass.result.1) (ap (λ n. with_index n (tree_step c.args.step.now)) less ∙ sym (one_less c.each.left (tree_step c.args.step.now)))
-          ∙ (sym (from_further c.each.rest c.key_in_front.result.1.now first c.pass.result h s)
-          ∙ (sym (by_first c.each.rest c.key_in_front.result c.key_in_front.ensures s (option_map passed_view c.each.before) false (sym c.is_here.ensures ∙ c.if-is_here.false)) ∙ c.each.invariant.so_far));
+          ∙ (sym (from_further c.each.rest c.leading_key.result.1.now first c.pass.result h s)
+          ∙ (sym (by_first c.each.rest c.leading_key.result c.leading_key.ensures s (option_map passed_view c.each.before) false (sym c.is_here.ensures ∙ c.if-is_here.false)) ∙ c.each.invariant.so_far));
     }
 
 pub returns : goal.returns

@@ -41,7 +41,7 @@ read_form-returns-in_err-name-clause-read t c = search (rules, form_unnamed)
 
 pub read_form-returns-in-Some-clause-read : goal.read_form-returns-in-Some-clause-read
 read_form-returns-in-Some-clause-read t c = let h =
-    form_alias c.args.flow c.args.spaces (length c.args.whole.now) c.args.depth c.args.text.now c.in-Some.behind.now c.in_ok-name.name.now
+    form_alias c.args.flow c.args.spaces (length c.args.whole.now) c.args.depth c.args.text.now c.in-Some.after.now c.in_ok-name.name.now
     c.in_ok-name.rest.now c.in-Some.ensures.0 c.in-Some.ensures.1 c.in_ok-name.ensures.read in simp the_lemmas h
 
 pub read_form-returns-in-Some-strip-clause-read : goal.read_form-returns-in-Some-strip-clause-read
@@ -72,16 +72,16 @@ read_form-returns-clause-read t c = let h =
 pub read_item-returns-in-Err-clause-read : goal.read_item-returns-in-Err-clause-read
 read_item-returns-in-Err-clause-read t c = item_fails c.in-Err.e (length c.args.whole.now) c.args.depth c.args.text.now c.in-Err.ensures.read
 
-pub read_item-returns-in_err-behind-in-Ok-clause-read : goal.read_item-returns-in_err-behind-in-Ok-clause-read
-read_item-returns-in_err-behind-in-Ok-clause-read t c = search (rules, item_refused)
+pub read_item-returns-in_err-after-in-Ok-clause-read : goal.read_item-returns-in_err-after-in-Ok-clause-read
+read_item-returns-in_err-after-in-Ok-clause-read t c = search (rules, item_refused)
 
-pub read_item-returns-in_ok-behind-in-Ok-clause-read : goal.read_item-returns-in_ok-behind-in-Ok-clause-read
-read_item-returns-in_ok-behind-in-Ok-clause-read t c =
-    item_given (length c.args.whole.now) c.args.depth c.args.text.now (inline_view c.in-Ok.item) c.in-Ok.rest.now c.in_ok-behind-in-Ok.behind.now
-    c.in-Ok.ensures.read c.in_ok-behind-in-Ok.ensures.read
+pub read_item-returns-in_ok-after-in-Ok-clause-read : goal.read_item-returns-in_ok-after-in-Ok-clause-read
+read_item-returns-in_ok-after-in-Ok-clause-read t c =
+    item_given (length c.args.whole.now) c.args.depth c.args.text.now (inline_view c.in-Ok.item) c.in-Ok.rest.now c.in_ok-after-in-Ok.after.now
+    c.in-Ok.ensures.read c.in_ok-after-in-Ok.ensures.read
 
-pub read_item-returns-in_ok-behind-in-Ok-clause-shorter : goal.read_item-returns-in_ok-behind-in-Ok-clause-shorter
-read_item-returns-in_ok-behind-in-Ok-clause-shorter t c = omega (arith, c.in_ok-behind-in-Ok.ensures.shorter, node_shorter (length c.args.whole.now) c.args.depth c.args.text.now _ _ c.in-Ok.ensures.read c.in_ok-behind-in-Ok.ensures.some)
+pub read_item-returns-in_ok-after-in-Ok-clause-shorter : goal.read_item-returns-in_ok-after-in-Ok-clause-shorter
+read_item-returns-in_ok-after-in-Ok-clause-shorter t c = omega (arith, c.in_ok-after-in-Ok.ensures.shorter, node_shorter (length c.args.whole.now) c.args.depth c.args.text.now _ _ c.in-Ok.ensures.read c.in_ok-after-in-Ok.ensures.some)
 
 pub read_sequence-returns-in_err-rest-clause-read : goal.read_sequence-returns-in_err-rest-clause-read
 read_sequence-returns-in_err-rest-clause-read t c = search (rules, coll_unopened)

@@ -1,5 +1,5 @@
 use Rattle.std.{proofs.Common.{◌≡◌, ◌+◌, ◌*◌, ◌≤◌, length}, specs.Str.IsUtf8}
-use Rattle.yq_core.{specs.PlacedReading.placed_items, specs.View.{behind_items, behind_entries}}
+use Rattle.yq_core.{specs.PlacedReading.placed_items, specs.View.{after_items, after_entries}}
 use Rattle.yq_inline.proofs.reading.+nodes.Given as goal
 
 abbrev pub decreases-read_node : goal.decreases-read_node
@@ -39,12 +39,12 @@ abbrev pub invariant-read_items-each : goal.invariant-read_items-each
 invariant-read_items-each l = record {
   utf8 : IsUtf8 l.rest;
   within : length l.rest ≤ length l.fn.text;
-  so_far : behind_items l.items.items (placed_items (length l.whole) l.depth 93 l.rest) ≡ placed_items (length l.whole) l.depth 93 l.fn.text;
+  so_far : after_items l.items.items (placed_items (length l.whole) l.depth 93 l.rest) ≡ placed_items (length l.whole) l.depth 93 l.fn.text;
 }
 
 abbrev pub invariant-read_entries-each : goal.invariant-read_entries-each
 invariant-read_entries-each l = record {
   utf8 : IsUtf8 l.rest;
   within : length l.rest ≤ length l.fn.text;
-  so_far : behind_entries l.entries.items (placed_items (length l.whole) l.depth 125 l.rest) ≡ placed_items (length l.whole) l.depth 125 l.fn.text;
+  so_far : after_entries l.entries.items (placed_items (length l.whole) l.depth 125 l.rest) ≡ placed_items (length l.whole) l.depth 125 l.fn.text;
 }

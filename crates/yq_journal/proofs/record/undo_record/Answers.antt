@@ -1,5 +1,5 @@
 use Rattle.std.{proofs.Common.rules, proofs.lemmas.Option.none-some}
-use Rattle.yq_journal.proofs.StandLaws.{lengths_flip}
+use Rattle.yq_journal.proofs.MatchingLaws.{lengths_flip}
 use Rattle.yq_journal.proofs.record.undo_record.Goals as goal
 
 pub spliced-requires : goal.spliced-requires

@@ -1,7 +1,7 @@
 use Rattle.std.{proofs.Common.{Option, List, map, option_map, sym, ap, ◌∙◌, subst}, specs.Option.option_or, specs.Prelude.IfSome}
 use Rattle.yq_core.{specs.Entries.tree_step, specs.Paths.Step}
 use Rattle.yq_documents.{specs.Located.steps_of, specs.Reading.cut_of}
-use Rattle.yq_places.{specs.NodesAt.node_view, specs.Standings.last_step}
+use Rattle.yq_places.{specs.NodesAt.node_view, specs.Placements.last_step}
 use Rattle.yq_lookup.specs.RowFronts.{IsFoundNode}
 use Rattle.yq_edit_rules.specs.Edits.{rows_or_sole}
 use Rattle.yq_edit_laws.specs.Emptying.{summary_above}

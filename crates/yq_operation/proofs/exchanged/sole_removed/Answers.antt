@@ -1,7 +1,7 @@
 use Rattle.std.proofs.Common.{Option, option_map, sym, ap, ◌∙◌, subst}
 use Rattle.yq_core.specs.Answers.{◌>>=◌}
 use Rattle.yq_documents.{specs.Located.steps_of, specs.Reading.cut_of}
-use Rattle.yq_places.specs.Standings.{last_step}
+use Rattle.yq_places.specs.Placements.{last_step}
 use Rattle.yq_edit_rules.{specs.Answers.GivesSegments, specs.Edits.replace_segments}
 use Rattle.yq_edit_laws.{specs.Emptying.{Emptied, emptied_view}, proofs.EmptyingAnswers.sole_by_emptying}
 use Rattle.yq_operation.proofs.exchanged.sole_removed.Goals as goal

@@ -15,12 +15,12 @@ decreases-entries_fault l = 2 * parts_size (entries_end l.entries.now.items) + 1
 
 abbrev pub invariant-items_fault-each : goal.invariant-items_fault-each
 invariant-items_fault-each l = record {
-  stand : PartsHaveSpans l.whole (items_end (drop l.item-index l.item-items));
+  are_there : PartsHaveSpans l.whole (items_end (drop l.item-index l.item-items));
   so_far : parts_fit l.whole (items_end (drop l.item-index l.item-items)) ≡ parts_fit l.whole (items_end l.item-items);
 }
 
 abbrev pub invariant-entries_fault-each : goal.invariant-entries_fault-each
 invariant-entries_fault-each l = record {
-  stand : PartsHaveSpans l.whole (entries_end (drop l.entry-index l.entry-items));
+  are_there : PartsHaveSpans l.whole (entries_end (drop l.entry-index l.entry-items));
   so_far : parts_fit l.whole (entries_end (drop l.entry-index l.entry-items)) ≡ parts_fit l.whole (entries_end l.entry-items);
 }

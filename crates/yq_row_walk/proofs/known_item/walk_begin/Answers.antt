@@ -9,4 +9,4 @@ pub returns-clause-position : goal.returns-clause-position
 returns-clause-position c =
     line_position c.args.walk.now.rows.now c.args.walk.now.document (record { row = c.in-Some.known.row; line = 0 })
     (known_line c.args.walk.now.rows.now c.args.walk.now.document c.args.under c.args.floor c.in-Some.known c.requires.under c.in-Some.ensures.known
-    (λ y is. omega (arith, c.level_at.ensures y is, c.if-level_at-known.false)) c.requires.walk.document.stand)
+    (λ y is. omega (arith, c.level_at.ensures y is, c.if-level_at-known.false)) c.requires.walk.document.are_there)

@@ -11,9 +11,9 @@ returns-clause-found c =
 pub is_key-requires-clause-position : goal.is_key-requires-clause-position
 is_key-requires-clause-position c =
     known_line c.args.walk.now.rows.now c.args.walk.now.document c.args.under c.args.floor c.args.known c.requires.under c.requires.known
-    (λ y is. omega (arith, c.level_at-level.ensures y is, c.if-level-known.false)) c.requires.walk.document.stand
+    (λ y is. omega (arith, c.level_at-level.ensures y is, c.if-level-known.false)) c.requires.walk.document.are_there
 
 pub returns-clause-within : goal.returns-clause-within
 returns-clause-within c =
     known_line c.args.walk.now.rows.now c.args.walk.now.document c.args.under c.args.floor c.args.known c.requires.under c.requires.known
-    (λ y is. omega (arith, c.level_at-level.ensures y is, c.if-level-known.false)) c.requires.walk.document.stand
+    (λ y is. omega (arith, c.level_at-level.ensures y is, c.if-level-known.false)) c.requires.walk.document.are_there

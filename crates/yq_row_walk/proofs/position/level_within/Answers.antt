@@ -6,8 +6,8 @@ use Rattle.yq_row_walk.proofs.position.level_within.Goals as goal
 pub returns-then-not-has_dashes : goal.returns-then-not-has_dashes
 returns-then-not-has_dashes c = λ x e. c.level-first.ensures x e ∙ bare_level_at x c.args.position.line (c.if-not-has_dashes.ensures x e)
 
-pub level_behind-requires : goal.level_behind-requires
-level_behind-requires c =
+pub level_after-requires : goal.level_after-requires
+level_after-requires c =
     let x = has_row c.args.rows.now.rows c.args.position.row c.requires.within in
     omega (
       arith,

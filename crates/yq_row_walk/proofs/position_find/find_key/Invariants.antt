@@ -14,6 +14,6 @@ invariant-lines l = record {
   at : IsPosition l.walk.rows.now l.walk.document l.at;
   level : IsLevelAt l.walk.rows.now l.walk.document l.at l.level;
   found : (h : HasDocument l.walk.rows.now l.walk.document) →
-      position (line_number l.walk.document h.stand.rows l.fn.under) (find_row (To l.key) (part (lines_of_rows h.stand.rows) (line_number l.walk.document h.stand.rows l.fn.under) l.floor)) ≡
-      position (line_number l.walk.document h.stand.rows l.at) (find_row (To l.key) (part (lines_of_rows h.stand.rows) (line_number l.walk.document h.stand.rows l.at) l.floor));
+      position (line_number l.walk.document h.are_there.rows l.fn.under) (find_row (To l.key) (part (lines_of_rows h.are_there.rows) (line_number l.walk.document h.are_there.rows l.fn.under) l.floor)) ≡
+      position (line_number l.walk.document h.are_there.rows l.at) (find_row (To l.key) (part (lines_of_rows h.are_there.rows) (line_number l.walk.document h.are_there.rows l.at) l.floor));
 }

@@ -10,4 +10,4 @@ pub returns-else-is_empty-clause-found : goal.returns-else-is_empty-clause-found
 returns-else-is_empty-clause-found c = search (rules, no_last_line, length-map)
 
 pub returns-in_err-at-clause-found : goal.returns-in_err-at-clause-found
-returns-in_err-at-clause-found c = rw c.from_residual.ensures (λ h. no_line (map tree_step c.args.steps.now) (lines_of_rows h.stand.rows) (c.in_err-at.ensures.found h))
+returns-in_err-at-clause-found c = rw c.from_residual.ensures (λ h. no_line (map tree_step c.args.steps.now) (lines_of_rows h.are_there.rows) (c.in_err-at.ensures.found h))

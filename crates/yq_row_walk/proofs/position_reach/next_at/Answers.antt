@@ -9,5 +9,5 @@ next_in-requires-clause-keys c = search (rules, first_number, root_keys)
 
 pub returns-in-None-clause-found : goal.returns-in-None-clause-found
 returns-in-None-clause-found c = λ h ss.
-    ap (λ o. reach_from (lines_of_rows h.stand.rows) (option_map (line_number c.args.walk.now.document h.stand.rows) o) (tree_step c.args.step.now ∷ ss)) c.in-None.is
-    ∙ ((λ j. reach_in (lines_of_rows h.stand.rows) (first_number c.args.walk.now.document h.stand.rows j) 0 (tree_step c.args.step.now) ss) ∙ c.next_in.ensures.found h ss)
+    ap (λ o. reach_from (lines_of_rows h.are_there.rows) (option_map (line_number c.args.walk.now.document h.are_there.rows) o) (tree_step c.args.step.now ∷ ss)) c.in-None.is
+    ∙ ((λ j. reach_in (lines_of_rows h.are_there.rows) (first_number c.args.walk.now.document h.are_there.rows j) 0 (tree_step c.args.step.now) ss) ∙ c.next_in.ensures.found h ss)

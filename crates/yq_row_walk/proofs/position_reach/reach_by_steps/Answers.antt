@@ -9,8 +9,8 @@ steps-init c =
     record {
       within = w.line;
       leads = λ h.
-          let ls = lines_of_rows h.stand.rows in
-          ap (reach_from ls (option_map (line_number c.args.walk.now.document h.stand.rows) c.walk_start-found.result.0)) (sym (append-nil (map tree_step c.walk_start-found.result.1.now)))
+          let ls = lines_of_rows h.are_there.rows in
+          ap (reach_from ls (option_map (line_number c.args.walk.now.document h.are_there.rows) c.walk_start-found.result.0)) (sym (append-nil (map tree_step c.walk_start-found.result.1.now)))
           ∙ w.leads h [] ∙ ap (λ l. reached l ls) (append-nil (map tree_step c.args.steps.now));
     }
 

@@ -12,6 +12,6 @@ abbrev pub invariant-steps : goal.invariant-steps
 invariant-steps l = record {
   within : IfSome l.found (IsLine l.walk.rows.now l.walk.document);
   leads : (h : HasDocument l.walk.rows.now l.walk.document) →
-      reach_from (lines_of_rows h.stand.rows) (option_map (line_number l.walk.document h.stand.rows) l.found) (map tree_step l.left) ≡ reached
-      (map tree_step l.steps) (lines_of_rows h.stand.rows);
+      reach_from (lines_of_rows h.are_there.rows) (option_map (line_number l.walk.document h.are_there.rows) l.found) (map tree_step l.left) ≡ reached
+      (map tree_step l.steps) (lines_of_rows h.are_there.rows);
 }

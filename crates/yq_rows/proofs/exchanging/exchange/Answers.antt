@@ -1,7 +1,7 @@
 use Rattle.std.{proofs.Common.{◌+◌, ◌-◌, ◌<◌, ◌^◌, List, ◌++◌, map, take, refl, ap, sym, subst, ◌∙◌, arith}, specs.List.All}
 use Rattle.yq_row_table.specs.Kept.{raised, placed_rows}
 use Rattle.yq_rows.{specs.Exchanging.IsMovable, specs.Sides.origin, specs.declared.sides.Side.Side}
-use Rattle.yq_rows.proofs.ExchangeLaws.{ends_behind, ends_movable, exchanged, numbers, rows_movable}
+use Rattle.yq_rows.proofs.ExchangeLaws.{following_ends, ends_movable, exchanged, numbers, rows_movable}
 use Rattle.yq_row_table.specs.declared.offsets.Offsets as declared
 use Rattle.yq_rows.proofs.exchanging.exchange.Goals as goal
 
@@ -51,11 +51,11 @@ exchange_ends-requires-clause-found c =
     subst (All (IsMovable origin c.args.touched.front)) (sym h.are_read.ends)
     (ends_movable origin c.args.touched.front h.written (omega (arith, c.in_ok-reserve.ensures.ok, c.reserve.ensures.len, c.len-rows.ensures, n.come_rows)) (omega (arith, h.are_read.long, n.bytes)))
 
-pub exchange_ends-requires-clause-behind : goal.exchange_ends-requires-clause-behind
-exchange_ends-requires-clause-behind c =
+pub exchange_ends-requires-clause-after : goal.exchange_ends-requires-clause-after
+exchange_ends-requires-clause-after c =
     let h = c.requires in
     let x = c.args.touched in
     let n = numbers c.args.places.now x c.args.come.now h in
     let next : Side = record { rows = x.front.rows + c.len-rows.result; ends = 0; bytes = x.front.bytes + c.args.come.now.len } in
-    subst (All (IsMovable x.old next)) (sym (ends_behind c.args.places.now x c.args.come.now h))
-    (ends_movable x.old next h.behind (omega (arith, c.in_ok-reserve.ensures.ok, c.reserve.ensures.len, c.len.ensures, n.all_rows, c.len-rows.ensures)) (omega (arith, n.bytes)))
+    subst (All (IsMovable x.old next)) (sym (following_ends c.args.places.now x c.args.come.now h))
+    (ends_movable x.old next h.after (omega (arith, c.in_ok-reserve.ensures.ok, c.reserve.ensures.len, c.len.ensures, n.all_rows, c.len-rows.ensures)) (omega (arith, n.bytes)))

@@ -11,7 +11,7 @@ returns-clause-ok c =
     let es = c.args.ends.now in
     let found = c.args.found.now in
     let come = ends_shifted origin front found (omega arith) (omega arith) c.requires.found in
-    let later = ends_shifted old new (drop old.ends es) (omega arith) (omega (arith, c.requires.small)) c.requires.behind in
+    let later = ends_shifted old new (drop old.ends es) (omega arith) (omega (arith, c.requires.small)) c.requires.after in
     let all : ends_exchanged front.ends old.ends c.shift.result c.shift-2.result es found ≡ joined_ends front old new es found =
     (λ i. ends_exchanged front.ends old.ends (c.shift.ensures i) (c.shift-2.ensures i) es found) ∙ (λ i. take front.ends es ++ (come i ++ later i)) in
     IfOk-weaker c.exchange.result _ _ (λ _ h. h ∙ all) c.exchange.ensures.ok

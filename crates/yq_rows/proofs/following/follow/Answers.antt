@@ -49,7 +49,7 @@ returns c =
           c.drop_text.ensures.text ∙ (kept_text t c.args.kept p x c.in-Some.end k drops h.old_cut h.old_is ∙ ap (exchanged c.args.kept t) (sym empty));
       placed =
           dropped_places t c.args.kept p x c.in-Some.end k drops h.old_cut h.old_is _ c.drop_rows.new.places h.new_cut h.new_is c.drop_text.ensures.text
-          c.drop_rows.ensures.front c.drop_rows.ensures.behind c.drop_rows.ensures.ends c.drop_rows.ensures.split;
+          c.drop_rows.ensures.front c.drop_rows.ensures.after c.drop_rows.ensures.ends c.drop_rows.ensures.split;
       counted = λ old d was is j.
           c.drop_text.ensures.counted ∙ ap (λ (u : List ℕ). count_after (line_count u) c.args.meter.now)
           (dropped_text t c.args.kept p x c.in-Some.end k drops h.old_cut h.old_is old d was

@@ -9,6 +9,6 @@ abbrev pub invariant-dashes : goal.invariant-dashes
 invariant-dashes l = record {
   text : IsUtf8 l.rest;
   short : length l.rest ≤ length l.text;
-  stands : drop (length l.text - length l.rest) l.text ≡ l.rest;
+  is_located : drop (length l.text - length l.rest) l.text ≡ l.rest;
   so_far : with_dashes (take (length l.text - length l.rest) l.text) (begun (read_marks l.rest)) ≡ begun (read_marks l.text);
 }

@@ -12,8 +12,8 @@ returns-then-not-may_begin-clause-found c =
 pub returns-clause-found : goal.returns-clause-found
 returns-clause-found c =
     let first : (cut_gap c.args.text.now).1 ≡ c.split_gap.result.1.now = ap (λ (y : List ℕ × List ℕ). y.1) (sym c.split_gap.ensures) in
-    let stands : (c.args.is_open || ends_part (cut_gap c.args.text.now).1) ≡ true = ap (λ (t : List ℕ). c.args.is_open || ends_part t) (first ∙ sym c.as_bytes.ensures.value) ∙ (sym c.may_begin.ensures ∙ c.if-not-may_begin.false) in
-    rw (part_same c.args.is_open c.args.text.now stands) c.read_rows.ensures.found
+    let is_located : (c.args.is_open || ends_part (cut_gap c.args.text.now).1) ≡ true = ap (λ (t : List ℕ). c.args.is_open || ends_part t) (first ∙ sym c.as_bytes.ensures.value) ∙ (sym c.may_begin.ensures ∙ c.if-not-may_begin.false) in
+    rw (part_same c.args.is_open c.args.text.now is_located) c.read_rows.ensures.found
 
 pub returns-then-not-may_begin-clause-placed : goal.returns-then-not-may_begin-clause-placed
 returns-then-not-may_begin-clause-placed c =
@@ -24,5 +24,5 @@ returns-then-not-may_begin-clause-placed c =
 pub returns-clause-placed : goal.returns-clause-placed
 returns-clause-placed c =
     let first : (cut_gap c.args.text.now).1 ≡ c.split_gap.result.1.now = ap (λ (y : List ℕ × List ℕ). y.1) (sym c.split_gap.ensures) in
-    let stands : (c.args.is_open || ends_part (cut_gap c.args.text.now).1) ≡ true = ap (λ (t : List ℕ). c.args.is_open || ends_part t) (first ∙ sym c.as_bytes.ensures.value) ∙ (sym c.may_begin.ensures ∙ c.if-not-may_begin.false) in
-    rw (part_same c.args.is_open c.args.text.now stands) c.read_rows.ensures.placed
+    let is_located : (c.args.is_open || ends_part (cut_gap c.args.text.now).1) ≡ true = ap (λ (t : List ℕ). c.args.is_open || ends_part t) (first ∙ sym c.as_bytes.ensures.value) ∙ (sym c.may_begin.ensures ∙ c.if-not-may_begin.false) in
+    rw (part_same c.args.is_open c.args.text.now is_located) c.read_rows.ensures.placed

@@ -7,15 +7,15 @@ use Rattle.yq_rows.proofs.reading.read_row.Goals as goal
 pub returns-in-Err-clause-read : goal.returns-in-Err-clause-read
 returns-in-Err-clause-read c =
     fails_by c.in-Err.e _ _ (c.in-Err.ensures.read c.args.front.gap.now)
-    (row_as (limit_view c.args.limit) c.args.front.gap.now c.args.front.text.now _ _ _ _ _ _ c.split_spaces.ensures c.as_bytes.ensures.value c.may_stand.ensures c.if-not-may_stand.false c.read_begin-begin.ensures.read)
+    (row_as (limit_view c.args.limit) c.args.front.gap.now c.args.front.text.now _ _ _ _ _ _ c.split_spaces.ensures c.as_bytes.ensures.value c.may_be_here.ensures c.if-not-may_be_here.false c.read_begin-begin.ensures.read)
 
 pub offsets_of-place-requires-clause-read : goal.offsets_of-place-requires-clause-read
 offsets_of-place-requires-clause-read c = record {
   limit = limit_view c.args.limit;
-  behind = c.args.front.text.now;
+  after = c.args.front.text.now;
   joined = c.requires.cut;
   read = row_as (limit_view c.args.limit) c.args.front.gap.now c.args.front.text.now _ _ _ _ _ _ c.split_spaces.ensures c.as_bytes.ensures.value
-      c.may_stand.ensures c.if-not-may_stand.false c.read_begin-begin.ensures.read (c.in-Ok.ensures.read c.args.front.gap.now);
+      c.may_be_here.ensures c.if-not-may_be_here.false c.read_begin-begin.ensures.read (c.in-Ok.ensures.read c.args.front.gap.now);
 }
 
 pub returns-clause-read : goal.returns-clause-read
@@ -23,14 +23,14 @@ returns-clause-read c =
     let parent = c.parent_of-parent.result in
     let fits : SFits w64 parent = search rules in
     let content = c.in-Ok.content in
-    let asked : limit_view c.behind-limit.result ≡ limit_by
+    let asked : limit_view c.after-limit.result ≡ limit_by
     (parent_of (mark_view c.read_begin-begin.result.mark) (length c.split_spaces.result.0.now + c.read_begin-begin.result.columns))
-    content.plain = (rw (to_z-of_z w64 parent fits) at c.behind-limit.ensures) ∙ ap (λ n. limit_by n content.plain) c.parent_of-parent.ensures in
-    row_as (limit_view c.args.limit) c.args.front.gap.now c.args.front.text.now _ _ _ _ _ _ c.split_spaces.ensures c.as_bytes.ensures.value c.may_stand.ensures
-    c.if-not-may_stand.false c.read_begin-begin.ensures.read (c.in-Ok.ensures.read c.args.front.gap.now)
+    content.plain = (rw (to_z-of_z w64 parent fits) at c.after-limit.ensures) ∙ ap (λ n. limit_by n content.plain) c.parent_of-parent.ensures in
+    row_as (limit_view c.args.limit) c.args.front.gap.now c.args.front.text.now _ _ _ _ _ _ c.split_spaces.ensures c.as_bytes.ensures.value c.may_be_here.ensures
+    c.if-not-may_be_here.false c.read_begin-begin.ensures.read (c.in-Ok.ensures.read c.args.front.gap.now)
     ∙ (ap (λ (l : Limit). Some
     (read_slices c.args.front.gap.now (length c.split_spaces.result.0.now) c.read_begin-begin.result content, l, content.rest.now)) (sym asked)
-    ∙ ap (λ (s : Slices). Some (s, limit_view c.behind-limit.result, content.rest.now)) (sym c.offsets_of-place.ensures.same))
+    ∙ ap (λ (s : Slices). Some (s, limit_view c.after-limit.result, content.rest.now)) (sym c.offsets_of-place.ensures.same))
 
 pub returns-clause-place : goal.returns-clause-place
 returns-clause-place c = c.offsets_of-place.ensures.place ∙ ap (offsets_of _) (sym c.offsets_of-place.ensures.same)
@@ -58,8 +58,8 @@ parent_of-parent-requires c =
           c.read_begin-begin.result.columns c.split_spaces.ensures c.read_begin-begin.ensures.within c.requires.short c.requires.small,
     )
 
-pub returns-clause-stands : goal.returns-clause-stands
-returns-clause-stands c = c.offsets_of-place.ensures.stands
+pub returns-clause-is_located : goal.returns-clause-is_located
+returns-clause-is_located c = c.offsets_of-place.ensures.is_located
 
 pub returns-clause-known : goal.returns-clause-known
 returns-clause-known c = subst (λ (s : Slices). KnowsHead c.in-Ok.content.depth s.head) (sym c.offsets_of-place.ensures.same) c.in-Ok.ensures.known

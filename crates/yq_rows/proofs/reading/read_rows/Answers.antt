@@ -1,5 +1,5 @@
 use Rattle.std.{proofs.Common.{◌≡◌, ◌-◌, length, true, false, refl, rules, sym, subst, ap, ◌∙◌}, proofs.lemmas.List.Elements.All-push}
-use Rattle.yq_row_table.{specs.Offsets.{Stand, IsCutIn, rows_in, slices_in}, proofs.Failing.fails_by}
+use Rattle.yq_row_table.{specs.Offsets.{AreRowsIn, IsCutIn, rows_in, slices_in}, proofs.Failing.fails_by}
 use Rattle.yq_row_table.proofs.NearLaws.{rows_placed_end, rows_placed_none, rows_placed_step}
 use Rattle.yq_row_table.proofs.OffsetLaws.{ends_next, row_then, rows_length, rows_push}
 use Rattle.yq_row_table.proofs.RowSlicing.{at_gap, gap_joined, loop_smaller, loop_step, no_row, row_joined, rows_end}
@@ -55,7 +55,7 @@ rows-preserved c =
     record {
       text = search rules;
       ends = ends_next whole c.rows.at.now _ after c.rows.invariant.ends (joined ∙ row_then row after);
-      stand = subst (Stand whole) (sym c.in_ok-push.ensures.items) (All-push (IsCutIn whole) c.rows.rows.items c.in-Ok.found.0 c.rows.invariant.stand c.in-Ok.ensures.stands);
+      are_there = subst (AreRowsIn whole) (sym c.in_ok-push.ensures.items) (All-push (IsCutIn whole) c.rows.rows.items c.in-Ok.found.0 c.rows.invariant.are_there c.in-Ok.ensures.is_located);
       so_far = loop_step (rows_in whole c.rows.rows.items) _ (limit_view c.rows.limit) (limit_view c.in-Ok.found.1) c.rows.at.now _ _ row after _ c.split_gap.ensures more c.in-Ok.ensures.read pushed c.rows.invariant.so_far;
       placed = rows_placed_step c.rows.rows.items _ c.in-Ok.found.0 whole (limit_view c.rows.limit) (limit_view c.in-Ok.found.1) c.rows.at.now _ _
           row after _ c.rows.invariant.ends c.split_gap.ensures more c.in-Ok.ensures.read c.in_ok-push.ensures.items c.in-Ok.ensures.place
@@ -73,14 +73,14 @@ rows-init c =
     record {
       text = c.utf8.text;
       ends = c.requires.ends;
-      stand = c.requires.stand;
+      are_there = c.requires.are_there;
       so_far = ap (λ (l : Limit). rows_sliced (rows_in whole rows) (all_rows l text)) c.none-limit.ensures;
       placed = ap (λ (l : Limit). rows_placed rows (length whole - length text) (all_rows l text)) c.none-limit.ensures;
       others = λ h. h;
     }
 
-pub returns-then-ends_part-clause-behind : goal.returns-then-ends_part-clause-behind
-returns-then-ends_part-clause-behind c = ends_next c.args.whole.now c.rows.at.now c.split_gap.result.0.now c.split_gap.result.1.now c.rows.invariant.ends (gap_joined c.rows.at.now _ _ c.split_gap.ensures)
+pub returns-then-ends_part-clause-after : goal.returns-then-ends_part-clause-after
+returns-then-ends_part-clause-after c = ends_next c.args.whole.now c.rows.at.now c.split_gap.result.0.now c.split_gap.result.1.now c.rows.invariant.ends (gap_joined c.rows.at.now _ _ c.split_gap.ensures)
 
 pub read_row-requires-clause-short : goal.read_row-requires-clause-short
 read_row-requires-clause-short c =

@@ -1,7 +1,7 @@
 use Rattle.std.proofs.Common.{◌≡◌, ℕ, ◌+◌, List, [], ◌++◌, true, false, ◌-◌, Some, length, rules, refl, sym, subst, ap, arith, ◌∙◌}
 use Rattle.std.proofs.lemmas.List.Elements.{All-push}
 use Rattle.yq_core.specs.Text.{is_empty}
-use Rattle.yq_row_table.{specs.Grammar.begins_document, specs.Offsets.{Ends, rows_in}, specs.Ends.{EndStands, EndsStand, bounds_in}}
+use Rattle.yq_row_table.{specs.Grammar.begins_document, specs.Offsets.{Ends, rows_in}, specs.Ends.{EndIsLocated, EndsAreLocated, bounds_in}}
 use Rattle.yq_row_table.{specs.declared.ends.EndPlace.EndPlace, specs.declared.places.Places.Places, specs.View.RowsView}
 use Rattle.yq_row_table.{specs.WordRows.AreOtherRows, proofs.EndsNear.{ends_placed_end, ends_placed_step, kept_part}}
 use Rattle.yq_row_table.{proofs.Failing.fails_by, proofs.NearLaws.{near_read, parts_placed_end, parts_placed_step}}
@@ -23,7 +23,7 @@ end_of-requires-clause-ends c =
     let part = one_part (rows_in c.args.text.now c.parts.rows.items) c.parts.is_open c.parts.rest.now (rows_in c.args.text.now c.in-Ok.part.0.items) c.in-Ok.part.1.now c.in-Ok.part.2.now c.in-Ok.ensures.found in
     end_ends c.args.text.now c.parts.rest.now c.in-Ok.part.1.now c.in-Ok.part.2.now c.parts.is_open part.part c.parts.invariant.ends part.read part.end_is
 
-scanned : (c : goal.After-of-text) → Scanned c.args.text.now c.of-text.result (record { front = c.in-Ok.part.0; behind = c.new-behind.result; ends = c.of-ends.result; split = length c.args.text.now })
+scanned : (c : goal.After-of-text) → Scanned c.args.text.now c.of-text.result (record { front = c.in-Ok.part.0; after = c.new-following.result; ends = c.of-ends.result; split = length c.args.text.now })
 scanned c =
     let whole = c.args.text.now in
     let none : is_empty c.in-Ok.part.2.now ≡ true = empty_by c.in-Ok.part.2.now _ true c.is_empty.ensures c.if-is_empty.true in
@@ -35,8 +35,8 @@ scanned c =
     (length c.parts.rows.items) c.len-count.result part.part c.end_of.result c.parts.invariant.ends part.read part.end_is refl rows
     c.end_of.ensures.place in
     let read = parts_end _ (rows_in whole c.in-Ok.part.0.items) _ _ _ _ _ _ _ _ c.in-Ok.ensures.found none count pushed c.parts.invariant.so_far in
-    let stand = subst (EndsStand whole) (sym c.in_ok-push.ensures.items) (All-push (EndStands whole) c.parts.ends.items c.end_of.result c.parts.invariant.ends_stand c.end_of.ensures.stands) in
-    subst (λ (es : List EndPlace). Scanned whole c.of-text.result (record { front = c.in-Ok.part.0; behind = c.new-behind.result; ends = es; split = length whole })) (sym c.of-ends.ensures)
+    let are_there = subst (EndsAreLocated whole) (sym c.in_ok-push.ensures.items) (All-push (EndIsLocated whole) c.parts.ends.items c.end_of.result c.parts.invariant.ends_are_there c.end_of.ensures.is_located) in
+    subst (λ (es : List EndPlace). Scanned whole c.of-text.result (record { front = c.in-Ok.part.0; after = c.new-following.result; ends = es; split = length whole })) (sym c.of-ends.ensures)
     (record {
       read = near_read whole c.in-Ok.part.0.items _ _
           (parts_placed_end c.parts.rows.items c.in-Ok.part.0.items (length whole - length c.parts.rest.now) c.parts.is_open c.parts.rest.now c.in-Ok.part.2.now part.part _ part.read none c.in-Ok.ensures.placed c.parts.invariant.placed)
@@ -44,21 +44,21 @@ scanned c =
           read;
       front_is = c.of-text.ensures.front;
       back_is = c.of-text.ensures.back;
-      none_behind = c.new-behind.ensures.items;
+      none_following = c.new-following.ensures.items;
       split_is = refl;
       characters = c.utf8.text;
-      rows_stand = c.in-Ok.ensures.kept;
-      ends_stand = stand;
+      rows_located = c.in-Ok.ensures.kept;
+      ends_are_there = are_there;
       small = c.requires;
     })
 
 pub with_others-requires-clause-places : goal.with_others-requires-clause-places
-with_others-requires-clause-places c = scanned_places c.args.text.now c.of-text.result (record { front = c.in-Ok.part.0; behind = c.new-behind.result; ends = c.of-ends.result; split = length c.args.text.now }) (scanned c)
+with_others-requires-clause-places c = scanned_places c.args.text.now c.of-text.result (record { front = c.in-Ok.part.0; after = c.new-following.result; ends = c.of-ends.result; split = length c.args.text.now }) (scanned c)
 
 pub returns-then-is_empty-clause-read : goal.returns-then-is_empty-clause-read
 returns-then-is_empty-clause-read c =
     let whole = c.args.text.now in
-    let p : Places = record { front = c.in-Ok.part.0; behind = c.new-behind.result; ends = c.of-ends.result; split = length whole } in
+    let p : Places = record { front = c.in-Ok.part.0; after = c.new-following.result; ends = c.of-ends.result; split = length whole } in
     let none : is_empty c.in-Ok.part.2.now ≡ true = empty_by c.in-Ok.part.2.now _ true c.is_empty.ensures c.if-is_empty.true in
     let count : c.len-count.result ≡ length (rows_in whole c.in-Ok.part.0.items) = c.len-count.ensures ∙ (c.in-Ok.part.0.ok.0 ∙ rows_length whole c.in-Ok.part.0.items) in
     let pushed = bounds_push whole c.parts.ends.items _ c.end_of.result _ c.in_ok-push.ensures.items c.end_of.ensures.same in
@@ -68,7 +68,7 @@ returns-then-is_empty-clause-read c =
 
 pub with_others-requires-clause-others : goal.with_others-requires-clause-others
 with_others-requires-clause-others c =
-    let p : Places = record { front = c.in-Ok.part.0; behind = c.new-behind.result; ends = c.of-ends.result; split = length c.args.text.now } in
+    let p : Places = record { front = c.in-Ok.part.0; after = c.new-following.result; ends = c.of-ends.result; split = length c.args.text.now } in
     subst (λ (v : RowsView). AreOtherRows v.rows 0 c.read_part.new.notes.others.items) (sym (scanned_view c.args.text.now c.of-text.result p (scanned c))) (c.in-Ok.ensures.others c.parts.invariant.others)
 
 pub read_marker-requires : goal.read_marker-requires
@@ -114,9 +114,11 @@ parts-preserved c =
     let is_open : c.begins_document-is_open.result ≡ begins_document c.in-Ok-read_marker.line.0.now = c.begins_document-is_open.ensures ∙ ap begins_document c.as_bytes.ensures.value in
     record {
       text = search rules;
-      ends = ends_next c.args.text.now c.in-Ok.part.2.now c.in-Ok-read_marker.line.0.now c.in-Ok-read_marker.line.1.now c.in-Ok.ensures.behind line.0;
-      stand = c.in-Ok.ensures.kept;
-      ends_stand = subst (EndsStand c.args.text.now) (sym c.in_ok-push-2.ensures.items) (All-push (EndStands c.args.text.now) c.parts.ends.items c.end_of-in-parts.result c.parts.invariant.ends_stand c.end_of-in-parts.ensures.stands);
+      ends = ends_next c.args.text.now c.in-Ok.part.2.now c.in-Ok-read_marker.line.0.now c.in-Ok-read_marker.line.1.now c.in-Ok.ensures.after line.0;
+      are_there = c.in-Ok.ensures.kept;
+      ends_are_there = subst (EndsAreLocated c.args.text.now) (sym c.in_ok-push-2.ensures.items)
+          (All-push (EndIsLocated c.args.text.now) c.parts.ends.items c.end_of-in-parts.result c.parts.invariant.ends_are_there
+          c.end_of-in-parts.ensures.is_located);
       so_far = rw (is_open, bounds_push c.args.text.now c.parts.ends.items c.push-in-parts.new.self.items c.end_of-in-parts.result _ c.in_ok-push-2.ensures.items c.end_of-in-parts.ensures.same)
           (sym (parts_more (rows_in c.args.text.now c.parts.rows.items) (bounds_in c.args.text.now c.parts.ends.items) c.parts.is_open
           c.parts.rest.now (rows_in c.args.text.now c.in-Ok.part.0.items) c.in-Ok.part.1.now c.in-Ok.part.2.now c.in-Ok-read_marker.line.0.now
@@ -137,8 +139,8 @@ parts-init c =
     record {
       text = c.utf8.text;
       ends = rw none refl;
-      stand = rw c.new-rows.ensures.items (search rules);
-      ends_stand = rw c.new-ends.ensures.items (search rules);
+      are_there = rw c.new-rows.ensures.items (search rules);
+      ends_are_there = rw c.new-ends.ensures.items (search rules);
       so_far = rw (c.new-rows.ensures.items, c.new-ends.ensures.items) refl;
       placed = rw c.new-rows.ensures.items refl;
       ends_placed = rw (c.new-rows.ensures.items, c.new-ends.ensures.items) refl;

@@ -4,8 +4,8 @@ use Rattle.yq_rows.proofs.sides.rows_nearer.Given as goal
 
 abbrev pub invariant-rows : goal.invariant-rows
 invariant-rows l = record {
-  within : length l.rest ≤ length l.fn.behind;
-  same : nearer l.back (reverse l.rest) ≡ nearer l.back (reverse l.fn.behind);
+  within : length l.rest ≤ length l.fn.after;
+  same : nearer l.back (reverse l.rest) ≡ nearer l.back (reverse l.fn.after);
 }
 
 abbrev pub decreases-rows : goal.decreases-rows

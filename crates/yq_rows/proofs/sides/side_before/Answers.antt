@@ -1,5 +1,5 @@
 use Rattle.std.proofs.Common.{◌-◌, ℕ, ap, ◌∙◌, arith}
-use Rattle.yq_rows.proofs.SideLaws.{NoEndBehind, before_end, before_none, before_row, ends_counted_at, own_end}
+use Rattle.yq_rows.proofs.SideLaws.{NoEndAfter, before_end, before_none, before_row, ends_counted_at, own_end}
 use Rattle.yq_rows.proofs.sides.side_before.Goals.{then-ends-gt0+else-end-rows, else-ends-gt0}
 use Rattle.yq_rows.proofs.sides.side_before.Goals as goal
 
@@ -14,7 +14,7 @@ pub returns-then-rows-eq0 : goal.returns-then-rows-eq0
 returns-then-rows-eq0 c xs placed gap within =
     let p = c.args.places.now in
     let count = ends_counted_at p xs c.ends_before-ends.result c.args.at c.ends_before-ends.ensures.count placed in
-    let none : NoEndBehind c.len-rows.result p.ends c.ends_before-ends.result =
+    let none : NoEndAfter c.len-rows.result p.ends c.ends_before-ends.result =
     λ some. elim c.if-ends-gt0.branch [
       | then-ends-gt0+else-end-rows w ↦ (w.at-end.result, own_end p w.at-end.result _ w.at-end.ensures, omega arith)
       | else-ends-gt0 w ↦
@@ -26,7 +26,7 @@ pub returns : goal.returns
 returns c xs placed gap within =
     let p = c.args.places.now in
     let count = ends_counted_at p xs c.ends_before-ends.result c.args.at c.ends_before-ends.ensures.count placed in
-    let none : NoEndBehind c.len-rows.result p.ends c.ends_before-ends.result =
+    let none : NoEndAfter c.len-rows.result p.ends c.ends_before-ends.result =
     λ some. elim c.if-ends-gt0.branch [
       | then-ends-gt0+else-end-rows w ↦ (w.at-end.result, own_end p w.at-end.result _ w.at-end.ensures, omega arith)
       | else-ends-gt0 w ↦

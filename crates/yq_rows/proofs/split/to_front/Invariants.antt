@@ -4,10 +4,10 @@ use Rattle.yq_rows.proofs.split.to_front.Given as goal
 
 abbrev pub invariant-rows : goal.invariant-rows
 invariant-rows l = record {
-  same : both_sides l.len l.front.items l.behind.items ≡ both_sides l.fn.len l.fn.front.items l.fn.behind.items;
+  same : both_sides l.len l.front.items l.after.items ≡ both_sides l.fn.len l.fn.front.items l.fn.after.items;
   last : LastBefore l.at l.front.items;
-  later : All (λ o. o.start ≤ l.len) l.behind.items;
+  later : All (λ o. o.start ≤ l.len) l.after.items;
 }
 
 abbrev pub decreases-rows : goal.decreases-rows
-decreases-rows l = length l.behind.items
+decreases-rows l = length l.after.items

@@ -16,9 +16,9 @@ offsets_of-place-requires-clause-read c =
     c.in_ok-begin.ensures.entry (ap (λ n. filled_at n begin.rest.now) (sym c.parent_of-parent.ensures) ∙ filled) in
     record {
       limit = limit_view c.args.limit;
-      behind = c.args.front.text.now;
+      after = c.args.front.text.now;
       joined = c.requires.cut;
-      read = row_as (limit_view c.args.limit) c.args.front.gap.now c.args.front.text.now _ _ _ _ _ _ c.split_spaces.ensures c.as_bytes.ensures.value c.may_stand.ensures c.if-not-may_stand.false c.in_ok-begin.ensures.read marked;
+      read = row_as (limit_view c.args.limit) c.args.front.gap.now c.args.front.text.now _ _ _ _ _ _ c.split_spaces.ensures c.as_bytes.ensures.value c.may_be_here.ensures c.if-not-may_be_here.false c.in_ok-begin.ensures.read marked;
     }
 
 pub returns-clause-read : goal.returns-clause-read
@@ -30,11 +30,11 @@ returns-clause-read c =
     let filled : filled_at parent begin.rest.now ≡ Some (filling_view content) = rw (to_z-of_z w64 parent fits) at c.in_ok-content.ensures.read in
     let marked = marked_entry c.args.front.gap.now (length c.split_spaces.result.0.now) (begin_view begin) (filling_view content)
     c.in_ok-begin.ensures.entry (ap (λ n. filled_at n begin.rest.now) (sym c.parent_of-parent.ensures) ∙ filled) in
-    let asked : limit_view c.behind-limit.result ≡ limit_by (parent_of (mark_view begin.mark) (length c.split_spaces.result.0.now + begin.columns))
-    content.plain = (rw (to_z-of_z w64 parent fits) at c.behind-limit.ensures) ∙ ap (λ n. limit_by n content.plain) c.parent_of-parent.ensures in
-    row_as (limit_view c.args.limit) c.args.front.gap.now c.args.front.text.now _ _ _ _ _ _ c.split_spaces.ensures c.as_bytes.ensures.value c.may_stand.ensures c.if-not-may_stand.false c.in_ok-begin.ensures.read marked
+    let asked : limit_view c.after-limit.result ≡ limit_by (parent_of (mark_view begin.mark) (length c.split_spaces.result.0.now + begin.columns))
+    content.plain = (rw (to_z-of_z w64 parent fits) at c.after-limit.ensures) ∙ ap (λ n. limit_by n content.plain) c.parent_of-parent.ensures in
+    row_as (limit_view c.args.limit) c.args.front.gap.now c.args.front.text.now _ _ _ _ _ _ c.split_spaces.ensures c.as_bytes.ensures.value c.may_be_here.ensures c.if-not-may_be_here.false c.in_ok-begin.ensures.read marked
     ∙ (ap (λ (l : Limit). Some (read_slices c.args.front.gap.now (length c.split_spaces.result.0.now) begin content, l, content.rest.now)) (sym asked)
-    ∙ ap (λ (s : Slices). Some (s, limit_view c.behind-limit.result, content.rest.now)) (sym c.offsets_of-place.ensures.same))
+    ∙ ap (λ (s : Slices). Some (s, limit_view c.after-limit.result, content.rest.now)) (sym c.offsets_of-place.ensures.same))
 
 pub returns-clause-word : goal.returns-clause-word
 returns-clause-word c = λ yes.

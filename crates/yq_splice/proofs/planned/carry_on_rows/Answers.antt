@@ -4,7 +4,7 @@ use Rattle.yq_semantics.{specs.Operations.{Operation, operations_of}, specs.Unde
 use Rattle.yq_documents.specs.Reading.{cut_of}
 use Rattle.yq_text.specs.declared.edited.Edited.{Edited}
 use Rattle.yq_edit_laws.{specs.Answers.{Edits, EditFails}, specs.Carried.carry_all, specs.Edit.{edit_after, gives}, specs.Valid.AreServed}
-use Rattle.yq_edit_laws.proofs.OrderLaws.{fails_behind}
+use Rattle.yq_edit_laws.proofs.OrderLaws.{fails_after}
 use Rattle.yq_splice.{specs.Answers.MayEdit, proofs.SessionLaws.has_cut}
 use Rattle.yq_splice.proofs.planned.carry_on_rows.Goals as goal
 
@@ -22,14 +22,14 @@ returns-in-Some c =
     let one =
     subst (λ (o : Option Edited). MayEdit (Ok o) (carry_all (all_under c.deref.result.now) c.new.result)) c.in-Some.is c.in_ok-below.ensures in
     ap (edit_after c.args.splices.items) (ap (λ (os : List Operation). carry_all os c.args.text.now) (sym all) ∙ (ap (carry_all (all_under c.deref.result.now)) (sym c.new.ensures) ∙ one))
-    ∙ λ i. gives (string_bytes (sym c.in_ok-edited_behind.ensures.0 i)) (sym c.in_ok-edited_behind.ensures.1 i)
+    ∙ λ i. gives (string_bytes (sym c.in_ok-edited_after.ensures.0 i)) (sym c.in_ok-edited_after.ensures.1 i)
 
 pub returns-in_err-below : goal.returns-in_err-below
 returns-in_err-below c =
     let all : all_under c.deref.result.now ≡ all_under c.args.plan.items = ap all_under c.deref.ensures.value in
     let p = err_from_is_err_and c.from_residual.result c.from_residual.ensures.1 in
     rw (p.1, p.2)
-    (fails_behind c.in_err-below.field-0.0 c.args.splices.items (carry_all (all_under c.args.plan.items) c.args.text.now)
+    (fails_after c.in_err-below.field-0.0 c.args.splices.items (carry_all (all_under c.args.plan.items) c.args.text.now)
     (subst (λ (os : List Operation). EditFails c.in_err-below.field-0.0 (carry_all os c.args.text.now)) all
     (subst (λ (t : List ℕ). EditFails c.in_err-below.field-0.0 (carry_all (all_under c.deref.result.now) t)) c.new.ensures c.in_err-below.ensures)))
 

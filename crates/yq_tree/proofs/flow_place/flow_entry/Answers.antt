@@ -18,17 +18,17 @@ pub returns-in_err-at : goal.returns-in_err-at
 returns-in_err-at c =
     let u : List ℕ = c.of-cut.result in
     rw c.from_residual-in_err-at.ensures (walk_place u c.args.path.now.doc c.in_ok-walk.walk _ (λ k cut rs. flow_entry_of k cut rs (steps_of c.args.path.now)) c.in_ok-walk.ensures.cut c.in_ok-walk.ensures.place
-    (λ k. no_flow c.in_ok-walk.walk.document.first (cut_of u) k.document.stand.rows (steps_of c.args.path.now)
-    (c.in_err-at.ensures.found k.document ∙ ap (λ xs. reached (map tree_step xs) (lines_of_rows k.document.stand.rows)) c.deref.ensures.value))
+    (λ k. no_flow c.in_ok-walk.walk.document.first (cut_of u) k.document.are_there.rows (steps_of c.args.path.now)
+    (c.in_err-at.ensures.found k.document ∙ ap (λ xs. reached (map tree_step xs) (lines_of_rows k.document.are_there.rows)) c.deref.ensures.value))
     ∙ ap (λ t. flow_entry_at c.args.path.now (cut_of t)) c.of-cut.ensures)
 
 pub returns-then-is_empty : goal.returns-then-is_empty
 returns-then-is_empty c =
     let u : List ℕ = c.of-cut.result in
     walk_place u c.args.path.now.doc c.in_ok-walk.walk _ (λ k cut rs. flow_entry_of k cut rs (steps_of c.args.path.now)) c.in_ok-walk.ensures.cut c.in_ok-walk.ensures.place
-    (λ k. no_flow_left c.in_ok-walk.walk.document.first (cut_of u) k.document.stand.rows (steps_of c.args.path.now)
+    (λ k. no_flow_left c.in_ok-walk.walk.document.first (cut_of u) k.document.are_there.rows (steps_of c.args.path.now)
     (map tree_step c.in_ok-at.left.now) _
-    (c.in_ok-at.ensures.found k.document ∙ ap (λ xs. reached (map tree_step xs) (lines_of_rows k.document.stand.rows)) c.deref.ensures.value)
+    (c.in_ok-at.ensures.found k.document ∙ ap (λ xs. reached (map tree_step xs) (lines_of_rows k.document.are_there.rows)) c.deref.ensures.value)
     (c.if-is_empty.ensures ∙ sym (ap (λ n. eqb n 0) (length-map c.in_ok-at.left.now tree_step))))
     ∙ ap (λ t. flow_entry_at c.args.path.now (cut_of t)) c.of-cut.ensures
 
@@ -42,5 +42,5 @@ returns c =
     flow_found v w.rows.now c.args.path.now.doc w.document c.in_ok-at.at (steps_of c.args.path.now) (map tree_step c.in_ok-at.left.now) flow _
     cut.cut cut.rows (c.in_ok-walk.ensures.place ∙ ap (λ x. document_row_range c.args.path.now.doc (cut_of x)) same) cut.sound
     c.in_ok-at.ensures.within
-    (λ h. c.in_ok-at.ensures.found h ∙ ap (λ xs. reached (map tree_step xs) (lines_of_rows h.stand.rows)) c.deref.ensures.value) (λ r is. (c.decoded.ensures r is).flow) c.decoded_entry.ensures
+    (λ h. c.in_ok-at.ensures.found h ∙ ap (λ xs. reached (map tree_step xs) (lines_of_rows h.are_there.rows)) c.deref.ensures.value) (λ r is. (c.decoded.ensures r is).flow) c.decoded_entry.ensures
     (c.if-is_empty.ensures ∙ sym (ap (λ n. eqb n 0) (length-map c.in_ok-at.left.now tree_step)))

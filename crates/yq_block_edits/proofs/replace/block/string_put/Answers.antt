@@ -1,6 +1,6 @@
 use Rattle.std.proofs.Common.{IfOk, ◌≡◌, cond, sym, ◌∙◌, ap, subst}
 use Rattle.yq_core.{specs.BlockWritten.break_text, specs.Written.double}
-use Rattle.yq_places.specs.StandingViews.{held_view}
+use Rattle.yq_places.specs.PlacementViews.{held_view}
 use Rattle.yq_edit_rules.{specs.ReplaceEdits.{held_put, literal_put}, specs.WrittenValues.inline}
 use Rattle.yq_block_edits.proofs.replace.block.string_put.Goals as goal
 

@@ -1,6 +1,6 @@
 use Rattle.std.proofs.Common.{ℕ, List, IfOk, ◌≡◌, sym, ap, ◌∙◌, subst}
 use Rattle.yq_core.{specs.declared.style.Place.TheVariants.Block as InBlock, specs.Values.value_node, specs.BlockWritten.break_text}
-use Rattle.yq_places.specs.StandingViews.{held_view, held_mark_view}
+use Rattle.yq_places.specs.PlacementViews.{held_view, held_mark_view}
 use Rattle.yq_edit_rules.{specs.ReplaceEdits.held_put, specs.WrittenValues.{inline, value_text}}
 use Rattle.yq_block_edits.proofs.PlacedValueLaws.{unfilled_at}
 use Rattle.yq_block_edits.proofs.replace.held.text_put.Goals as goal

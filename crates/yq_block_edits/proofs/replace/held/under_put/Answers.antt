@@ -1,6 +1,6 @@
 use Rattle.std.proofs.Common.{IfOk, ◌≡◌, sym, ap, ◌∙◌, subst}
 use Rattle.yq_core.{specs.Values.value_node, specs.BlockWritten.break_text}
-use Rattle.yq_places.specs.StandingViews.{held_view, held_mark_view}
+use Rattle.yq_places.specs.PlacementViews.{held_view, held_mark_view}
 use Rattle.yq_edit_rules.{specs.ReplaceEdits.held_put, specs.WrittenValues.inline}
 use Rattle.yq_block_edits.proofs.PlacedValueLaws.{unfilled_below}
 use Rattle.yq_block_edits.proofs.replace.held.under_put.Goals as goal

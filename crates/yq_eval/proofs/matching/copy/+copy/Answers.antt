@@ -2,7 +2,7 @@ use Rattle.std.{proofs.Common.{ℕ, List, [], ◌∷◌, ◌++◌, map, refl, sy
 use Rattle.yq_core.{specs.Values.{field_of, value_node}, specs.Tree.Node}
 use Rattle.yq_nodes.{specs.Children.left_of, specs.Nodes.{label_of, node_of}}
 use Rattle.yq_semantics.{specs.Copies.{item_copies, entry_copies}, proofs.ValueMaps.node_of-map}
-use Rattle.yq_eval.{specs.PlaceView.put_behind, specs.TreeScalars.EachHasScalars}
+use Rattle.yq_eval.{specs.PlaceView.put_after, specs.TreeScalars.EachHasScalars}
 use Rattle.yq_eval.proofs.CopyLaws.{items_more, entries_more, map_copied, depth_below, items_done, entries_done, fewer, count_within}
 use Rattle.yq_eval.proofs.CopyLaws.{deep_within}
 use Rattle.yq_eval.proofs.matching.copy.+copy.Goals as goal
@@ -27,8 +27,8 @@ entry_copies-each-preserved t c =
           c.each.invariant.counted;
       deep = deep_within (left_of c.each.entries) (left_of c.next.new.self) (label_of c.in-Some.entry) (node_of c.in-Some.entry) _ is c.each.invariant.deep;
       so_far =
-          ap (λ (es : List (List ℕ × Node)). put_behind es (entry_copies (left_of c.next.new.self))) (ap (map field_of) c.in_ok-push.ensures.items ∙ map_push field_of c.each.copies.items (c.in_ok-key_of.field-0, c.in_ok-value.value))
-          ∙ (ap (λ (k : List ℕ). put_behind (map field_of c.each.copies.items ++ (k, value_node c.in_ok-value.value) ∷ []) (entry_copies (left_of c.next.new.self))) c.in_ok-key_of.ensures
+          ap (λ (es : List (List ℕ × Node)). put_after es (entry_copies (left_of c.next.new.self))) (ap (map field_of) c.in_ok-push.ensures.items ∙ map_push field_of c.each.copies.items (c.in_ok-key_of.field-0, c.in_ok-value.value))
+          ∙ (ap (λ (k : List ℕ). put_after (map field_of c.each.copies.items ++ (k, value_node c.in_ok-value.value) ∷ []) (entry_copies (left_of c.next.new.self))) c.in_ok-key_of.ensures
           ∙ entries_more (map field_of c.each.copies.items) (left_of c.each.entries) (left_of c.next.new.self) (label_of c.in-Some.entry) (node_of c.in-Some.entry) _ _ is c.in_ok-value.ensures c.each.invariant.so_far);
     }
 
@@ -46,7 +46,7 @@ item_copies-each-preserved t c =
       counted = count_within (left_of c.each.items) (left_of c.next.new.self) (label_of c.in-Some.item) (node_of c.in-Some.item) _ is c.each.invariant.counted;
       deep = deep_within (left_of c.each.items) (left_of c.next.new.self) (label_of c.in-Some.item) (node_of c.in-Some.item) _ is c.each.invariant.deep;
       so_far =
-          ap (λ (vs : List Node). put_behind vs (item_copies (left_of c.next.new.self))) (ap (map value_node) c.in_ok-push.ensures.items ∙ map_push value_node c.each.copies.items c.in_ok-copy.field-0)
+          ap (λ (vs : List Node). put_after vs (item_copies (left_of c.next.new.self))) (ap (map value_node) c.in_ok-push.ensures.items ∙ map_push value_node c.each.copies.items c.in_ok-copy.field-0)
           ∙ items_more (map value_node c.each.copies.items) (left_of c.each.items) (left_of c.next.new.self) (label_of c.in-Some.item) (node_of c.in-Some.item) _ _ is c.in_ok-copy.ensures c.each.invariant.so_far;
     }
 

@@ -2,7 +2,7 @@ use Rattle.std.proofs.Common.{◌≡◌, ◌+◌, ◌*◌, ◌≤◌, map}
 use Rattle.yq_core.{specs.Values.{field_of, value_node}, specs.Keys.{depth, deepest}, specs.Tree.children_of}
 use Rattle.yq_nodes.{specs.Children.left_of, specs.Nodes.node_of}
 use Rattle.yq_outline.specs.Counts.{count}
-use Rattle.yq_eval.{specs.PlaceView.put_behind, specs.TreeScalars.EachHasScalars}
+use Rattle.yq_eval.{specs.PlaceView.put_after, specs.TreeScalars.EachHasScalars}
 use Rattle.yq_semantics.specs.Copies as spec
 use Rattle.yq_eval.proofs.matching.copy.+copy.Given as goal
 
@@ -20,7 +20,7 @@ invariant-item_copies-each l = record {
   scalars : EachHasScalars (left_of l.items);
   counted : count (left_of l.items) ≤ count (children_of (node_of l.fn.node));
   deep : deepest (left_of l.items) ≤ deepest (children_of (node_of l.fn.node));
-  so_far : put_behind (map value_node l.copies.items) (spec.item_copies (left_of l.items)) ≡ spec.item_copies (children_of (node_of l.fn.node));
+  so_far : put_after (map value_node l.copies.items) (spec.item_copies (left_of l.items)) ≡ spec.item_copies (children_of (node_of l.fn.node));
 }
 
 abbrev pub decreases-item_copies-each : goal.decreases-item_copies-each
@@ -31,7 +31,7 @@ invariant-entry_copies-each l = record {
   scalars : EachHasScalars (left_of l.entries);
   counted : count (left_of l.entries) ≤ count (children_of (node_of l.fn.node));
   deep : deepest (left_of l.entries) ≤ deepest (children_of (node_of l.fn.node));
-  so_far : put_behind (map field_of l.copies.items) (spec.entry_copies (left_of l.entries)) ≡ spec.entry_copies (children_of (node_of l.fn.node));
+  so_far : put_after (map field_of l.copies.items) (spec.entry_copies (left_of l.entries)) ≡ spec.entry_copies (children_of (node_of l.fn.node));
 }
 
 abbrev pub decreases-entry_copies-each : goal.decreases-entry_copies-each

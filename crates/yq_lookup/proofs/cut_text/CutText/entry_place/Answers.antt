@@ -12,4 +12,4 @@ pub returns : goal.returns
 returns c =
     let t : List ℕ = c.args.self.now in
     walk_place t c.args.path.now.doc c.in_ok-walk.walk _ (λ k cut rows. line_entry_of k cut rows (steps_of c.args.path.now)) c.in_ok-walk.ensures.cut c.in_ok-walk.ensures.place
-    (λ k. c.entry_of.ensures (cut_of t) k ∙ ap (λ xs. line_entry_of c.in_ok-walk.walk.document.first (cut_of t) k.document.stand.rows (map tree_step xs)) c.deref.ensures.value)
+    (λ k. c.entry_of.ensures (cut_of t) k ∙ ap (λ xs. line_entry_of c.in_ok-walk.walk.document.first (cut_of t) k.document.are_there.rows (map tree_step xs)) c.deref.ensures.value)

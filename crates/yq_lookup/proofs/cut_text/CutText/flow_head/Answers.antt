@@ -28,7 +28,7 @@ returns-in_default-node_place-clause-found c =
     let d = c.in-Some.walk.document in
     no_flow_agrees t (flow_collection c.args.doc steps (cut_of t))
     (walk_place t c.args.doc c.in-Some.walk None (λ k x rs. rows_collection k x rs steps) c.in-Some.ensures.cut c.in-Some.ensures.place
-    (λ k. no_collection d.first (cut_of t) k.document.stand.rows steps (no_head_at (lines_of_rows k.document.stand.rows) steps (c.in_default-node_place.ensures.found k.document)))
+    (λ k. no_collection d.first (cut_of t) k.document.are_there.rows steps (no_head_at (lines_of_rows k.document.are_there.rows) steps (c.in_default-node_place.ensures.found k.document)))
     ∙ collection_is (cut_of t) c.args.doc steps)
 
 pub returns-in_default-place_line-clause-found : goal.returns-in_default-place_line-clause-found
@@ -38,10 +38,10 @@ returns-in_default-place_line-clause-found c =
     let d = c.in-Some.walk.document in
     no_flow_agrees t (flow_collection c.args.doc steps (cut_of t))
     (walk_place t c.args.doc c.in-Some.walk None (λ k x rs. rows_collection k x rs steps) c.in-Some.ensures.cut c.in-Some.ensures.place
-    (λ k. no_collection d.first (cut_of t) k.document.stand.rows steps
-    (head_line_at (lines_of_rows k.document.stand.rows) steps (map tree_step c.in-Some-node_place.left.now)
-    (place_view d k.document.stand.rows c.in-Some-node_place.place) None (c.in-Some-node_place.ensures.found k.document)
-    (c.in_default-place_line.ensures.found k.document.stand)))
+    (λ k. no_collection d.first (cut_of t) k.document.are_there.rows steps
+    (head_line_at (lines_of_rows k.document.are_there.rows) steps (map tree_step c.in-Some-node_place.left.now)
+    (place_view d k.document.are_there.rows c.in-Some-node_place.place) None (c.in-Some-node_place.ensures.found k.document)
+    (c.in_default-place_line.ensures.found k.document.are_there)))
     ∙ collection_is (cut_of t) c.args.doc steps)
 
 pub returns-in-Nothing-clause-found : goal.returns-in-Nothing-clause-found
@@ -56,9 +56,9 @@ returns-in-Nothing-clause-found c =
     let cut = c.in-Some.ensures.cut.cut in
     let f = walk_found t c.args.doc c.in-Some.walk c.in-Some.ensures.cut c.in-Some.ensures.place in
     let k = (found_in_cut t rows (cut_of t) c.args.doc d cut c.in-Some.ensures.cut.rows f).0 in
-    let leads = head_line_at (lines_of_rows k.document.stand.rows) steps left (place_view d k.document.stand.rows c.in-Some-node_place.place)
-    (Some (line_number d k.document.stand.rows q)) (c.in-Some-node_place.ensures.found k.document)
-    (c.in-Some-place_line.ensures.found k.document.stand) in
+    let leads = head_line_at (lines_of_rows k.document.are_there.rows) steps left (place_view d k.document.are_there.rows c.in-Some-node_place.place)
+    (Some (line_number d k.document.are_there.rows q)) (c.in-Some-node_place.ensures.found k.document)
+    (c.in-Some-place_line.ensures.found k.document.are_there) in
     let head = c.in_ok-head.ensures (row_is rows d (cut_of t) k q at) (row_in_cut rows d (cut_of t) k q at) in
     other_head t rows (cut_of t) c.args.doc d cut c.in-Some.ensures.cut.rows f q at steps left (sym leads) (length c.in_ok-head.text.now) (ap head_flow (sym c.in-Nothing.is) ∙ head.flow)
 
@@ -74,9 +74,9 @@ returns-in-Scalar-clause-found c =
     let cut = c.in-Some.ensures.cut.cut in
     let f = walk_found t c.args.doc c.in-Some.walk c.in-Some.ensures.cut c.in-Some.ensures.place in
     let k = (found_in_cut t rows (cut_of t) c.args.doc d cut c.in-Some.ensures.cut.rows f).0 in
-    let leads = head_line_at (lines_of_rows k.document.stand.rows) steps left (place_view d k.document.stand.rows c.in-Some-node_place.place)
-    (Some (line_number d k.document.stand.rows q)) (c.in-Some-node_place.ensures.found k.document)
-    (c.in-Some-place_line.ensures.found k.document.stand) in
+    let leads = head_line_at (lines_of_rows k.document.are_there.rows) steps left (place_view d k.document.are_there.rows c.in-Some-node_place.place)
+    (Some (line_number d k.document.are_there.rows q)) (c.in-Some-node_place.ensures.found k.document)
+    (c.in-Some-place_line.ensures.found k.document.are_there) in
     let head = c.in_ok-head.ensures (row_is rows d (cut_of t) k q at) (row_in_cut rows d (cut_of t) k q at) in
     other_head t rows (cut_of t) c.args.doc d cut c.in-Some.ensures.cut.rows f q at steps left (sym leads) (length c.in_ok-head.text.now) (ap head_flow (sym c.in-Scalar.is) ∙ head.flow)
 
@@ -93,9 +93,9 @@ returns-clause-whole c =
     let cut = c.in-Some.ensures.cut.cut in
     let f = walk_found t c.args.doc c.in-Some.walk c.in-Some.ensures.cut c.in-Some.ensures.place in
     let k = (found_in_cut t rows (cut_of t) c.args.doc d cut c.in-Some.ensures.cut.rows f).0 in
-    let leads = head_line_at (lines_of_rows k.document.stand.rows) steps left (place_view d k.document.stand.rows c.in-Some-node_place.place)
-    (Some (line_number d k.document.stand.rows q)) (c.in-Some-node_place.ensures.found k.document)
-    (c.in-Some-place_line.ensures.found k.document.stand) in
+    let leads = head_line_at (lines_of_rows k.document.are_there.rows) steps left (place_view d k.document.are_there.rows c.in-Some-node_place.place)
+    (Some (line_number d k.document.are_there.rows q)) (c.in-Some-node_place.ensures.found k.document)
+    (c.in-Some-place_line.ensures.found k.document.are_there) in
     let row = row_is rows d (cut_of t) k q at in
     let there = row_in_cut rows d (cut_of t) k q at in
     let head = c.in_ok-head.ensures row there in

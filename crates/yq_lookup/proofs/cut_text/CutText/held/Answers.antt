@@ -2,8 +2,8 @@ use Rattle.std.proofs.Common.{Some, refl, sym, ap, ◌∙◌, subst}
 use Rattle.yq_text.specs.Halves.{whole}
 use Rattle.yq_row_table.{specs.Grammar.IsCut, specs.View.rows_view}
 use Rattle.yq_documents.{specs.Located.steps_of, specs.Reading.cut_of}
-use Rattle.yq_places.{specs.StandingReading.numbers_at, specs.StandingViews.held_at, proofs.EntryNumbers.entry_found}
-use Rattle.yq_places.proofs.StandingViewLaws.{held_there, no_held, other_held}
+use Rattle.yq_places.{specs.PlacementReading.numbers_at, specs.PlacementViews.held_at, proofs.EntryNumbers.entry_found}
+use Rattle.yq_places.proofs.PlacementViewLaws.{held_there, no_held, other_held}
 use Rattle.yq_lookup.proofs.cut_text.CutText.held.Goals as goal
 
 pub returns-in_err-entry : goal.returns-in_err-entry

@@ -1,7 +1,8 @@
 use Rattle.std.{proofs.Common.{option_map, sym, ap, ◌∙◌, subst}, proofs.lemmas.Option.same_Some, specs.Str.IsUtf8}
 use Rattle.yq_text.specs.Halves.{whole}
-use Rattle.yq_places.{specs.RowLineReading.position_in, specs.StandingViews.piece_view}
-use Rattle.yq_places.{proofs.CommentEndLaws.{no_lines_above, other_lines_above, gap_stands, lines_above_is}, proofs.RowLineSpans.row_within}
+use Rattle.yq_places.{specs.RowLineReading.position_in, specs.PlacementViews.piece_view}
+use Rattle.yq_places.proofs.CommentEndLaws.{no_lines_above, other_lines_above, gap_is_there, lines_above_is}
+use Rattle.yq_places.proofs.RowLineSpans.{row_within}
 use Rattle.yq_documents.{specs.Located.steps_of, specs.Reading.cut_of, specs.LinesInRows.{document_row, row_line_at}}
 use Rattle.yq_row_table.specs.View.{Slices}
 use Rattle.yq_places.specs.CommentPlaces as spec
@@ -25,7 +26,7 @@ row-row-requires c =
 
 pub above-requires : goal.above-requires
 above-requires c = record {
-  gap = (gap_stands (whole c.self.inside.text) c.self.inside.rows.now c.self.invariant.0 c.args.path.now c.in_ok-at.at
+  gap = (gap_is_there (whole c.self.inside.text) c.self.inside.rows.now c.self.invariant.0 c.args.path.now c.in_ok-at.at
       (c.in_ok-at.ensures ∙ ap (λ t. option_map (position_in (document_row c.args.path.now.doc (cut_of t))) (row_line_at c.args.path.now (cut_of t))) (sym c.self.view_is))
       c.row_start-start.result c.gap-gap.result.now (whole c.whole-whole.result) c.row_start-start.ensures
       (λ (y : Slices) is. c.gap-gap.ensures ∙ ap (λ (s : Slices). s.gap) (same_Some _ _ (sym c.row-row.ensures ∙ is)))

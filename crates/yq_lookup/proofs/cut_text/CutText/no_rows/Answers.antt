@@ -1,7 +1,7 @@
 use Rattle.std.{proofs.Common.{List, ℕ, take, drop, sym, ap, ◌∙◌, subst}, specs.Str.{IsUtf8, IsCharBoundary}}
 use Rattle.yq_text.specs.Halves.{whole}
 use Rattle.yq_documents.specs.Reading.{cut_of}
-use Rattle.yq_places.{proofs.RootPlaceLaws.{unwritten_boundary, rowless_agrees}, proofs.RootStandingLaws.no_bare}
+use Rattle.yq_places.{proofs.RootPlaceLaws.{unwritten_boundary, rowless_agrees}, proofs.RootPlacementLaws.no_bare}
 use Rattle.yq_lookup.proofs.cut_text.CutText.no_rows.Goals as goal
 
 pub returns-in_err-end : goal.returns-in_err-end

@@ -1,6 +1,6 @@
 use Rattle.std.proofs.Common.{refl, ℕ, List, map, Option, None, Some, sym, ap, ◌∙◌}
 use Rattle.yq_core.{specs.Entries.tree_step, specs.Answers.◌>>=◌, specs.Paths.Step}
-use Rattle.yq_row_table.specs.Exchange.{behind_row}
+use Rattle.yq_row_table.specs.Exchange.{after_row}
 use Rattle.yq_outline.{specs.Lines.{lines_of_rows, head_of}, specs.RowWalk.line_number, specs.View.head_view}
 use Rattle.yq_documents.specs.Reading.{cut_of}
 use Rattle.yq_places.specs.NodeReading.{NodePlace, place_node, place_view}
@@ -44,10 +44,10 @@ returns-in_default-node_place c =
     let d = c.in-Some.walk.document in
     record {
       flow = sym (walk_place t c.args.doc c.in-Some.walk None (λ k x rs. rows_collection k x rs steps) c.in-Some.ensures.cut c.in-Some.ensures.place
-          (λ k. no_collection d.first (cut_of t) k.document.stand.rows steps (no_head_at (lines_of_rows k.document.stand.rows) steps (c.in_default-node_place.ensures.found k.document)))
+          (λ k. no_collection d.first (cut_of t) k.document.are_there.rows steps (no_head_at (lines_of_rows k.document.are_there.rows) steps (c.in_default-node_place.ensures.found k.document)))
           ∙ collection_is (cut_of t) c.args.doc steps);
       node = walk_place t c.args.doc c.in-Some.walk None (node_among steps) c.in-Some.ensures.cut c.in-Some.ensures.place
-          (λ k. ap (λ (o : Option (NodePlace × List Step)). o >>= λ x. place_node (lines_of_rows k.document.stand.rows) x.0 x.1) (c.in_default-node_place.ensures.found k.document))
+          (λ k. ap (λ (o : Option (NodePlace × List Step)). o >>= λ x. place_node (lines_of_rows k.document.are_there.rows) x.0 x.1) (c.in_default-node_place.ensures.found k.document))
           ∙ node_is (cut_of t) c.args.doc steps 0 c.in-Some.ensures.cut.sound;
     }
 
@@ -58,16 +58,16 @@ returns-in_default-place_line c =
     let d = c.in-Some.walk.document in
     record {
       flow = sym (walk_place t c.args.doc c.in-Some.walk None (λ k x rs. rows_collection k x rs steps) c.in-Some.ensures.cut c.in-Some.ensures.place
-          (λ k. no_collection d.first (cut_of t) k.document.stand.rows steps
-          (head_line_at (lines_of_rows k.document.stand.rows) steps (map tree_step c.in-Some-node_place.left.now)
-          (place_view d k.document.stand.rows c.in-Some-node_place.place) None (c.in-Some-node_place.ensures.found k.document)
-          (c.in_default-place_line.ensures.found k.document.stand)))
+          (λ k. no_collection d.first (cut_of t) k.document.are_there.rows steps
+          (head_line_at (lines_of_rows k.document.are_there.rows) steps (map tree_step c.in-Some-node_place.left.now)
+          (place_view d k.document.are_there.rows c.in-Some-node_place.place) None (c.in-Some-node_place.ensures.found k.document)
+          (c.in_default-place_line.ensures.found k.document.are_there)))
           ∙ collection_is (cut_of t) c.args.doc steps);
       node = walk_place t c.args.doc c.in-Some.walk _ (node_among steps) c.in-Some.ensures.cut c.in-Some.ensures.place
-          (λ k. c.block_node-node.ensures k.document.stand (sym (c.in_default-place_line.ensures.found k.document.stand))
-          ∙ block_numbers_of (lines_of_rows k.document.stand.rows) steps (map tree_step c.in-Some-node_place.left.now)
-          (place_view d k.document.stand.rows c.in-Some-node_place.place) (c.in-Some-node_place.ensures.found k.document)
-          (c.in_default-place_line.ensures.found k.document.stand))
+          (λ k. c.block_node-node.ensures k.document.are_there (sym (c.in_default-place_line.ensures.found k.document.are_there))
+          ∙ block_numbers_of (lines_of_rows k.document.are_there.rows) steps (map tree_step c.in-Some-node_place.left.now)
+          (place_view d k.document.are_there.rows c.in-Some-node_place.place) (c.in-Some-node_place.ensures.found k.document)
+          (c.in_default-place_line.ensures.found k.document.are_there))
           ∙ node_is (cut_of t) c.args.doc steps 0 c.in-Some.ensures.cut.sound;
     }
 
@@ -83,16 +83,16 @@ returns-in_ok-node-in-None c =
     let cut = c.in-Some.ensures.cut.cut in
     let f = walk_found t c.args.doc c.in-Some.walk c.in-Some.ensures.cut c.in-Some.ensures.place in
     let k = (found_in_cut t rows (cut_of t) c.args.doc d cut c.in-Some.ensures.cut.rows f).0 in
-    let leads = head_line_at (lines_of_rows k.document.stand.rows) steps left (place_view d k.document.stand.rows c.in-Some-node_place.place)
-    (Some (line_number d k.document.stand.rows q)) (c.in-Some-node_place.ensures.found k.document)
-    (c.in-Some-place_line.ensures.found k.document.stand) in
+    let leads = head_line_at (lines_of_rows k.document.are_there.rows) steps left (place_view d k.document.are_there.rows c.in-Some-node_place.place)
+    (Some (line_number d k.document.are_there.rows q)) (c.in-Some-node_place.ensures.found k.document)
+    (c.in-Some-place_line.ensures.found k.document.are_there) in
     record {
       flow = collection_at t rows (cut_of t) c.args.doc d cut c.in-Some.ensures.cut.rows f q at steps left (sym leads)
           ∙ c.in-None.ensures (row_is rows d (cut_of t) k q at) (row_in_cut rows d (cut_of t) k q at) left;
       node = c.in_ok-node-in-None.ensures
           ∙ (walk_place t c.args.doc c.in-Some.walk _ (node_among steps) c.in-Some.ensures.cut c.in-Some.ensures.place
-          (λ k. head_agrees rows d (cut_of t) k q at steps left (place_view d k.document.stand.rows c.in-Some-node_place.place)
-          (head_view c.in_ok-head-in-None.head) (c.in-Some-node_place.ensures.found k.document) (c.in-Some-place_line.ensures.found k.document.stand)
+          (λ k. head_agrees rows d (cut_of t) k q at steps left (place_view d k.document.are_there.rows c.in-Some-node_place.place)
+          (head_view c.in_ok-head-in-None.head) (c.in-Some-node_place.ensures.found k.document) (c.in-Some-place_line.ensures.found k.document.are_there)
           (c.in_ok-head-in-None.ensures (row_is rows d (cut_of t) k q at) (row_in_cut rows d (cut_of t) k q at)).view)
           ∙ node_is (cut_of t) c.args.doc steps 0 c.in-Some.ensures.cut.sound);
     }
@@ -109,21 +109,21 @@ returns-in-Some-row_front c =
     let cut = c.in-Some.ensures.cut.cut in
     let f = walk_found t c.args.doc c.in-Some.walk c.in-Some.ensures.cut c.in-Some.ensures.place in
     let k = (found_in_cut t rows (cut_of t) c.args.doc d cut c.in-Some.ensures.cut.rows f).0 in
-    let leads = head_line_at (lines_of_rows k.document.stand.rows) steps left (place_view d k.document.stand.rows c.in-Some-node_place.place)
-    (Some (line_number d k.document.stand.rows q)) (c.in-Some-node_place.ensures.found k.document)
-    (c.in-Some-place_line.ensures.found k.document.stand) in
+    let leads = head_line_at (lines_of_rows k.document.are_there.rows) steps left (place_view d k.document.are_there.rows c.in-Some-node_place.place)
+    (Some (line_number d k.document.are_there.rows q)) (c.in-Some-node_place.ensures.found k.document)
+    (c.in-Some-place_line.ensures.found k.document.are_there) in
     record {
       flow = record {
         row = row_is rows d (cut_of t) k q at;
-        behind = behind_row q.row (cut_of t);
+        after = after_row q.row (cut_of t);
         front = c.in-Some-row_front.ensures (row_is rows d (cut_of t) k q at) (row_in_cut rows d (cut_of t) k q at);
         found = collection_at t rows (cut_of t) c.args.doc d cut c.in-Some.ensures.cut.rows f q at steps left (sym leads);
       };
       node =
           walk_place t c.args.doc c.in-Some.walk _ (node_among steps) c.in-Some.ensures.cut c.in-Some.ensures.place
-          (λ k. summary_there t (behind_row q.row (cut_of t)) (row_is rows d (cut_of t) k q at) _
+          (λ k. summary_there t (after_row q.row (cut_of t)) (row_is rows d (cut_of t) k q at) _
           (c.in-Some-row_front.ensures (row_is rows d (cut_of t) k q at) (row_in_cut rows d (cut_of t) k q at)) left
-          ∙ head_agrees rows d (cut_of t) k q at steps left (place_view d k.document.stand.rows c.in-Some-node_place.place)
-          (head_of (row_is rows d (cut_of t) k q at).content) (c.in-Some-node_place.ensures.found k.document) (c.in-Some-place_line.ensures.found k.document.stand) refl)
+          ∙ head_agrees rows d (cut_of t) k q at steps left (place_view d k.document.are_there.rows c.in-Some-node_place.place)
+          (head_of (row_is rows d (cut_of t) k q at).content) (c.in-Some-node_place.ensures.found k.document) (c.in-Some-place_line.ensures.found k.document.are_there) refl)
           ∙ node_is (cut_of t) c.args.doc steps 0 c.in-Some.ensures.cut.sound;
     }

@@ -13,4 +13,4 @@ pub returns : goal.returns
 returns c =
     let t : List ℕ = c.args.self.now in
     walk_place t c.args.path.now.doc c.in_ok-walk.walk _ (λ k cut rows. option_map (marks k) (own_rows (steps_of c.args.path.now) rows)) c.in_ok-walk.ensures.cut c.in_ok-walk.ensures.place
-    (λ k. c.own_rows.ensures k.document ∙ ap (λ xs. option_map (marks c.in_ok-walk.walk.document.first) (own_rows (map tree_step xs) k.document.stand.rows)) c.deref.ensures.value)
+    (λ k. c.own_rows.ensures k.document ∙ ap (λ xs. option_map (marks c.in_ok-walk.walk.document.first) (own_rows (map tree_step xs) k.document.are_there.rows)) c.deref.ensures.value)

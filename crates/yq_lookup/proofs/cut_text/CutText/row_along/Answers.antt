@@ -10,7 +10,7 @@ pub row_of_last-requires-clause-within : goal.row_of_last-requires-clause-within
 row_of_last-requires-clause-within c =
     let at = subst (λ o. IfSome o (λ k. IsLineAt c.in-Some.walk.rows.now c.in-Some.walk.document (map tree_step c.deref.result.now) k.at)) c.in-Some-line.is c.known_along-way.ensures.at in
     (line_in c.in-Some.walk.rows.now c.in-Some.walk.document _ c.in-Some-line.line.at
-    (walk_found c.args.self.now c.args.path.now.doc c.in-Some.walk c.in-Some.ensures.cut c.in-Some.ensures.place).document.stand at).1.1
+    (walk_found c.args.self.now c.args.path.now.doc c.in-Some.walk c.in-Some.ensures.cut c.in-Some.ensures.place).document.are_there at).1.1
 
 pub returns-clause-row : goal.returns-clause-row
 returns-clause-row c =
@@ -19,7 +19,7 @@ returns-clause-row c =
     let d = c.in-Some.walk.document in
     let at = subst (λ o. IfSome o (λ k. IsLineAt s d (map tree_step c.deref.result.now) k.at)) c.in-Some-line.is c.known_along-way.ensures.at in
     let there = subst (λ xs. IsLineAt s d (map tree_step xs) c.in-Some-line.line.at) c.deref.ensures.value at in
-    let y = line_in s d _ c.in-Some-line.line.at (walk_found t c.args.path.now.doc c.in-Some.walk c.in-Some.ensures.cut c.in-Some.ensures.place).document.stand there in
+    let y = line_in s d _ c.in-Some-line.line.at (walk_found t c.args.path.now.doc c.in-Some.walk c.in-Some.ensures.cut c.in-Some.ensures.place).document.are_there there in
     IfSome_then c.row_of_last.result c.row_of_last.ensures
     (λ x says. held_row_is t s c.args.path.now.doc d (steps_of c.args.path.now) c.in-Some-line.line.at x c.in-Some.ensures.cut.cut c.in-Some.ensures.cut.rows c.in-Some.ensures.place c.in-Some.ensures.cut.sound there y.0 y.1.0 says)
 

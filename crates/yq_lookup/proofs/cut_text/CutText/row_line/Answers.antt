@@ -11,4 +11,4 @@ returns c =
     let steps = map tree_step c.deref.result.now in
     let f = walk_found c.args.self.now c.args.path.now.doc walk c.in_ok-walk.ensures.cut c.in_ok-walk.ensures.place in
     row_line_found walk.rows.now (cut_of c.args.self.now) c.args.path.now walk.document steps _ f (ap (map tree_step) c.deref.ensures.value)
-    (row_line_reached walk.rows.now walk.document f.document.stand steps c.line_at.result c.line_at.ensures.within (c.line_at.ensures.found f.document))
+    (row_line_reached walk.rows.now walk.document f.document.are_there steps c.line_at.result c.line_at.ensures.within (c.line_at.ensures.found f.document))

@@ -13,7 +13,7 @@ step_in false ls = refl
 pub returns : goal.returns
 returns c =
     let f = walk_found c.args.self.now c.args.doc c.in-Some.walk c.in-Some.ensures.cut c.in-Some.ensures.place in
-    c.first_step.ensures f.document.stand
-    ∙ (step_in c.args.dashes (lines_of_rows f.document.stand.rows)
+    c.first_step.ensures f.document.are_there
+    ∙ (step_in c.args.dashes (lines_of_rows f.document.are_there.rows)
     ∙ ap (λ (x : IndentSteps). cond c.args.dashes x.sequence x.mapping)
     (steps_found c.in-Some.walk.rows.now (cut_of c.args.self.now) c.args.doc c.in-Some.walk.document f))

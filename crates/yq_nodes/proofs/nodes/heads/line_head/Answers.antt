@@ -2,7 +2,7 @@ use Rattle.std.{proofs.Common.{◌≡◌, List, ℕ, false, true, ap, subst, sym
 use Rattle.yq_core.{specs.Scalars.is_quoted, specs.Quoted.IsQuotedText}
 use Rattle.yq_row_table.specs.View.{slices}
 use Rattle.yq_documents.specs.Decoded.{borrowed_head, decoded_or}
-use Rattle.yq_documents.proofs.WalkedRows.{line_here, located_in, of_line, row_in, row_there, stands}
+use Rattle.yq_documents.proofs.WalkedRows.{line_here, located_in, of_line, row_in, row_there, is_located}
 use Rattle.yq_documents.proofs.LineWritten.{head_none, head_quoted, head_some}
 use Rattle.yq_nodes.proofs.nodes.heads.line_head.Goals as goal
 
@@ -35,7 +35,7 @@ returns-in-None c = λ l e.
     ∙ (agrees.head ∙ head_some c.document_rows.ensures c.requires.line l e (of_line c.document_rows.ensures c.args.at (λ m. true ≡ is_some m.head) c.if-not-has_head.ensures l e))))
 
 pub has_head-requires-clause-document : goal.has_head-requires-clause-document
-has_head-requires-clause-document c = stands c.document_rows.ensures
+has_head-requires-clause-document c = is_located c.document_rows.ensures
 
 pub has_head-requires-clause-position : goal.has_head-requires-clause-position
 has_head-requires-clause-position c = line_here c.document_rows.ensures c.requires.line

@@ -1,7 +1,7 @@
 use Rattle.std.proofs.Common.{Some, option_map, ap, ◌∙◌}
 use Rattle.yq_row_table.specs.View.{slices}
 use Rattle.yq_outline.proofs.WalkMarks.{quoted_agrees}
-use Rattle.yq_documents.{specs.Decoded.decoded_key, proofs.WalkedRows.{line_here, located_in, row_in, row_there, stands}}
+use Rattle.yq_documents.{specs.Decoded.decoded_key, proofs.WalkedRows.{line_here, located_in, row_in, row_there, is_located}}
 use Rattle.yq_documents.proofs.LineWritten.{no_key, own_key}
 use Rattle.yq_nodes.proofs.nodes.heads.line_key.Goals as goal
 
@@ -12,7 +12,7 @@ pub key-requires : goal.key-requires
 key-requires c = row_in c.document_rows.ensures c.requires.line
 
 pub decoded_key-requires : goal.decoded_key-requires
-decoded_key-requires c = quoted_agrees c.document_rows.result.0.now c.document_rows.result.1 (stands c.document_rows.ensures) c.args.at (line_here c.document_rows.ensures c.requires.line) c.key.result.now c.key.ensures
+decoded_key-requires c = quoted_agrees c.document_rows.result.0.now c.document_rows.result.1 (is_located c.document_rows.ensures) c.args.at (line_here c.document_rows.ensures c.requires.line) c.key.result.now c.key.ensures
 
 pub returns : goal.returns
 returns c = λ l e.

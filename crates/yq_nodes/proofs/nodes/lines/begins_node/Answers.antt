@@ -1,6 +1,6 @@
 use Rattle.std.proofs.Common.{◌≡◌}
 use Rattle.yq_outline.specs.Positions.{has_no_mark}
-use Rattle.yq_documents.proofs.WalkedRows.{line_here, of_line, stands}
+use Rattle.yq_documents.proofs.WalkedRows.{line_here, of_line, is_located}
 use Rattle.yq_nodes.proofs.nodes.lines.begins_node.Goals as goal
 
 pub returns : goal.returns
@@ -10,7 +10,7 @@ pub is_bare-requires-clause-rows_view : goal.is_bare-requires-clause-rows_view
 is_bare-requires-clause-rows_view c = c.document_rows.ensures.small
 
 pub is_bare-requires-clause-document : goal.is_bare-requires-clause-document
-is_bare-requires-clause-document c = stands c.document_rows.ensures
+is_bare-requires-clause-document c = is_located c.document_rows.ensures
 
 pub is_bare-requires-clause-position : goal.is_bare-requires-clause-position
 is_bare-requires-clause-position c = line_here c.document_rows.ensures c.requires.line

@@ -1,6 +1,6 @@
 use Rattle.std.proofs.Common.{◌≡◌, not}
 use Rattle.yq_outline.{specs.Ends.{has_no_lines, part}, proofs.WalkPositions.position_line}
-use Rattle.yq_documents.proofs.WalkedRows.{line_back, position_here, stands, agrees_rows}
+use Rattle.yq_documents.proofs.WalkedRows.{line_back, position_here, is_located, agrees_rows}
 use Rattle.yq_nodes.proofs.nodes.lines.has_lines.Goals as goal
 
 pub document_rows-requires : goal.document_rows-requires
@@ -10,7 +10,7 @@ pub is_deeper-requires-clause-rows_view : goal.is_deeper-requires-clause-rows_vi
 is_deeper-requires-clause-rows_view c = c.document_rows.ensures.small
 
 pub is_deeper-requires-clause-document : goal.is_deeper-requires-clause-document
-is_deeper-requires-clause-document c = stands c.document_rows.ensures
+is_deeper-requires-clause-document c = is_located c.document_rows.ensures
 
 pub is_deeper-requires-clause-position : goal.is_deeper-requires-clause-position
 is_deeper-requires-clause-position c = position_here c.document_rows.ensures c.args.under.position

@@ -1,11 +1,11 @@
 use Rattle.std.{proofs.Common.{◌≡◌, ◌+◌, ap, sym, ◌∙◌, arith}, proofs.lemmas.Option.slice_get_within}
 use Rattle.yq_outline.{specs.Ends.part, specs.Outline.level}
 use Rattle.yq_documents.specs.Stretches.{document_lines, number_of}
-use Rattle.yq_documents.proofs.WalkedRows.{line_here, located_in, own_line, row_in, stands, agrees_rows}
+use Rattle.yq_documents.proofs.WalkedRows.{line_here, located_in, own_line, row_in, is_located, agrees_rows}
 use Rattle.yq_nodes.proofs.nodes.lines.under_line.Goals as goal
 
 pub next-requires-clause-document : goal.next-requires-clause-document
-next-requires-clause-document c = stands c.document_rows.ensures
+next-requires-clause-document c = is_located c.document_rows.ensures
 
 pub next-requires-clause-position : goal.next-requires-clause-position
 next-requires-clause-position c = line_here c.document_rows.ensures c.requires.line

@@ -9,20 +9,20 @@ use Rattle.yq_places.proofs.places.content_place.content_of.Goals as goal
 pub returns-in_err-place : goal.returns-in_err-place
 returns-in_err-place c = rw c.from_residual.ensures (λ cut k.
     let d = c.args.walk.now.document in
-    let rs = k.document.stand.rows in
+    let rs = k.document.are_there.rows in
     said_nowhere (line_head d.first cut rs) (lines_content d.first cut rs) (lines_of_rows rs) (line_content_of d.first cut rs) refl (λ s ss. refl) (map tree_step c.args.steps.now) (c.in_err-place.ensures.found k.document))
 
 pub returns-then-not-is_empty : goal.returns-then-not-is_empty
 returns-then-not-is_empty c = λ cut k.
     let d = c.args.walk.now.document in
-    let rs = k.document.stand.rows in
+    let rs = k.document.are_there.rows in
     said_further (line_head d.first cut rs) (lines_content d.first cut rs) (lines_of_rows rs) (line_content_of d.first cut rs) refl (λ s ss. refl) (map tree_step c.args.steps.now)
     (place_view d rs c.in_ok-place.place) (map tree_step c.in_ok-place.left.now) (c.in_ok-place.ensures.found k.document) (c.if-not-is_empty.ensures ∙ sym (ap (λ n. eqb n 0) (length-map c.in_ok-place.left.now tree_step)))
 
 pub returns-in-Head : goal.returns-in-Head
 returns-in-Head c = λ cut k.
     let d = c.args.walk.now.document in
-    let rs = k.document.stand.rows in
+    let rs = k.document.are_there.rows in
     let n = line_number d rs c.in-Head.at in
     let left = map tree_step c.in_ok-place.left.now in
     let found : Some (at_head n, left) ≡ node_place (map tree_step c.args.steps.now) (lines_of_rows rs) = ap (λ p. Some (place_view d rs p, left)) (sym c.in-Head.is) ∙ c.in_ok-place.ensures.found k.document in
@@ -34,7 +34,7 @@ returns-in-Head c = λ cut k.
 pub returns-in-Lines : goal.returns-in-Lines
 returns-in-Lines c = λ cut k.
     let d = c.args.walk.now.document in
-    let rs = k.document.stand.rows in
+    let rs = k.document.are_there.rows in
     let n = line_number d rs c.in-Lines.from in
     let left = map tree_step c.in_ok-place.left.now in
     let found : Some (at_lines n c.in-Lines.floor, left) ≡ node_place (map tree_step c.args.steps.now) (lines_of_rows rs) = ap (λ p. Some (place_view d rs p, left)) (sym c.in-Lines.is) ∙ c.in_ok-place.ensures.found k.document in

@@ -11,25 +11,25 @@ pub is_bare-requires-clause-position : goal.is_bare-requires-clause-position
 is_bare-requires-clause-position c = position_line c.args.walk.now.rows.now c.args.walk.now.document c.args.from c.requires.from (c.if-not-is_deeper.ensures.some refl)
 
 pub head_extent-requires-clause-within : goal.head_extent-requires-clause-within
-head_extent-requires-clause-within c = omega (arith, c.if-not-is_deeper.ensures.some refl, c.requires.walk.document.stand.within)
+head_extent-requires-clause-within c = omega (arith, c.if-not-is_deeper.ensures.some refl, c.requires.walk.document.are_there.within)
 
 pub returns-then-is_bare : goal.returns-then-is_bare
 returns-then-is_bare c = λ cut k.
     let d = c.args.walk.now.document in
-    let rs = k.document.stand.rows in
+    let rs = k.document.are_there.rows in
     let n = line_number d rs c.args.from in
     let m = lines_stop n c.args.floor (lines_of_rows rs) in
     let at = position_line c.args.walk.now.rows.now d c.args.from c.requires.from (c.if-not-is_deeper.ensures.some refl) in
-    let l = located c.args.walk.now.rows.now d k.document.stand c.args.from at in
+    let l = located c.args.walk.now.rows.now d k.document.are_there c.args.from at in
     row_known c.args.walk.now.rows.now d cut k c.args.from at (λ i r. Some (head_extent i r cut)) _ (λ r is. ap Some (c.head_extent.ensures k.text cut k.cut k.rows r is))
-    ∙ (ap (λ b. cond b (line_head d.first cut rs n) (lines_place d.first cut rs n (m - 1))) (c.if-is_bare.ensures k.document.stand l.line l.is)
-    ∙ first_here (lines_of_rows rs) n c.args.floor (λ l. cond (has_no_mark l.mark) (line_head d.first cut rs n) (lines_place d.first cut rs n (m - 1))) l.line l.is (c.if-not-is_deeper.ensures.test k.document.stand))
+    ∙ (ap (λ b. cond b (line_head d.first cut rs n) (lines_place d.first cut rs n (m - 1))) (c.if-is_bare.ensures k.document.are_there l.line l.is)
+    ∙ first_here (lines_of_rows rs) n c.args.floor (λ l. cond (has_no_mark l.mark) (line_head d.first cut rs n) (lines_place d.first cut rs n (m - 1))) l.line l.is (c.if-not-is_deeper.ensures.test k.document.are_there))
 
-pub behind_all-to-requires-clause-from : goal.behind_all-to-requires-clause-from
-behind_all-to-requires-clause-from c = position_line c.args.walk.now.rows.now c.args.walk.now.document c.args.from c.requires.from (c.if-not-is_deeper.ensures.some refl)
+pub after_all-to-requires-clause-from : goal.after_all-to-requires-clause-from
+after_all-to-requires-clause-from c = position_line c.args.walk.now.rows.now c.args.walk.now.document c.args.from c.requires.from (c.if-not-is_deeper.ensures.some refl)
 
-pub behind_all-to-requires-clause-deeper : goal.behind_all-to-requires-clause-deeper
-behind_all-to-requires-clause-deeper c = λ h l is. deeper_line (lines_of_rows h.rows) (line_number c.args.walk.now.document h.rows c.args.from) c.args.floor l is (not_end _ (c.if-not-is_deeper.ensures.test h))
+pub after_all-to-requires-clause-deeper : goal.after_all-to-requires-clause-deeper
+after_all-to-requires-clause-deeper c = λ h l is. deeper_line (lines_of_rows h.rows) (line_number c.args.walk.now.document h.rows c.args.from) c.args.floor l is (not_end _ (c.if-not-is_deeper.ensures.test h))
 
 pub lines_place-requires-clause-lines : goal.lines_place-requires-clause-lines
 lines_place-requires-clause-lines c = search (rules, arith)
@@ -37,12 +37,12 @@ lines_place-requires-clause-lines c = search (rules, arith)
 pub returns : goal.returns
 returns c = λ cut k.
     let d = c.args.walk.now.document in
-    let rs = k.document.stand.rows in
+    let rs = k.document.are_there.rows in
     let n = line_number d rs c.args.from in
     let m = lines_stop n c.args.floor (lines_of_rows rs) in
     let at = position_line c.args.walk.now.rows.now d c.args.from c.requires.from (c.if-not-is_deeper.ensures.some refl) in
-    let l = located c.args.walk.now.rows.now d k.document.stand c.args.from at in
+    let l = located c.args.walk.now.rows.now d k.document.are_there c.args.from at in
     c.lines_place.ensures cut k
-    ∙ (ap (λ j. lines_place d.first cut rs n (j - 1)) (c.behind_all-to.ensures.number k.document.stand)
-    ∙ (ap (λ b. cond b (line_head d.first cut rs n) (lines_place d.first cut rs n (m - 1))) (c.if-is_bare.ensures k.document.stand l.line l.is)
-    ∙ first_here (lines_of_rows rs) n c.args.floor (λ l. cond (has_no_mark l.mark) (line_head d.first cut rs n) (lines_place d.first cut rs n (m - 1))) l.line l.is (c.if-not-is_deeper.ensures.test k.document.stand)))
+    ∙ (ap (λ j. lines_place d.first cut rs n (j - 1)) (c.after_all-to.ensures.number k.document.are_there)
+    ∙ (ap (λ b. cond b (line_head d.first cut rs n) (lines_place d.first cut rs n (m - 1))) (c.if-is_bare.ensures k.document.are_there l.line l.is)
+    ∙ first_here (lines_of_rows rs) n c.args.floor (λ l. cond (has_no_mark l.mark) (line_head d.first cut rs n) (lines_place d.first cut rs n (m - 1))) l.line l.is (c.if-not-is_deeper.ensures.test k.document.are_there)))

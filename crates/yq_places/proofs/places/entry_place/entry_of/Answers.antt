@@ -6,7 +6,7 @@ use Rattle.yq_places.specs.EntryReading.{line_entry, lines_place}
 use Rattle.yq_places.proofs.places.entry_place.entry_of.Goals as goal
 
 pub returns-in_err-at : goal.returns-in_err-at
-returns-in_err-at c = rw c.from_residual.ensures (λ cut k. ap (λ (o : Option ℕ). o >>= line_entry c.args.walk.now.document.first cut k.document.stand.rows) (c.in_err-at.ensures.found k.document))
+returns-in_err-at c = rw c.from_residual.ensures (λ cut k. ap (λ (o : Option ℕ). o >>= line_entry c.args.walk.now.document.first cut k.document.are_there.rows) (c.in_err-at.ensures.found k.document))
 
 pub lines_place-requires-clause-lines : goal.lines_place-requires-clause-lines
 lines_place-requires-clause-lines c = search (rules, arith, line_position)
@@ -14,10 +14,10 @@ lines_place-requires-clause-lines c = search (rules, arith, line_position)
 pub returns : goal.returns
 returns c = λ cut k.
     let d = c.args.walk.now.document in
-    let rs = k.document.stand.rows in
+    let rs = k.document.are_there.rows in
     let at = c.in_ok-at.at in
     let n = line_number d rs at in
-    let l = located c.args.walk.now.rows.now d k.document.stand at c.in_ok-at.ensures.within in
+    let l = located c.args.walk.now.rows.now d k.document.are_there at c.in_ok-at.ensures.within in
     c.lines_place.ensures cut k
-    ∙ (ap (λ (m : ℕ). lines_place d.first cut rs n (m - 1)) (end_agrees (lines_of_rows rs) n (line_number d rs c.behind-to.result) (slice_get_within _ _ l.line l.is) (c.behind-to.ensures.end k.document.stand))
+    ∙ (ap (λ (m : ℕ). lines_place d.first cut rs n (m - 1)) (end_agrees (lines_of_rows rs) n (line_number d rs c.position_after-to.result) (slice_get_within _ _ l.line l.is) (c.position_after-to.ensures.end k.document.are_there))
     ∙ ap (λ (o : Option ℕ). o >>= line_entry d.first cut rs) (c.in_ok-at.ensures.found k.document))

@@ -3,10 +3,10 @@ use Rattle.yq_places.proofs.WalkLines.{lines_view}
 use Rattle.yq_places.proofs.places.entry_place.lines_place.Goals as goal
 
 pub line_start-requires-clause-within : goal.line_start-requires-clause-within
-line_start-requires-clause-within c = omega (arith, c.requires.some, c.requires.lines.stop.upto, c.requires.walk.document.stand.within)
+line_start-requires-clause-within c = omega (arith, c.requires.some, c.requires.lines.stop.upto, c.requires.walk.document.are_there.within)
 
 pub row_end-requires-clause-within : goal.row_end-requires-clause-within
-row_end-requires-clause-within c = omega (arith, c.requires.some, c.requires.lines.stop.upto, c.requires.walk.document.stand.within)
+row_end-requires-clause-within c = omega (arith, c.requires.some, c.requires.lines.stop.upto, c.requires.walk.document.are_there.within)
 
 pub returns : goal.returns
 returns c = λ cut k.

@@ -1,7 +1,7 @@
 use Rattle.std.{proofs.Common.{ℕ, List, [], ◌≡◌, ap, ◌∙◌, arith}, specs.Str.IsUtf8}
 use Rattle.yq_text.specs.Halves.{whole}
 use Rattle.yq_row_table.specs.View.{row_view}
-use Rattle.yq_places.{specs.CommentPlaces.{LineEnd, end_in_line}, specs.Standings.LinesIn, specs.StandingViews.lines_view}
+use Rattle.yq_places.{specs.CommentPlaces.{LineEnd, end_in_line}, specs.Placements.LinesIn, specs.PlacementViews.lines_view}
 use Rattle.yq_places.proofs.EntryRowLaws.{column_fits, row_within, is_view}
 use Rattle.yq_places.proofs.HeldTexts.{before_boundary, held_is, lower_ends, space_fits, tail_fits}
 use Rattle.yq_places.proofs.places.held.held_in.Goals as goal
@@ -62,7 +62,7 @@ returns c = λ e h.
     held_is t s e c.args.at.row c.args.at.end h.rows u place c.head_place-end.ensures (row_view c.row-row.result) c.row-row.ensures
     c.mark_of.result.column c.args.at.dashes c.mark_of.result.keyed c.mark_of.result.noted _ (whole c.split_at.result.0)
     c.space_before-space.result.now c.head-head.result.now c.either.result.now c.either-2.result.now
-    (record { before = []; white = c.line_end.result.0.now; comment = c.line_end.result.1.now; behind = c.line_end.result.2.now })
+    (record { before = []; white = c.line_end.result.0.now; comment = c.line_end.result.1.now; after = c.line_end.result.2.now })
     (lines_view c.lines_from-lower.result)
     c.mark_of.ensures.column h.dashes (c.mark_of.ensures.keyed ∙ c.has_key.ensures)
     (λ i. record {
@@ -70,7 +70,7 @@ returns c = λ e h.
       white = (c.line_end.ensures.white ∙ end (λ e. e.white)) i;
       comment =
           (c.line_end.ensures.comment ∙ end (λ e. e.comment)) i;
-      behind = (c.line_end.ensures.line_break ∙ end (λ e. e.behind)) i;
+      after = (c.line_end.ensures.line_break ∙ end (λ e. e.after)) i;
     })
     c.mark_of.ensures.noted lower
     c.space_before-space.ensures c.head-head.ensures c.split_at.ensures.front c.is_empty-none.ensures c.either.ensures c.either-2.ensures

@@ -9,4 +9,4 @@ last_break-requires c = subst IsLastBreak (sym c.split_break.ensures.rest) (last
 pub returns : goal.returns
 returns c = λ h.
     lines_are (whole c.args.text) c.args.from c.args.stop h (whole c.cut_at.result.0) (whole c.cut_at.result.1) (whole c.split_break.result.0) c.last_break.result.now (whole c.cut_at.result.2)
-    c.cut_at.ensures.before c.cut_at.ensures.middle c.cut_at.ensures.behind c.split_break.ensures.line (c.last_break.ensures ∙ c.split_break.ensures.rest)
+    c.cut_at.ensures.before c.cut_at.ensures.middle c.cut_at.ensures.after c.split_break.ensures.line (c.last_break.ensures ∙ c.split_break.ensures.rest)

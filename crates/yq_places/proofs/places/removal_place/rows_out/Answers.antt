@@ -3,7 +3,7 @@ use Rattle.yq_text.specs.Halves.{whole}
 use Rattle.yq_core.specs.Text.{joined, text_lines}
 use Rattle.yq_row_table.{specs.Removal.{block_numbers, last_block}, specs.View.row_view}
 use Rattle.yq_documents.{specs.Pieces.before_run, specs.Reading.cut_of}
-use Rattle.yq_places.{specs.RemovalPlaces.seam_behind, proofs.RemovalViewLaws.{code_agrees, out_agrees, own_view}}
+use Rattle.yq_places.{specs.RemovalPlaces.seam_after, proofs.RemovalViewLaws.{code_agrees, out_agrees, own_view}}
 use Rattle.yq_places.proofs.places.removal_place.rows_out.Goals as goal
 
 pub row-requires : goal.row-requires
@@ -79,9 +79,9 @@ returns c = λ d x h.
     ∙ ap (λ rs. option_map block_numbers (last_block rs)) o.front_is in
     let before = c.split_at.ensures.front ∙ agrees.cuts.before_is in
     let gone = c.split_at-2.ensures.front ∙ (ap (take size) c.split_at.ensures.back ∙ agrees.cuts.gone_is) in
-    let behind = c.split_at-3.ensures.back ∙ (ap (drop gap) (c.split_at-2.ensures.back ∙ rest) ∙ agrees.cuts.behind_is) in
-    let seam = c.seam_of.ensures (last_block x.front) block ∙ (λ i. seam_behind (last_block x.front) (agrees.column_is i) (agrees.kept_is i)) in
-    λ i. record { before = before i; gone = gone i; gap = agrees.gap_is i; behind = behind i; seam = seam i }
+    let after = c.split_at-3.ensures.back ∙ (ap (drop gap) (c.split_at-2.ensures.back ∙ rest) ∙ agrees.cuts.following_is) in
+    let seam = c.seam_of.ensures (last_block x.front) block ∙ (λ i. seam_after (last_block x.front) (agrees.column_is i) (agrees.kept_is i)) in
+    λ i. record { before = before i; gone = gone i; gap = agrees.gap_is i; after = after i; seam = seam i }
 
 pub row_stop-stop-requires-clause-rows_view : goal.row_stop-stop-requires-clause-rows_view
 row_stop-stop-requires-clause-rows_view c = own_view (whole c.args.text) c.args.rows.now c.requires.part c.requires.rows (c.args.marks.0, c.args.marks.1, c.args.marks.2) c.requires.is

@@ -11,7 +11,7 @@ pub overflow_sub-result : goal.overflow_sub-result
 overflow_sub-result c =
     let found = c.search_step-found in
     let within : found.result.row < c.args.walk.now.document.end = omega (arith, c.if-found-walk.false) in
-    let there : found.result.row < length c.args.walk.now.rows.now.rows = omega (arith, within, c.requires.walk.document.stand.within) in
+    let there : found.result.row < length c.args.walk.now.rows.now.rows = omega (arith, within, c.requires.walk.document.are_there.within) in
     found_deeper c.args.dashes c.args.walk.now.rows.now.rows found.result c.level_at-level.result there (found.ensures.stops within within) c.level_at-level.ensures
 
 pub returns : goal.returns

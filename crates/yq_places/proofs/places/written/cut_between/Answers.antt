@@ -5,7 +5,7 @@ use Rattle.yq_places.proofs.places.written.cut_between.Goals as goal
 
 pub cut_at-requires-clause-start : goal.cut_at-requires-clause-start
 cut_at-requires-clause-start c =
-    subst (IsCharBoundary (whole c.args.text)) (sym c.len.ensures) (between_starts (whole c.args.text) (whole c.args.before) (whole c.args.behind) c.requires c.is_text.ensures)
+    subst (IsCharBoundary (whole c.args.text)) (sym c.len.ensures) (between_starts (whole c.args.text) (whole c.args.before) (whole c.args.after) c.requires c.is_text.ensures)
 
 pub cut_at-requires-clause-end : goal.cut_at-requires-clause-end
 cut_at-requires-clause-end c = search (rules, between_ends)

@@ -1,7 +1,7 @@
 use Rattle.std.{proofs.Common.{◌≡◌, min, map, None, refl, sym, ap, ◌∙◌, subst, arith, rules}, proofs.lemmas.List.length-map}
 use Rattle.yq_core.{specs.Keys.depth, specs.Tree.list, specs.Values.{items, value_node}}
 use Rattle.yq_planner.{specs.ListSizes.HasSize, proofs.ListSizeLaws.list_size}
-use Rattle.yq_planner.proofs.StandInLaws.{node_of-list, node_of-scalar, some_there}
+use Rattle.yq_planner.proofs.SubstituteLaws.{node_of-list, node_of-scalar, some_there}
 use Rattle.yq_semantics.{specs.Changes.has_long_key, specs.RightValues.as_items, proofs.ValueMaps.node_of-map}
 use Rattle.yq_planner.proofs.updating.list_size.size_of_added.Goals as goal
 

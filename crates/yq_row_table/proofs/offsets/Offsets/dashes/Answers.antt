@@ -5,7 +5,7 @@ use Rattle.yq_row_table.proofs.offsets.Offsets.dashes.Goals as goal
 pub piece-requires : goal.piece-requires
 piece-requires c =
     let p = piece_at c.args.self.now 1 c.args.text.now _ (omega arith) c.requires refl in
-    record { before = p.before; behind = p.len }
+    record { before = p.before; after = p.len }
 
 pub returns : goal.returns
 unfolding pieces_of

@@ -14,4 +14,4 @@ returns c = λ b there.
     let at = ap (λ (v : RowsView). slice_get v.bounds c.args.i) (sym same) ∙ there in
     let index = sym (get_or_from_slice_get c.self.inside.places.ends c.args.i e e c.at.ensures)
     ∙ ap (λ (l : List EndPlace). get_or l c.args.i e) h.placed.ends_are in
-    c.stop.ensures ∙ (part_ends (h.before ++ h.behind) c.args.i b e at index ∙ ap (part_end c.args.i b) (sym same))
+    c.stop.ensures ∙ (part_ends (h.before ++ h.after) c.args.i b e at index ∙ ap (part_end c.args.i b) (sym same))

@@ -14,7 +14,7 @@ returns-then-i-eq0-clause-bounds c =
     let own = c.self.inside.places.ends in
     let to = c.count_to-to.result in
     let rise = subst (IsNonDecreasingBy (λ e. e.rows)) (sym c.self.invariant.0.placed.ends_are)
-    (ends_rise (c.self.invariant.0.before ++ c.self.invariant.0.behind) 0 0) in
+    (ends_rise (c.self.invariant.0.before ++ c.self.invariant.0.after) 0 0) in
     let second = c.count_to-to.ensures.count rise in
     let h : AtRow c.args.i 0 to own = record {
       within = c.count_to-to.ensures.within;
@@ -30,7 +30,7 @@ pub returns-clause-order : goal.returns-clause-order
 returns-clause-order c =
     let own = c.self.inside.places.ends in
     let rise = subst (IsNonDecreasingBy (λ e. e.rows)) (sym c.self.invariant.0.placed.ends_are)
-    (ends_rise (c.self.invariant.0.before ++ c.self.invariant.0.behind) 0 0) in
+    (ends_rise (c.self.invariant.0.before ++ c.self.invariant.0.after) 0 0) in
     let first = c.count_to.ensures.count rise in
     let second = c.count_to-to.ensures.count rise in
     let h : AtRow c.args.i c.count_to.result c.count_to-to.result own = record {
@@ -48,7 +48,7 @@ returns-clause-bounds c =
     let from = c.count_to.result in
     let to = c.count_to-to.result in
     let rise = subst (IsNonDecreasingBy (λ e. e.rows)) (sym c.self.invariant.0.placed.ends_are)
-    (ends_rise (c.self.invariant.0.before ++ c.self.invariant.0.behind) 0 0) in
+    (ends_rise (c.self.invariant.0.before ++ c.self.invariant.0.after) 0 0) in
     let first = c.count_to.ensures.count rise in
     let second = c.count_to-to.ensures.count rise in
     let h : AtRow c.args.i from to own = record {

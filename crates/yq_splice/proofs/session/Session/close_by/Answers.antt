@@ -1,7 +1,7 @@
 use Rattle.std.{proofs.Common.{string_bytes, sym, ap, ◌∙◌, subst}, proofs.lemmas.Result.err_from_is_err_and}
 use Rattle.yq_text.{specs.Halves.whole, specs.TextGapBuffer.buffer_text}
 use Rattle.yq_semantics.specs.Operations.{operation_of}
-use Rattle.yq_edit_laws.{specs.Answers.EditFails, specs.Carried.carried, specs.Edit.{edit_after, gives}, proofs.OrderLaws.fails_behind}
+use Rattle.yq_edit_laws.{specs.Answers.EditFails, specs.Carried.carried, specs.Edit.{edit_after, gives}, proofs.OrderLaws.fails_after}
 use Rattle.yq_splice.specs.Session.{SessionState}
 use Rattle.yq_splice.proofs.SessionLaws.{carried_on, cut_borrowed, known_borrowed, places_borrowed, split_is, split_borrowed}
 use Rattle.yq_splice.proofs.SessionLaws.{whole_borrowed}
@@ -40,7 +40,7 @@ returns-in_err-edited c =
     c.self.invariant.0 all ∙ ap (λ (s : SessionState). carried (operation_of c.args.op.now) s.text) c.self.view_is in
     let p = err_from_is_err_and c.from_residual.result c.from_residual.ensures.1 in
     rw (p.1, p.2)
-    (fails_behind c.in_err-edited.field-0.0 c.args.splices.items (carried (operation_of c.args.op.now) c.args.self.text) (subst (EditFails c.in_err-edited.field-0.0) same c.in_err-edited.ensures))
+    (fails_after c.in_err-edited.field-0.0 c.args.splices.items (carried (operation_of c.args.op.now) c.args.self.text) (subst (EditFails c.in_err-edited.field-0.0) same c.in_err-edited.ensures))
 
 pub returns : goal.returns
 returns c =
@@ -49,4 +49,4 @@ returns c =
     let same = carried_on (operation_of c.args.op.now) (buffer_text c.self.inside.text) (whole c.halves-halves.result) c.self.inside.places
     c.self.invariant.0 all ∙ ap (λ (s : SessionState). carried (operation_of c.args.op.now) s.text) c.self.view_is in
     ap (edit_after c.args.splices.items) (sym same ∙ c.in_ok-edited.ensures)
-    ∙ λ i. gives (string_bytes (sym c.in_ok-edited_behind.ensures.0 i)) (sym c.in_ok-edited_behind.ensures.1 i)
+    ∙ λ i. gives (string_bytes (sym c.in_ok-edited_after.ensures.0 i)) (sym c.in_ok-edited_after.ensures.1 i)
