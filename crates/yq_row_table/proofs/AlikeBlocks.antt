@@ -17,7 +17,7 @@ pub data LineAlike : List ℕ → List ℕ → Type 0 where
 -- lines that are the same up to two such lines
 pub data LinesAlike : List (List ℕ) → List (List ℕ) → Type 0 where
   here : {l m : List ℕ} {ls ms : List (List ℕ)} → LineAlike l m → LinesAlike (l ∷ ls) (m ∷ ms)
-  after : {l : List ℕ} {ls ms : List (List ℕ)} → LinesAlike ls ms → LinesAlike (l ∷ ls) (l ∷ ms)
+  after_line : {l : List ℕ} {ls ms : List (List ℕ)} → LinesAlike ls ms → LinesAlike (l ∷ ls) (l ∷ ms)
 
 -- The first line of a text with a byte before it.
 pub record Put (b : ℕ) (t : List ℕ) : Type 0 where
@@ -46,14 +46,14 @@ put_seam b c t u x y s r tab =
 
 put_alike : (b : ℕ) (ls ms : List (List ℕ)) → is_feed b ≡ false → LinesAlike ls ms → LinesAlike (put_byte b ls) (put_byte b ms)
 put_alike b _ _ e (here {l} {m} {ls} {ms} h) = here (after_byte e h)
-put_alike b _ _ e (after {l} {ls} {ms} h) = after h
+put_alike b _ _ e (after_line {l} {ls} {ms} h) = after_line h
 
 -- lines after the same text
 pub lines_after : (p t u : List ℕ) → LinesAlike (text_lines t) (text_lines u) → LinesAlike (text_lines (p ++ t)) (text_lines (p ++ u))
 unfolding text_lines
 lines_after [] t u h = h
 lines_after (b ∷ p) t u h = elim (cases_Bool (is_feed b)) [
-  | inl e ↦ rw e (after (lines_after p t u h))
+  | inl e ↦ rw e (after_line (lines_after p t u h))
   | inr e ↦ rw e (put_alike b (text_lines (p ++ t)) (text_lines (p ++ u)) e (lines_after p t u h))
 ]
 
@@ -103,4 +103,4 @@ line_less f l m h =
 pub ends_alike : (keep : Bool) (f : TextIndent) (ls ms : List (List ℕ)) → LinesAlike ls ms → ends_block keep f ls ≡ ends_block keep f ms
 unfolding ends_block
 ends_alike keep f _ _ (here {l} {m} {ls} {ms} h) = let e = line_less f l m h in rw (e.0, e.1) e.2
-ends_alike keep f _ _ (after {l} {ls} {ms} h) = ap (λ b. cond (is_empty_line f l) (not keep && b) (is_less_indented f l)) (ends_alike keep f ls ms h)
+ends_alike keep f _ _ (after_line {l} {ls} {ms} h) = ap (λ b. cond (is_empty_line f l) (not keep && b) (is_less_indented f l)) (ends_alike keep f ls ms h)
