@@ -113,7 +113,7 @@ items_read to_data of_data (x ∷ xs) k = ap₂ (λ o p. option_and_then (λ d. 
 
 all_are_there : {A : Type 0} (to_data : A → Data) (of_data : Data → Option A) (xs : List A) → AreReadBack to_data of_data xs → each_of of_data (list_data to_data xs) ≡ Some xs
 all_are_there to_data of_data [] k = refl
-all_are_there to_data of_data (x ∷ xs) k = ap₂ (λ o p. and_more o p) k.0.is_located (all_are_there to_data of_data xs k.1)
+all_are_there to_data of_data (x ∷ xs) k = ap₂ (λ o p. and_more o p) k.0.reads_same (all_are_there to_data of_data xs k.1)
 
 -- a list of things as an array
 abbrev pub array_of : {A : Type 0} → (A → Data) → List A → Data

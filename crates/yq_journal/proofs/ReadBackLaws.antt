@@ -96,14 +96,14 @@ pub kept_record : (r : Record) → r.after_len < 2 ^ 64 → r.before_len < 2 ^ 6
     → IsReadBack record_data (record_of true) r
 unfolding record_of
 kept_record r a b n h k =
-    search (rules, IsNumber-decimal, number_reads, is_record-from_IsRecord, k.reads, k.numbers, k.is_located)
+    search (rules, IsNumber-decimal, number_reads, is_record-from_IsRecord, k.reads, k.numbers, k.reads_same)
 
 pub kept_edit : (r : Record) → IsReadBack record_data (record_of true) r → IsReadBack move_data (move_of true (codes "edit")) (Edit r)
 unfolding move_of
-kept_edit r k = record { numbers = k.numbers; reads = k.reads; is_located = ap (option_map Edit) k.is_located }
+kept_edit r k = record { numbers = k.numbers; reads = k.reads; reads_same = ap (option_map Edit) k.reads_same }
 
 pub kept_none : IsReadBack pending_data (pending_of true) None
-kept_none = record { numbers = tt; reads = refl; is_located = refl }
+kept_none = record { numbers = tt; reads = refl; reads_same = refl }
 
 pub kept_journal : (s : State) → IsSound s → s.at < 2 ^ 64 → IsReadBack pending_data (pending_of true) s.pending → IsReadBack records_data (records_of true) s.records
     → IsReadBack journal_data journal_of s
@@ -113,4 +113,4 @@ kept_journal s sound h p rs = search (rules, IsNumber-decimal, object_reads, jou
 pub text_read : (s : State) → IsReadBack journal_data journal_of s → IsUtf8 (journal_text s) → journal_in (journal_text s) ≡ Some s
 text_read s k u =
     ap (λ b. if b then option_and_then journal_of (read (journal_text s)) else None) (is_utf8-from_IsUtf8 (journal_text s) u)
-    ∙ ap (option_and_then journal_of) (line_read (journal_data s) k.numbers (shallow s) k.reads) ∙ k.is_located
+    ∙ ap (option_and_then journal_of) (line_read (journal_data s) k.numbers (shallow s) k.reads) ∙ k.reads_same

@@ -20,7 +20,7 @@ records_data rs = array (list_data record_data rs)
 pub record IsReadBack {A : Type 0} (to_data : A → Data) (of_data : Data → Option A) (x : A) : Type 0 where
   pub numbers : HasNumbers (outline (to_data x))
   pub reads : of_json (outline (to_data x)) ≡ Some (to_data x)
-  pub is_located : of_data (to_data x) ≡ Some x
+  pub reads_same : of_data (to_data x) ≡ Some x
 
 -- a text goes on with the compact JSON of a thing, which is read back as that thing (RFC 8259)
 pub record Adds {A : Type 0} (to_data : A → Data) (of_data : Data → Option A) (x : A) (before after : List ℕ) : Type 0 where

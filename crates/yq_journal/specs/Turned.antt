@@ -1,7 +1,7 @@
 -- Splices as they are done, or as they are taken back.
 use Rattle.std.specs.Prelude.{◌≡◌, ◌⊎◌, ◌+◌, ◌-◌, ◌^◌, ◌<◌, ◌≤◌, ◌++◌, ℕ, List, Bool, true, false, Some, drop, length, slice_get, take}
 use Rattle.yq_text.specs.Splice.{Splice, all_done, flipped}
-use Rattle.yq_journal.{specs.PieceTable.splice_of_parts, specs.declared.is_located.Turned.Turned}
+use Rattle.yq_journal.{specs.PieceTable.splice_of_parts, specs.declared.applies.Turned.Turned}
 
 -- splices in the one direction or the other (own)
 abbrev pub flipped_if : Bool → List Splice → List Splice

@@ -1,9 +1,9 @@
 //! The journal of a text: records of its edits, done and undone, with a cursor and an open move.
 #![tactic(auto)]
 
+mod applies;
 mod bare;
 mod fault;
-mod is_located;
 mod journal;
 mod laws;
 mod lengths;
@@ -17,9 +17,9 @@ mod squash;
 mod ways;
 mod write;
 
+pub use applies::{stands_after, stands_before};
 pub use bare::is_bare_below;
 pub use fault::{JournalError, JournalFault};
-pub use is_located::{matches_new, matches_old};
 pub use journal::Journal;
 pub use laws::{
     faults_are_of_history, moves_go_on, open_moves_describe, settling_rests, squashes_go_on,

@@ -2,7 +2,7 @@
 ghost use Rattle.std.specs.Prelude.{◌≡◌, None, Some, OnOk, IfOk, IfErr};
 ghost use Rattle.yq_journal.{specs.Refusals.{ErrorIs, no_way, way_fault, MemoryOnlyIf, HasWay, lead_fault}, specs.State.moved_text};
 
-use crate::is_located::matches_old;
+use crate::applies::stands_before;
 use crate::{JournalError, JournalFault, MAX_RECORDS, Move, Record, lead};
 use std::alloc::Global;
 
@@ -61,7 +61,7 @@ fn check_lead(
 {
     match step {
         Move::Edit(patch) if is_small(patch) => {
-            if matches_old(patch, text) {
+            if stands_before(patch, text) {
                 Ok(())
             } else {
                 Err(JournalError::Fault(JournalFault::DoesNotStand))

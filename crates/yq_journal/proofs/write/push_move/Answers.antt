@@ -9,10 +9,10 @@ pub returns-in_ok-push_str-in-Undo : goal.returns-in_ok-push_str-in-Undo
 unfolding move_of
 returns-in_ok-push_str-in-Undo c =
     subst (λ m. Adds move_data (move_of true (kind_text m)) m (string_bytes c.args.text.now) (string_bytes c.push_str.new.self)) (sym c.in-Undo.is)
-    (record { text_is = c.in_ok-push_str-in-Undo.ensures.bytes; kept = (record { numbers = tt; reads = refl; is_located = refl }) })
+    (record { text_is = c.in_ok-push_str-in-Undo.ensures.bytes; kept = (record { numbers = tt; reads = refl; reads_same = refl }) })
 
 pub returns-in_ok-push_str-in-Redo : goal.returns-in_ok-push_str-in-Redo
 unfolding move_of
 returns-in_ok-push_str-in-Redo c =
     subst (λ m. Adds move_data (move_of true (kind_text m)) m (string_bytes c.args.text.now) (string_bytes c.push_str-in-Redo.new.self)) (sym c.in-Redo.is)
-    (record { text_is = c.in_ok-push_str-in-Redo.ensures.bytes; kept = (record { numbers = tt; reads = refl; is_located = refl }) })
+    (record { text_is = c.in_ok-push_str-in-Redo.ensures.bytes; kept = (record { numbers = tt; reads = refl; reads_same = refl }) })

@@ -3,7 +3,7 @@ use Rattle.std.specs.Prelude.{is_some, option_and_then}
 use Rattle.yq_text.specs.Splice.{all_done, change_done}
 use Rattle.yq_journal.{specs.PieceTable.splice_of_parts, specs.Turned.turned_splices}
 use Rattle.yq_journal.proofs.MatchingLaws.{some_of, lies_within, stays_small, found_there, not_there, not_all, done_next, length-turned}
-use Rattle.yq_journal.proofs.is_located.are_there.Goals as goal
+use Rattle.yq_journal.proofs.applies.are_there.Goals as goal
 
 pub is_there-requires-clause-done : goal.is_there-requires-clause-done
 is_there-requires-clause-done c =

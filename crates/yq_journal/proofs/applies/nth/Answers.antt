@@ -1,6 +1,6 @@
 use Rattle.std.{proofs.Common.{ap₂, rules}, proofs.lemmas.Option.slice_get_read}
 use Rattle.yq_journal.proofs.MatchingLaws.{flipped_at}
-use Rattle.yq_journal.proofs.is_located.nth.Goals as goal
+use Rattle.yq_journal.proofs.applies.nth.Goals as goal
 
 pub returns-then-turned : goal.returns-then-turned
 returns-then-turned c = search (rules, flipped_at, slice_get_read, ap₂)

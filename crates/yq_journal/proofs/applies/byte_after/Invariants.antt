@@ -1,7 +1,7 @@
 use Rattle.std.{proofs.Common.{◌≡◌, ◌≤◌, ◌<◌, ℕ, List, Some, take, length}, specs.Prelude.slice_get}
 use Rattle.yq_text.specs.Splice.{all_done}
 use Rattle.yq_journal.specs.Turned.{turned_splices}
-use Rattle.yq_journal.proofs.is_located.byte_after.Given as goal
+use Rattle.yq_journal.proofs.applies.byte_after.Given as goal
 
 abbrev pub invariant-splices : goal.invariant-splices
 invariant-splices l = record {

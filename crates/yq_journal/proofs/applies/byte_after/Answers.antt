@@ -1,6 +1,6 @@
 use Rattle.std.{proofs.Common.{◌≡◌, ◌≤◌, ◌<◌, ◌+◌, ◌-◌, ◌^◌, length, sym, ◌∙◌, arith, refl, rules}, proofs.lemmas.Option.same_Some}
 use Rattle.yq_journal.{specs.Turned.turned_splices, proofs.MatchingLaws.{one_earlier, came_from}}
-use Rattle.yq_journal.proofs.is_located.byte_after.Goals as goal
+use Rattle.yq_journal.proofs.applies.byte_after.Goals as goal
 
 pub origin-requires : goal.origin-requires
 origin-requires c = λ past.

@@ -103,7 +103,7 @@ fn are_there(turned: &Turned<'_>, text: &[u8]) -> bool
 
 /// Whether a record applies before a text: the text has its length, and the
 /// splices find their old bytes, one after the other. This takes no memory.
-pub fn matches_old(patch: &Record, text: &[u8]) -> bool
+pub fn stands_before(patch: &Record, text: &[u8]) -> bool
     ensures { result ≡ is_some (done patch.now text.now) }
 {
     let done = Turned {
@@ -127,7 +127,7 @@ fn may_take_back(splices: &[Splice], _before_len: u64, text: &[u8]) -> bool
 
 /// Whether a record applies after a text: the text has its length, and the
 /// splices, the last one first, find their new bytes. This takes no memory.
-pub fn matches_new(patch: &Record, text: &[u8]) -> bool
+pub fn stands_after(patch: &Record, text: &[u8]) -> bool
     ensures { result ≡ is_some (undone patch.now text.now) }
 {
     text.len() as u64 == patch.after_len && may_take_back(&patch.splices, patch.before_len, text)
