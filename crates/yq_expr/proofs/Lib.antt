@@ -11,4 +11,6 @@ pub mod SubstituteLaws
 pub mod VerdictLaws
 pub mod FixedLaws
 pub mod OversizedLaws
+pub mod GrowthLaws
+pub mod SpreadOps
 pub mod OversizedOps

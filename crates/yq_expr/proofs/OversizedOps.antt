@@ -1,30 +1,60 @@
 -- The operations of an update that gives a place what no text can hold.
-use Rattle.std.proofs.Common.{◌≡◌, ℕ, suc, ◌<◌, ◌≤◌, true, false, List, [], ◌∷◌, ◌++◌, drop, Option, None, if◌then◌else◌, Bool, refl, sym}
-use Rattle.std.{proofs.Common.{ap, ◌∙◌, subst, arith, append_assoc, append-nil}, specs.List.list_any}
-use Rattle.yq_core.{specs.Tree.{Node, alias, scalar, list, Children}, specs.Paths.Step}
+use Rattle.std.proofs.Common.{◌≡◌, inl, inr, ℕ, zero, suc, ◌+◌, ◌*◌, ◌<◌, ◌≤◌, true, false, List, [], ◌∷◌, ◌++◌, take, drop, length, map}
+use Rattle.std.proofs.Common.{Option, None, if◌then◌else◌, Bool, refl, sym, mul-le-mul_left, suc-mul, zero-mul, ap, ◌∙◌, subst, arith}
+use Rattle.std.{proofs.Common.{append_assoc, append-nil}, specs.List.list_any}
+use Rattle.yq_core.{specs.Tree.{Label, Node, alias, scalar, list, Children, none, child}, specs.Paths.Step}
 use Rattle.yq_flow_edits.specs.Valued.{IsValueTree, AreValueTrees}
-use Rattle.yq_semantics.specs.Changes.{Room, Changed, Change, replaces, add_at, add_below, added, all_allowed, at_each, changes_at, created}
-use Rattle.yq_semantics.specs.Changes.{left_pipe, nested, put_below, put_with_path, with_value}
-use Rattle.yq_semantics.{specs.Judgement.{Judgement, and_then, gives, refuses}, specs.Operations.Operation, specs.Pipes.places}
-use Rattle.yq_semantics.{specs.Places.{FoundPlace, root_place}, specs.Plans.{change_ops, ops_of}}
-use Rattle.yq_semantics.specs.Program.{Update, assign, delete, comment, is_index, PathStep, key, index, each}
+use Rattle.yq_semantics.specs.Changes.{Room, Changed, Change, replaces, add_at, add_below, added, additions, all_allowed, at_each}
+use Rattle.yq_semantics.specs.Changes.{changes_at, created, left_pipe, nested, put_below, put_with_path, with_value}
+use Rattle.yq_semantics.{specs.Judgement.{Judgement, and_then, gives, refuses}, specs.Operations.{Operation, append, replace}}
+use Rattle.yq_semantics.{specs.Pipes.places, specs.Places.{FoundPlace, root_place}, specs.Plans.{add_op, change_ops, ops_of}}
+use Rattle.yq_semantics.specs.Program.{Stage, Term, Update, assign, delete, comment, is_index, PathStep, key, index, each}
 use Rattle.yq_semantics.{specs.RightValues.{right_value, is_null}, specs.Sizes.{items_in, items_among}}
 use Rattle.yq_semantics.{proofs.JudgementLaws.{gives_same, then_gives}, proofs.updates.Each.joined_gives, proofs.updates.Planned.all_same}
 use Rattle.yq_semantics.specs.declared.refusal.Refusal.TheVariants.{IndexOutOfRange, KindMismatch}
-use Rattle.yq_expr.specs.Oversized.{BeginsOversized, puts, adds as adding, appends, GivesAt, HaveUtf8Keys, IsOversized, GivesOversized}
-use Rattle.yq_expr.{specs.Oversized.{items_limit, item_ops, GivesOversizedOps}, specs.Parts.{document_ops, rest_ops}}
+use Rattle.yq_semantics.{specs.PlacesApart.{AreApart, IsBeforeAll}, specs.View.update_of, proofs.sizes.AfterSizes.replaced_size}
+use Rattle.yq_planner.specs.declared.updating.list_size.ListSize.{ListSize}
+use Rattle.yq_expr.specs.Oversized.{FirstGetLists, BeginsLarge, BeginsOversized, GivesAt, GivesList, GivesOversized, GivesOversizedOps}
+use Rattle.yq_expr.specs.Oversized.{HaveUtf8Keys, GetsList, IsOversized, MayBeUtf8, items_limit}
+use Rattle.yq_expr.proofs.SpreadOps.{item_appends, item_ops, rest_apart, spread_begins}
+use Rattle.yq_expr.proofs.GrowthLaws.{AreAppends, appended, both_append, by_appends, by_puts, nothing, put_ops}
+use Rattle.yq_expr.{specs.Parts.{document_ops, rest_ops}, specs.declared.document.DocumentRoot.DocumentRoot}
 use Rattle.yq_expr.proofs.PartLaws.{changes_both, ops_join, ops_there, rest_there}
 use Rattle.yq_documents.specs.Documents.{Document}
+use Rattle.yq_nodes.specs.Nodes.{kind_of, node_of}
+use Rattle.yq_eval.specs.PlaceView.{places_of}
+use Rattle.yq_eval.specs.declared.matching.place.FoundPlace as found
+use Rattle.yq_semantics.specs.declared.program.Update as declared
 use Rattle.yq_core.specs.Tree as tree
+use Rattle.yq_nodes.specs.declared.nodes.node.NodeKind.TheVariants as kinds
 use Rattle.yq_semantics.specs.declared.program.Operator.TheVariants as operator
 
 -- ---- others after them
 
 begins_still : (xs ys : List Operation) → BeginsOversized xs → BeginsOversized (xs ++ ys)
-begins_still _ ys (puts valid more) = puts valid more
-begins_still _ ys (adding utf8 valid more) = adding utf8 valid more
-begins_still _ ys (appends doc path items ops valid more is) =
-    appends doc path items (ops ++ ys) valid more (ap (λ xs. xs ++ ys) is ∙ append_assoc (item_ops doc path items) ops ys)
+begins_still xs ys h = record {
+  first = h.first;
+  others = h.others ++ ys;
+  split = ap (λ zs. zs ++ ys) h.split ∙ append_assoc h.first h.others ys;
+  write = h.write;
+  more = h.more;
+}
+
+-- ---- one value that is put, or appended
+
+putting : {doc : ℕ} {path : List Step} {v : Node} {ops : List Operation} → IsValueTree v → items_limit < items_in v → BeginsOversized (replace doc path v ∷ ops)
+putting {doc} {path} {v} {ops} valid more = record {
+  first = replace doc path v ∷ [];
+  others = ops;
+  split = refl;
+  write = (valid, tt);
+  more = λ rooms docs ready fits. omega (arith, more, replaced_size rooms doc path v docs fits.0);
+}
+
+adding : {doc : ℕ} {path : List Step} {k : Option (List ℕ)} {v : Node} {ops : List Operation} → MayBeUtf8 k → IsValueTree v → items_limit < items_in v →
+    BeginsOversized (append doc path k v ∷ ops)
+adding {doc} {path} {k} {v} {ops} utf8 valid more =
+    by_appends (append doc path k v ∷ ops) (append doc path k v ∷ []) ops (suc (items_in v + 0)) (appended utf8 valid nothing) (omega (arith, more)) refl
 
 -- ---- a value that is put
 
@@ -56,7 +86,7 @@ module _ (doc : ℕ) (items : Children) (valid : AreValueTrees false items) (mor
 
   -- or in the place of what is there
   place_begins : (path : List Step) (ms : List PathStep) → HaveUtf8Keys ms → BeginsOversized (change_ops doc (path, replaces (nested ms v)))
-  place_begins path ms keys = puts (nested_valid ms v keys tree_valid) (omega (arith, more, nested_items ms v))
+  place_begins path ms keys = putting (nested_valid ms v keys tree_valid) (omega (arith, more, nested_items ms v))
 
   created_begins : (path : List Step) (n : Node) (m : PathStep) (ms : List PathStep) → HaveUtf8Keys (m ∷ ms) → BeginsOversized (change_ops doc (path, created n m ms v))
   created_begins path (tree.map a cs) m ms keys = entry_begins path m ms a cs keys
@@ -93,7 +123,9 @@ module _ (doc : ℕ) (items : Children) (valid : AreValueTrees false items) (mor
   added_begins : (path : List Step) (n : Node) (c : Change) → added n v ≡ gives c → Begins path c
   added_begins path (alias name) c h = absurd (cc)
   added_begins path (scalar a k t) c h = scalar_begins path (scalar a k t) c (is_null (scalar None k t)) h
-  added_begins path (list a cs) c h = subst (Begins path) (gives_same h) (appends doc path items [] valid more (sym (append-nil (item_ops doc path items))))
+  added_begins path (list a cs) c h = subst (Begins path) (gives_same h)
+      (by_appends (item_ops doc path items) (item_ops doc path items) [] (items_among items) (item_appends doc path items valid) more
+      (sym (append-nil (item_ops doc path items))))
   added_begins path (tree.map a cs) c h = absurd (cc)
 
   add_path : (p : FoundPlace) (cs : List Changed) → HaveUtf8Keys p.missing → add_at p v ≡ gives cs → BeginsOversized (ops_of doc cs)
@@ -141,6 +173,8 @@ module _ (doc : ℕ) (room : Room) (root : Node) (p : FoundPlace) (keys : HaveUt
   place_begins_big (delete left) cs big h = absurd big
   place_begins_big (comment left place text) cs big h = absurd big
 
+-- ---- in a document
+
 -- the operations in a document, from a place on
 pub document_begins : (u : Update) (doc : ℕ) (room : Room) (root : Node) (ps : List FoundPlace) → places doc (left_pipe u) root ≡ gives ps → (place : ℕ) (p : FoundPlace) (qs : List FoundPlace) →
     drop place ps ≡ p ∷ qs → HaveUtf8Keys p.missing → GivesAt doc root u p → GivesOversizedOps (document_ops u doc room root place)
@@ -151,6 +185,19 @@ document_begins u doc room root ps found place p qs there keys big ops h =
     let w = joined_gives (changes_at doc room root u (p ∷ [])) (changes_at doc room root u qs) cs.0 split in
     let first = place_begins_big doc room root p keys u w.0 big w.2 in
     subst BeginsOversized (sym (ops_join doc w.0 w.1) ∙ (ap (ops_of doc) w.4 ∙ gives_same cs.2)) (begins_still (ops_of doc w.0) (ops_of doc w.1) first)
+
+-- the same of what no text can hold
+pub document_large : (d : DocumentRoot) (u : declared.Update) (room : Room) (ps : List FoundPlace) → places d.doc (left_pipe (update_of u)) (node_of d.root) ≡ gives ps → AreApart ps → (place : ℕ) (qs : List found.FoundPlace) →
+    drop place ps ≡ places_of qs → BeginsLarge d u qs → GivesOversizedOps (document_ops (update_of u) d.doc room (node_of d.root) place)
+document_large d u room ps is apart place qs there (inl h) = document_begins (update_of u) d.doc room (node_of d.root) ps is place h.0 h.1 (there ∙ h.2) h.3.0 h.3.1
+document_large d u room ps is apart place qs there (inr g) = λ ops h.
+    let root = node_of d.root in
+    let all = sym (ops_there (update_of u) d.doc room root ps is place) ∙ h in
+    let cs = then_gives (λ xs. gives (ops_of d.doc xs)) (changes_at d.doc room root (update_of u) (drop place ps)) ops all in
+    let first = subst (FirstGetLists g.adds g.count) (sym there) g.first in
+    let changed = sym (ap (λ w. changes_at d.doc room root w (drop place ps)) g.by) ∙ cs.1 in
+    subst BeginsOversized (gives_same cs.2)
+    (spread_begins d.doc root g.right g.size g.value g.count (drop place ps) cs.0 g.more room g.adds g.left first (rest_apart place ps apart) changed)
 
 -- and those in the documents after it
 pub rest_begins : (u : Update) (rooms : ℕ → Room) (docs : List Document) (doc : ℕ) (d : Document) → drop doc docs ≡ d ∷ drop (suc doc) docs → (place : ℕ) →

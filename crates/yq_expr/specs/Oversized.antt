@@ -1,20 +1,23 @@
 -- Values that no text can hold, since they have more items and entries than a text may have (own).
-use Rattle.std.specs.Prelude.{◌≡◌, ◌<◌, ℕ, false, List, [], ◌∷◌, ◌++◌, map, Option, Some, None, ⊤, Result, ◌≤◌, true, IfOk, IfSome}
-use Rattle.std.{specs.Str.IsUtf8, specs.declared.alloc.AllocError.AllocError}
-use Rattle.yq_core.{specs.Tree.{Node, list, Children, none}, specs.Paths.Step, specs.Values.value_node, specs.declared.value.Value.Value}
+use Rattle.std.specs.Prelude.{◌≡◌, ◌<◌, ◌*◌, ◌⊎◌, ℕ, zero, suc, false, List, [], ◌∷◌, ◌++◌, map, if◌then◌else◌, Option, Some, None, ⊤, Bool}
+use Rattle.std.{specs.Prelude.{Result, ◌≤◌, true, IfOk, IfSome}, specs.Str.IsUtf8, specs.declared.alloc.AllocError.AllocError}
+use Rattle.yq_core.{specs.Tree.{Node, list, Children}, specs.Values.value_node, specs.declared.value.Value.Value}
+use Rattle.yq_documents.specs.Documents.{Document}
 use Rattle.yq_flow_edits.specs.Valued.{IsValueTree, AreValueTrees}
 use Rattle.yq_planner.{specs.ListSizes.HasSize, specs.Substitutes.IsSubstitute, specs.declared.updating.list_size.ListSize.ListSize}
 use Rattle.yq_semantics.specs.Judgement.{Judgement, gives, ExprError}
-use Rattle.yq_semantics.{specs.RightValues.{is_null, as_items, right_value, sum_from, term_value}, specs.Sizes.{items_in, items_among}}
-use Rattle.yq_semantics.{specs.Changes.additions, specs.Operations.{Operation, replace, append}, specs.Plans.add_op}
-use Rattle.yq_semantics.{specs.Program.{PathStep, key, index, each, Update, assign, delete, comment}, specs.Places.{FoundPlace, root_place}}
-use Rattle.yq_semantics.{specs.View.{update_of, term_of}, specs.declared.program.Operator.Operator}
+use Rattle.yq_semantics.{specs.RightValues.{is_null, as_items, right_value, sum_from, term_value}, specs.Sizes.{items_in, items_of_all}}
+use Rattle.yq_semantics.{specs.Operations.{Operation, replace, append, remove, line_comment, head_comment}, specs.After.all_after}
+use Rattle.yq_semantics.{specs.Changes.Room, specs.Fits.AllFit, specs.Meaning.AreReady}
+use Rattle.yq_semantics.specs.Program.{PathStep, key, index, each, Stage, Term, Update, assign, delete, comment}
+use Rattle.yq_semantics.{specs.Places.{FoundPlace, root_place}, specs.View.{update_of, term_of}, specs.declared.program.Operator.Operator}
 use Rattle.yq_eval.specs.PlaceView.{place_of, places_of}
 use Rattle.yq_expr.{specs.FixedPaths.IfAny, specs.Parts.{IsLater, values_limit}, specs.PlannedUpdates.{ops_inside, rest_in}}
 use Rattle.yq_expr.{specs.declared.parts.PlanPart.PlanPart, specs.declared.parts.OpenPart.OpenPart}
 use Rattle.yq_expr.specs.declared.document.DocumentRoot.{DocumentRoot}
-use Rattle.yq_nodes.specs.Nodes.{node_of}
+use Rattle.yq_nodes.specs.Nodes.{kind_of, node_of}
 use Rattle.yq_eval.specs.declared.matching.place.FoundPlace as place
+use Rattle.yq_nodes.specs.declared.nodes.node.NodeKind.TheVariants as kinds
 use Rattle.yq_semantics.specs.declared.program.Term as term
 use Rattle.yq_semantics.specs.declared.program.Operator.TheVariants as operator
 use Rattle.yq_semantics.specs.declared.program.Update as declared
@@ -98,22 +101,57 @@ MakesThere d u p = MakesOversized d u (place_of p)
 abbrev pub MakesFirst : DocumentRoot → declared.Update → List place.FoundPlace → Type 0
 MakesFirst d u ps = FirstMakesOversized d u (places_of ps)
 
+-- a list may be put at a place: nothing is missing there; and added, if there is a list (own)
+abbrev pub GetsList : Bool → FoundPlace → Type 0
+GetsList adds p = (p.missing ≡ []) × (adds ≡ true → kind_of p.node ≡ kinds.List)
+
+-- so many of the first places are such (own)
+abbrev pub FirstGetLists : Bool → ℕ → List FoundPlace → Type 0
+FirstGetLists adds zero ps = ⊤
+FirstGetLists adds (suc n) [] = ⊥
+FirstGetLists adds (suc n) (p ∷ ps) = GetsList adds p × FirstGetLists adds n ps
+
+-- An assignment adds a list to lists, or puts it, at so many of the first places that no text can hold all items and entries (own).
+pub record SpreadsTooMany (d : DocumentRoot) (u : declared.Update) (ps : List FoundPlace) : Type 0 where
+  pub adds : Bool
+  pub left : List Stage
+  pub right : List Term
+  pub size : ListSize
+  pub count : ℕ
+  pub by : update_of u ≡ assign left (if adds then operator.Add else operator.Set) right
+  pub value : GivesList (right_value d.doc right (root_place (node_of d.root))) size
+  pub first : FirstGetLists adds count ps
+  pub more : items_limit < count * size.items
+
+-- an update begins at places with what no text can hold (own)
+abbrev pub BeginsLarge : DocumentRoot → declared.Update → List place.FoundPlace → Type 0
+BeginsLarge d u ps = MakesFirst d u ps ⊎ SpreadsTooMany d u (places_of ps)
+
 -- a key is UTF-8, if there is one (own)
 abbrev pub MayBeUtf8 : Option (List ℕ) → Type 0
 MayBeUtf8 None = ⊤
 MayBeUtf8 (Some k) = IsUtf8 k
 
--- the operations that append items to the list at a path (own)
-abbrev pub item_ops : ℕ → List Step → Children → List Operation
-item_ops doc path items = map (add_op doc path) (additions none items)
+-- an operation puts or appends a valid value; a key with it is UTF-8 (own)
+abbrev pub WritesValue : Operation → Type 0
+WritesValue (replace doc path v) = IsValueTree v
+WritesValue (append doc path k v) = MayBeUtf8 k × IsValueTree v
+WritesValue (remove doc path) = ⊥
+WritesValue (line_comment doc path text) = ⊥
+WritesValue (head_comment doc path text) = ⊥
 
--- Operations begin with one that puts or adds more items and entries than a text may have, or with some that append so many (own).
-pub data BeginsOversized : List Operation → Type 0 where
-  puts : {doc : ℕ} {path : List Step} {v : Node} {ops : List Operation} → IsValueTree v → items_limit < items_in v → BeginsOversized (replace doc path v ∷ ops)
-  adds : {doc : ℕ} {path : List Step} {k : Option (List ℕ)} {v : Node} {ops : List Operation} → MayBeUtf8 k → IsValueTree v → items_limit < items_in v →
-      BeginsOversized (append doc path k v ∷ ops)
-  appends : {all : List Operation} (doc : ℕ) (path : List Step) (items : Children) (ops : List Operation) → AreValueTrees false items →
-      items_limit < items_among items → all ≡ item_ops doc path items ++ ops → BeginsOversized all
+-- each does (own)
+abbrev pub AllWrite : List Operation → Type 0
+AllWrite [] = ⊤
+AllWrite (op ∷ ops) = WritesValue op × AllWrite ops
+
+-- Operations begin with some that put or append values, so that documents which they fit have more items and entries after them than a text may have (own).
+pub record BeginsOversized (all : List Operation) : Type 0 where
+  pub first : List Operation
+  pub others : List Operation
+  pub split : all ≡ first ++ others
+  pub write : AllWrite first
+  pub more : (rooms : ℕ → Room) (docs : List Document) → AreReady rooms 0 docs → AllFit rooms first docs → items_limit < items_of_all (all_after rooms first docs)
 
 -- the operations that a judgement gives, if it does, begin so (own)
 abbrev pub GivesOversizedOps : Judgement (List Operation) → Type 0

@@ -20,6 +20,7 @@ mod planning;
 mod put;
 mod right_value;
 mod same_term;
+mod spread;
 mod steps;
 mod weights;
 

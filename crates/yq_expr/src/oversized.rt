@@ -18,7 +18,7 @@ use yq_semantics::{ExprError, Operator, Term, Update};
 use yq_text::TEXT_LIMIT;
 
 /// How many items a text may have: each takes two bytes at least.
-const ITEMS_LIMIT: usize = TEXT_LIMIT / 2;
+pub(crate) const ITEMS_LIMIT: usize = TEXT_LIMIT / 2;
 
 /// How large the list is of what a list gets from the value of a term; nothing, where the term is refused, or
 /// its value is null, or may not be written.
@@ -91,7 +91,7 @@ fn size_with_terms<'a, 't>(
 }
 
 /// How large the sum of terms is, where that is a list.
-fn size_of_sum<'a, 't>(
+pub(crate) fn size_of_sum<'a, 't>(
     alloc: Global,
     doc: usize,
     terms: &'a [Term],

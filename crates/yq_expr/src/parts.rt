@@ -14,7 +14,7 @@ ghost use Rattle.yq_failure.specs.declared.failure.Failure.TheVariants as failur
 use crate::changes::{changes_at, left};
 use crate::document::{DocumentPlaces, DocumentRoot};
 use crate::modified::count_within;
-use crate::oversized::begins_oversized;
+use crate::spread::begins_large;
 use crate::weights::{VALUES_LIMIT, ValueWeight, modified, weight_at};
 use bumpalo::Bump;
 use std::alloc::{AllocError, Global};
@@ -108,7 +108,7 @@ fn document_part<'a>(
         return Ok(None);
     }
     let left = &places[place..];
-    if part.room == VALUES_LIMIT && begins_oversized(alloc, update, &document, left)? {
+    if part.room == VALUES_LIMIT && begins_large(alloc, update, &document, left)? {
         part.is_oversized = true;
         return Ok(Some(place));
     }

@@ -1,4 +1,4 @@
-use Rattle.std.proofs.Common.{◌≡◌, ℕ, ◌∷◌, take, drop, ◌+◌, ◌<◌, ◌≤◌, ◌-◌, List, length, refl, sym, ap, ◌∙◌, subst, arith}
+use Rattle.std.proofs.Common.{◌≡◌, ℕ, take, drop, ◌+◌, ◌<◌, ◌≤◌, ◌-◌, List, length, refl, sym, ap, ◌∙◌, subst, arith}
 use Rattle.std.{proofs.lemmas.List.{length-map, take_rest}, proofs.lemmas.Result.err_from_is_err_and, proofs.lemmas.Bool.false≢true}
 use Rattle.yq_core.specs.Tree.{Node}
 use Rattle.yq_nodes.specs.Nodes.{node_of}
@@ -8,7 +8,7 @@ use Rattle.yq_semantics.{specs.Rooms.room_of, specs.View.update_of, proofs.updat
 use Rattle.yq_planner.{specs.ChangeView.changes_under, specs.ValidChanges.{HasValidValue, HaveValidValues}}
 use Rattle.yq_planner.proofs.ValidLaws.{each_joined, ops_valid}
 use Rattle.yq_eval.{specs.PlaceView.{place_of, places_of}, specs.TreeScalars.HaveScalars, proofs.MatchLaws.places_have}
-use Rattle.yq_expr.{specs.Parts.{IsPlanPart, document_ops, values_limit}, proofs.OversizedOps.document_begins}
+use Rattle.yq_expr.{specs.Parts.{IsPlanPart, document_ops, values_limit}, proofs.OversizedOps.document_large}
 use Rattle.yq_expr.proofs.PartLaws.{last_part, more_part, none_part, part_fails, some_are, some_have, some_in, some_left}
 use Rattle.yq_expr.proofs.parts.document_part.Goals.{then-end-count, else-end-count}
 use Rattle.yq_expr.proofs.parts.document_part.Goals as goal
@@ -97,8 +97,8 @@ returns-clause-ends c =
     more : (n m : ℕ) → 0 < m → n < n + m
     more n m h = omega (arith, h)
 
-pub begins_oversized-requires-clause-places : goal.begins_oversized-requires-clause-places
-begins_oversized-requires-clause-places c =
+pub begins_large-requires-clause-places : goal.begins_large-requires-clause-places
+begins_large-requires-clause-places c =
     let u : Update = update_of c.args.update.now in
     let root : Node = node_of c.args.document.root in
     let ps : List FoundPlace = places_of c.in_ok-places.places.items in
@@ -115,14 +115,16 @@ returns-then-branch-clause-ends c =
     let ps : List FoundPlace = places_of c.in_ok-places.places.items in
     let found : places c.args.document.doc (left_pipe u) root ≡ gives ps = ap (λ (pipe : List Stage). places c.args.document.doc pipe root) (sym c.left-pipe.ensures) ∙ c.in_ok-places.ensures in
     let left : ℕ = length c.deref.result.now - c.args.place in
-    let big = c.in_ok-begins_oversized.ensures c.if-branch.true in
+    let big = c.in_ok-begins_large.ensures c.if-branch.true in
     let some = some_are left c.args.place c.in_ok-places.places.items c.deref.result.now c.deref.ensures.value in
     let all : left ≡ length ps - c.args.place = ap (λ n. n - c.args.place) (ap length c.deref.ensures.value ∙ sym (length-map c.in_ok-places.places.items place_of)) in
-    let there : drop c.args.place ps ≡ big.0 ∷ big.1 = sym (ap (λ n. take n (drop c.args.place ps)) all ∙ take_rest ps c.args.place) ∙ (sym some ∙ big.2) in
+    let there : drop c.args.place ps ≡ places_of (take left (drop c.args.place c.deref.result.now)) = sym (ap (λ n. take n (drop c.args.place ps)) all ∙ take_rest ps c.args.place) ∙ sym some in
     record {
       later = omega arith;
       moves = λ _ fresh. absurd (false≢true (sym fresh));
-      large = λ _. document_begins u c.args.document.doc room root ps found c.args.place big.0 big.1 there big.3.0 big.3.1;
+      large = λ _. document_large c.args.document c.args.update.now room ps found
+          (places_are_there c.args.document.doc (left_pipe u) root ps c.requires.document.tree found).0 c.args.place
+          (take left (drop c.args.place c.deref.result.now)) there big;
     }
 
 pub returns-clause-valid : goal.returns-clause-valid
