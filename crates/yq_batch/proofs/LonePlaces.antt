@@ -1,6 +1,6 @@
 -- Where nodes are that are alone on their lines: as roots, and under a key or dash.
-use Rattle.std.proofs.Common.{◌≡◌, ℕ, eqb, Bool, true, false, cond, List, [], ◌∷◌, ◌++◌, length, eqb-true, Option, Some, None, option_map}
-use Rattle.std.{proofs.Common.{refl, sym, ap, ◌∙◌}, proofs.lemmas.Bool.false≢true, proofs.lemmas.Option.slice_get-map}
+use Rattle.std.proofs.Common.{◌≡◌, ℕ, eqb, Bool, true, false, cond, List, [], ◌∷◌, ◌++◌, length, eqb-true, Option, Some, option_map, refl}
+use Rattle.std.{proofs.Common.{ap, ◌∙◌}, proofs.lemmas.Bool.false≢true, proofs.lemmas.Option.slice_get-map}
 use Rattle.yq_core.{specs.Answers.◌>>=◌, specs.Paths.{Step, node_at}, specs.Text.is_empty}
 use Rattle.yq_row_table.{specs.Rows.{Block, Content, Cut, Inline, Nothing, Row, print_row, rows_text}, specs.View.slices}
 use Rattle.yq_documents.{specs.Documents.{Document, document_parts}, specs.Pieces.TextPiece, specs.Reading.part_document}

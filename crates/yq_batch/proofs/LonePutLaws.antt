@@ -12,7 +12,7 @@ use Rattle.yq_places.{specs.NodesAt.node_in, specs.RowWalk.document_row_range}
 use Rattle.yq_places.{specs.Placements.{RowsOfEntry, alone, rows_of_entry, placement_at}, specs.RowLineReading.position_in}
 use Rattle.yq_places.proofs.PrintedTexts.{map_some}
 use Rattle.yq_edit_rules.{specs.Edits.op_edits, specs.Operands.HasOperand, specs.ReplaceEdits.lone_put, specs.Replacing.keeps_scalar}
-use Rattle.yq_edit_rules.{specs.RowStays.{StaysInRows, StaysPlaced}, specs.WrittenValues.value_text, proofs.PlacementRows.rows_located}
+use Rattle.yq_edit_rules.{specs.WrittenValues.value_text, proofs.PlacementRows.rows_located}
 use Rattle.yq_semantics.specs.Operations.{replace}
 use Rattle.yq_edit_laws.{proofs.CutLaws.{cut_read, text_read}, proofs.EntryNodeLaws.entry_node}
 use Rattle.yq_edit_laws.{proofs.LoneRows.{PutsLone, lone_puts_root, lone_puts_under}, proofs.RowEditLaws.{lone_edits, lone_puts}}
@@ -156,6 +156,7 @@ module _ (t : List ℕ) (n : ℕ) (steps : List Step) (v : Node) (w : TextPiece)
       }
 
 -- the row under that of an item or entry
-pub under_line : (c : Cut) (p : Path) (x : Position) (steps : List Step) → steps_of p ≡ steps → 0 < length steps → Some x ≡ option_map (position_in (document_row p.doc c)) (row_line_at p c) → IsLoneRow p.doc steps c x.row (suc x.row)
-under_line c p x [] same some is = absurd (omega (arith, some))
-under_line c p x (s ∷ ss) same some is = λ e found. (row_number c p e x (ap (λ (ts : List Step). rows_of_entry p.doc ts c) same ∙ found) is, refl)
+pub under_line : (c : Cut) (p : Path) (x : Position) (row : ℕ) (steps : List Step) → steps_of p ≡ steps → 0 < length steps → Some x ≡ option_map (position_in (document_row p.doc c)) (row_line_at p c) →
+    row ≡ suc x.row → IsLoneRow p.doc steps c x.row row
+under_line c p x row [] same some is next = absurd (omega (arith, some))
+under_line c p x row (s ∷ ss) same some is next = λ e found. (row_number c p e x (ap (λ (ts : List Step). rows_of_entry p.doc ts c) same ∙ found) is, next)

@@ -4,10 +4,9 @@ use Rattle.std.proofs.Common.{sym, ap, ◌∙◌, subst, append_assoc, append-ni
 use Rattle.std.{proofs.Math.Seq.{take-append_seam, drop-append_seam}, proofs.lemmas.Bool.{le-leb, lt-leb}}
 use Rattle.std.{proofs.lemmas.List.{append_cancel_right, drop-append-le}, proofs.lemmas.Option.same_Some, specs.Str.IsCharBoundary}
 use Rattle.yq_text.{specs.Limit.text_limit, specs.Script.{Segment, changes, keep, new_text, splice_at}, proofs.ScriptLaws.kept_changes}
-use Rattle.yq_core.specs.Paths.{Step}
 use Rattle.yq_row_table.specs.Rows.{Cut, cut_text}
 use Rattle.yq_documents.{specs.Reading.{documents, read_at}, proofs.ReadLaws.parts_read}
-use Rattle.yq_places.{specs.PlacedRows.PlacedPart, specs.Placements.RowsOfEntry}
+use Rattle.yq_places.specs.Placements.{RowsOfEntry}
 use Rattle.yq_edit_rules.{specs.Appends.inserted, specs.Changed.put_document, specs.RowStays.{IsAfter, StaysInRows, StaysFrom, StaysPlaced}}
 use Rattle.yq_edit_rules.{proofs.RowStayLaws.rows_stay_there, specs.Edits.{op_edits, or_stay}, specs.Operands.HasOperand}
 use Rattle.yq_edit_rules.specs.RowChanges.{ChangesRow}

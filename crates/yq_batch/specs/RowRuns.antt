@@ -7,7 +7,7 @@ use Rattle.yq_core.{specs.declared.style.Place.TheVariants.Block as InBlock, spe
 use Rattle.yq_row_table.specs.Rows.{Cut, Row, cut_text}
 use Rattle.yq_documents.{specs.declared.path.Path.Path, specs.LinesInRows.document_row, specs.Located.steps_of}
 use Rattle.yq_documents.specs.Reading.{cut_of, documents, read_at}
-use Rattle.yq_places.{specs.FirstBreak.first_break, specs.PlacedRows.{PlacedPart, placed_document}}
+use Rattle.yq_places.{specs.FirstBreak.first_break, specs.NodesAt.node_in, specs.PlacedRows.{PlacedPart, placed_document}}
 use Rattle.yq_places.specs.Placements.{RowsOfEntry, rows_of_entry}
 use Rattle.yq_edit_rules.{specs.RowStays.{IsAfter, StaysInRows, StaysPlaced}, specs.Edits.op_edits, specs.Operands.HasOperand}
 use Rattle.yq_edit_rules.{specs.Replacing.keeps_scalar, specs.RowChanges.{ChangesRow, PutsOne, lone_rows, root_rows}}

@@ -1,12 +1,12 @@
-use Rattle.std.{proofs.Common.{rules, ◌≡◌, ◌∙◌, length, List, refl, sym, subst}, specs.Vec.vec_len}
+use Rattle.std.{proofs.Common.{rules, ◌≡◌, ◌∙◌, length, List, refl, sym, subst, arith}, specs.Vec.vec_len}
 use Rattle.yq_core.{specs.Entries.tree_step, specs.Paths.Step}
 use Rattle.yq_documents.{specs.Located.steps_of, specs.Reading.cut_of}
 use Rattle.yq_places.proofs.PlacementViewLaws.{some_steps}
 use Rattle.yq_batch.{specs.RowRuns.IsLoneRow, proofs.LonePutLaws.{no_steps, under_line, walk_begins}}
 use Rattle.yq_batch.proofs.row_put.lone_row.Goals as goal
 
-pub returns-in_ok-walk : goal.returns-in_ok-walk
-returns-in_ok-walk c =
+pub returns-then-is_empty : goal.returns-then-is_empty
+returns-then-is_empty c =
     let p = c.args.path.now in
     let counted : vec_len p.steps ≡ length p.steps.items = search rules in
     let none = no_steps tree_step p.steps.items (sym c.is_empty.ensures ∙ c.if-is_empty.true) counted in
@@ -18,4 +18,4 @@ returns c =
     let p = c.args.path.now in
     let counted : vec_len p.steps ≡ length p.steps.items = search rules in
     let some = some_steps tree_step p.steps.items (sym c.is_empty.ensures ∙ c.if-is_empty.false) counted in
-    under_line (cut_of c.args.cut.now) p c.in_ok-line.line (steps_of p) refl some c.in_ok-line.ensures
+    under_line (cut_of c.args.cut.now) p c.in_ok-line.line c.in_ok-under.under (steps_of p) refl some c.in_ok-line.ensures (omega (arith, c.in_ok-under.ensures))
