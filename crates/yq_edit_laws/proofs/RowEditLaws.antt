@@ -1,5 +1,5 @@
 -- What operations exchange that change one row.
-use Rattle.std.proofs.Common.{rules, ◌≡◌, Bool, true, false, cond, eq-eqb, ℕ, List, [], ◌∷◌, ◌++◌, length, Option, Some, None, option_map}
+use Rattle.std.proofs.Common.{rules, ◌≡◌, Bool, true, false, cond, eq-eqb, ℕ, List, [], ◌∷◌, length, Option, Some, None, option_map}
 use Rattle.std.{proofs.Common.{ap, ◌∙◌, subst}, proofs.lemmas.Bool.false≢true, specs.Option.option_or}
 use Rattle.yq_core.{specs.Answers.◌>>=◌, specs.Paths.Step, specs.declared.style.Place.TheVariants.Block as InBlock}
 use Rattle.yq_core.{specs.BlockWritten.break_text, specs.Text.is_empty, specs.Tree.Node}
