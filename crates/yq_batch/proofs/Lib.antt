@@ -22,6 +22,8 @@ pub mod SoleRemovals
 pub mod Exchanges
 pub mod RemovalAnswers
 pub mod RowPutLaws
+pub mod LonePlaces
+pub mod LonePutLaws
 pub mod RowCommentLaws
 pub mod RowBreakLaws
 pub mod RowHeadLaws

@@ -17,7 +17,8 @@ use Rattle.yq_edit_rules.proofs.TailPieces.{white_piece}
 use Rattle.yq_semantics.specs.Operations.{line_comment}
 use Rattle.yq_edit_laws.{proofs.LineCommentLaws.line_comments_change_rows, proofs.RowEditLaws.row_edits}
 use Rattle.yq_edit_laws.{proofs.CutLaws.{cut_read, text_read}, proofs.HeldRows.{mark_end, mark_tail}, proofs.EditsHold.edit_is}
-use Rattle.yq_batch.{specs.RowRuns.{PutsInRow, PutsSo, PutsText, bytes_in, rows_still, white_left}, specs.declared.row_put.RowPut.RowPut}
+use Rattle.yq_batch.specs.RowRuns.{PutsInRow, PutsSo, PutsText, bytes_in, of_entry, rows_still, white_left}
+use Rattle.yq_batch.specs.declared.row_put.RowPut.{RowPut}
 
 module _ (n : ℕ) (s : Step) (ss : List Step) (text : List ℕ) (c : Cut) (e : RowsOfEntry) (read : read_at (cut_text c) ≡ Some c) (at : rows_of_entry n (s ∷ ss) c ≡ Some e) (last : e.line ≡ length e.row.dashes) where
   abbrev lower : List ℕ
@@ -77,10 +78,10 @@ end_there e x same = ap (end_in_line []) same
 
 -- what the code tells of a line comment that is put in a row
 pub comment_puts_there : (t : List ℕ) (n : ℕ) (steps : List Step) (text white comment : List ℕ) (x : HeldRow) (put : RowPut) → read_at t ≡ Some (cut_of t) → IsHeldRow n steps (cut_of t) x → HasOperand (line_comment n steps text) →
-    white ≡ (end_in_line [] x.tail.now).white → comment ≡ (end_in_line [] x.tail.now).comment → put.doc ≡ n → put.row ≡ x.row → put.start ≡ (x.start + length x.head.now) + length (white_left text white comment) →
+    white ≡ (end_in_line [] x.tail.now).white → comment ≡ (end_in_line [] x.tail.now).comment → put.doc ≡ n → put.first ≡ x.row → put.row ≡ x.row → put.start ≡ (x.start + length x.head.now) + length (white_left text white comment) →
     put.end ≡ (x.start + length x.head.now) + (length white + length comment) → bytes_in string_bytes put.written ≡ Some (comment_written text comment) → PutsInRow (line_comment n steps text) (cut_of t) put
-comment_puts_there t n [] text white comment x put read is operand whites comments doc row start finish written = absurd (no_root_rows n (cut_of t) is.entry is.found)
-comment_puts_there t n (s ∷ ss) text white comment x put read is operand whites comments doc row start finish written =
+comment_puts_there t n [] text white comment x put read is operand whites comments doc first row start finish written = absurd (no_root_rows n (cut_of t) is.entry is.found)
+comment_puts_there t n (s ∷ ss) text white comment x put read is operand whites comments doc first row start finish written =
     let c : Cut = cut_of t in
     let again : read_at (cut_text c) ≡ Some c = ap read_at (text_read t c read) ∙ read in
     let e : RowsOfEntry = is.entry in
@@ -103,10 +104,10 @@ comment_puts_there t n (s ∷ ss) text white comment x put read is operand white
     let stop : put.end ≡ length (comment_front text w) + length (comment_old text w) = omega (arith, finish, start, left, place, whole, ap length a, ap length b) in
     let new : bytes_in string_bytes put.written ≡ Some (comment_written text w.comment) = written ∙ ap (λ (y : List ℕ). Some (comment_written text y)) b in
     record {
-      steps = s ∷ ss;
-      entry = e;
+      place = of_entry (s ∷ ss) e;
       found = is.found;
       document = doc;
+      first = first ∙ (is.row);
       row = row ∙ is.row;
       valid = operand;
       before = comment_front text w;

@@ -17,7 +17,7 @@ use Rattle.yq_edit_rules.{specs.Operands.HasOperand, proofs.CommentRowLaws.{entr
 use Rattle.yq_semantics.{specs.Meaning.head_comment_lines, specs.Operations.head_comment}
 use Rattle.yq_edit_laws.{proofs.HeadCommentLaws.head_comments_change_rows, proofs.RowEditLaws.row_edits}
 use Rattle.yq_edit_laws.{proofs.CutLaws.{cut_read, text_read}, proofs.EditsHold.edit_is}
-use Rattle.yq_batch.{specs.RowRuns.{PutsInRow, PutsSo, PutsText, bytes_in, rows_still}, specs.declared.row_put.RowPut.RowPut}
+use Rattle.yq_batch.{specs.RowRuns.{PutsInRow, PutsSo, PutsText, bytes_in, of_entry, rows_still}, specs.declared.row_put.RowPut.RowPut}
 use Rattle.yq_documents.specs.LinesInRows as lines
 
 -- an empty head comment has no lines, and others end alike by the same break
@@ -106,18 +106,18 @@ above_fits t p w read is =
 -- a head comment that is put in their place
 pub head_comment_puts_there : (t : List ℕ) (p : Path) (text : List ℕ) (x : Position) (w : ℕ × TextPiece) (put : RowPut) → read_at t ≡ Some (cut_of t) →
     Some x ≡ option_map (position_in (document_row p.doc (cut_of t))) (row_line_at p (cut_of t)) → Some w ≡ lines_above p.doc (steps_of p) (cut_of t) →
-    HasOperand (head_comment p.doc (steps_of p) text) → IsUtf8 w.1.text → IsUtf8 w.1.after → put.doc ≡ p.doc → put.row ≡ x.row → put.start ≡ length w.1.before → put.end ≡ length w.1.before + length w.1.text →
+    HasOperand (head_comment p.doc (steps_of p) text) → IsUtf8 w.1.text → IsUtf8 w.1.after → put.doc ≡ p.doc → put.first ≡ x.row → put.row ≡ x.row → put.start ≡ length w.1.before → put.end ≡ length w.1.before + length w.1.text →
     bytes_in string_bytes put.written ≡ Some (head_lines w.0 (break_text (first_break (cut_text (cut_of t)))) (head_comment_lines text)) →
     PutsInRow (head_comment p.doc (steps_of p) text) (cut_of t) put
-head_comment_puts_there t p text x w put read line is operand run after doc row start finish written =
+head_comment_puts_there t p text x w put read line is operand run after doc first row start finish written =
     let c : Cut = cut_of t in
     let h : IsAbove t p w = is_above t p w read is in
     let apart : cut_text c ≡ (w.1.before ++ w.1.text) ++ w.1.after = h.text ∙ sym (append_assoc w.1.before w.1.text w.1.after) in
     record {
-      steps = steps_of p;
-      entry = h.entry;
+      place = of_entry (steps_of p) h.entry;
       found = h.found;
       document = doc;
+      first = first ∙ (row_number c p h.entry x h.found line);
       row = row ∙ row_number c p h.entry x h.found line;
       valid = operand;
       before = w.1.before;

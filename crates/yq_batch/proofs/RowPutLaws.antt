@@ -18,7 +18,8 @@ use Rattle.yq_edit_rules.proofs.HeldPieces.{held_spells}
 use Rattle.yq_semantics.specs.Operations.{replace}
 use Rattle.yq_edit_laws.{proofs.RowEditLaws.row_edits, proofs.CutLaws.{cut_read, text_read}, proofs.HeldRows.{head_there, headless_there}}
 use Rattle.yq_edit_laws.{proofs.InlineChangeLaws.inline_values_change_rows, proofs.MarkHeads.no_raw, proofs.EditsHold.edit_is}
-use Rattle.yq_batch.{specs.RowRuns.{IsWrittenSo, PutsInRow, PutsSo, PutsText, bytes_in, rows_still}, specs.declared.row_put.RowPut.RowPut}
+use Rattle.yq_batch.specs.RowRuns.{IsWrittenSo, PutsInRow, PutsSo, PutsText, bytes_in, of_entry, rows_still}
+use Rattle.yq_batch.specs.declared.row_put.RowPut.{RowPut}
 
 is_there : (o : Option Node) → is_some o ≡ true → (x : Node) × (o ≡ Some x)
 is_there None e = absurd (false≢true e)
@@ -129,9 +130,10 @@ value_fits t n (s ∷ ss) v x read is inline plain =
 
 -- what the code tells of a value that is put in a row
 pub value_puts : (t : List ℕ) (n : ℕ) (steps : List Step) (v : Node) (x : HeldRow) (put : RowPut) → read_at t ≡ Some (cut_of t) → IsHeldRow n steps (cut_of t) x → x.inline ≡ true → is_filled v ≡ false → HasOperand (replace n steps v) →
-    put.doc ≡ n → put.row ≡ x.row → put.start ≡ x.start → put.end ≡ x.start + length x.head.now → IsWrittenSo (node_in n steps (cut_of t)) v x.head.now (bytes_in string_bytes put.written) → PutsInRow (replace n steps v) (cut_of t) put
-value_puts t n [] v x put read is inline plain operand doc row start finish written = absurd (no_root_rows n (cut_of t) is.entry is.found)
-value_puts t n (s ∷ ss) v x put read is inline plain operand doc row start finish written =
+    put.doc ≡ n → put.first ≡ x.row → put.row ≡ x.row → put.start ≡ x.start → put.end ≡ x.start + length x.head.now →
+    IsWrittenSo (node_in n steps (cut_of t)) v x.head.now (bytes_in string_bytes put.written) → PutsInRow (replace n steps v) (cut_of t) put
+value_puts t n [] v x put read is inline plain operand doc first row start finish written = absurd (no_root_rows n (cut_of t) is.entry is.found)
+value_puts t n (s ∷ ss) v x put read is inline plain operand doc first row start finish written =
     let c : Cut = cut_of t in
     let again : read_at (cut_text c) ≡ Some c = ap read_at (text_read t c read) ∙ read in
     let e : RowsOfEntry = is.entry in
@@ -140,10 +142,10 @@ value_puts t n (s ∷ ss) v x put read is inline plain operand doc row start fin
     let place : put.start ≡ length ((held e).before ++ (held e).space) = start ∙ there in
     let stop : put.end ≡ length ((held e).before ++ (held e).space) + length (held e).head = finish ∙ λ i. there i + length (is.head i) in
     record {
-      steps = s ∷ ss;
-      entry = e;
+      place = of_entry (s ∷ ss) e;
       found = is.found;
       document = doc;
+      first = first ∙ (is.row);
       row = row ∙ is.row;
       valid = operand;
       before = (held e).before ++ (held e).space;

@@ -4,11 +4,10 @@ use Rattle.std.proofs.Common.{sym, ap, ◌∙◌, subst, append_assoc, append-ni
 use Rattle.std.{proofs.Math.Seq.{take-append_seam, drop-append_seam}, proofs.lemmas.Bool.{le-leb, lt-leb}}
 use Rattle.std.{proofs.lemmas.List.{append_cancel_right, drop-append-le}, proofs.lemmas.Option.same_Some, specs.Str.IsCharBoundary}
 use Rattle.yq_text.{specs.Limit.text_limit, specs.Script.{Segment, changes, keep, new_text, splice_at}, proofs.ScriptLaws.kept_changes}
-use Rattle.yq_core.specs.Paths.{Step}
 use Rattle.yq_row_table.specs.Rows.{Cut, cut_text}
 use Rattle.yq_documents.{specs.Reading.{documents, read_at}, proofs.ReadLaws.parts_read}
-use Rattle.yq_places.specs.Placements.{RowsOfEntry, rows_of_entry}
-use Rattle.yq_edit_rules.{specs.Appends.inserted, specs.Changed.put_document, specs.RowStays.{IsAfter, StaysInRows, StaysFrom}}
+use Rattle.yq_places.specs.Placements.{RowsOfEntry}
+use Rattle.yq_edit_rules.{specs.Appends.inserted, specs.Changed.put_document, specs.RowStays.{IsAfter, StaysInRows, StaysFrom, StaysPlaced}}
 use Rattle.yq_edit_rules.{proofs.RowStayLaws.rows_stay_there, specs.Edits.{op_edits, or_stay}, specs.Operands.HasOperand}
 use Rattle.yq_edit_rules.specs.RowChanges.{ChangesRow}
 use Rattle.yq_semantics.{specs.After.op_document, specs.Fits.Fits, specs.Operations.Operation, specs.Rooms.room_of}
@@ -16,7 +15,7 @@ use Rattle.yq_semantics.specs.declared.refusal.Refusal.TheVariants.{TooLarge}
 use Rattle.yq_edit_laws.{proofs.CutLaws.{cut_read, text_read}, specs.Carried.{carried, carry_one}}
 use Rattle.yq_edit_laws.{specs.Edit.{by_reading, edit_of_segments, exchange_edit, gives, refuses}, specs.Theorems.IsFitting}
 use Rattle.yq_edit_laws.proofs.ApplyLaws.{fits}
-use Rattle.yq_batch.{specs.RowRuns.{IsRowRun, PutsText, rows_still}, specs.Runs.text_with_run}
+use Rattle.yq_batch.{specs.RowRuns.{DocumentsStayFrom, IsRowRun, PutsText}, specs.Runs.text_with_run}
 use Rattle.yq_text.specs.Exchanging as exchange
 
 -- what is after one row after another is after that
@@ -29,12 +28,17 @@ after_both k n m i l j (inr a) (inr b) = inr (a.0 ∙ b.0, omega (arith, a.1, b.
 pub sized : (k n m i j : ℕ) → i ≡ j → IsAfter k n m i → IsAfter k n m j
 sized k n m i j e h = subst (λ (x : ℕ). IsAfter k n m x) e h
 
-module _ (c : Cut) (k n : ℕ) (out : List ℕ) (done : ℕ) (run : IsRowRun c k n out done) (op : Operation) (steps : List Step) (e : RowsOfEntry)
-    (at : rows_of_entry (op_document op) steps c ≡ Some e) (later : IsAfter k n (op_document op) (length e.front)) where
-  -- the rows in the text as it is now
-  abbrev pub still : StaysInRows e (op_document op) steps run.cut
-  still = run.stays (op_document op) steps e at later
+-- all rows of a document are after a row of another one alone
+in_later : (m i l : ℕ) → IsAfter m (suc i) l 0 → m < l
+in_later m i l (inl a) = a
+in_later m i l (inr b) = absurd (omega (arith, b.1))
 
+-- a run to which a row was added, after which items, entries and documents are as they were
+abbrev pub GoesOn : (c : Cut) (m n : ℕ) (out : List ℕ) (done : ℕ) → Type 0
+GoesOn c m n out done = (y : IsRowRun c m n out done) × DocumentsStayFrom c y.cut m n
+
+-- after a run, of rows of the text as it is now
+module _ (c : Cut) (k n : ℕ) (out : List ℕ) (done : ℕ) (run : IsRowRun c k n out done) (op : Operation) (e : RowsOfEntry) where
   abbrev now : List ℕ
   now = text_with_run (cut_text c) out done
 
@@ -56,7 +60,7 @@ module _ (c : Cut) (k n : ℕ) (out : List ℕ) (done : ℕ) (run : IsRowRun c k
       ∙ (ap (λ (b : Bool). exchange_edit (cond b (exchange.gives t []) exchange.too_large)) (le-leb (length t) text_limit (cut_read t run.cut read_now).size) ∙ ap (λ (u : List ℕ). gives u []) text_now))
 
   -- a text is put there
-  module _ (before old new following : List ℕ) (text_is : cut_text c ≡ before ++ (old ++ following)) (ordered : done ≤ length before) (x : PutsText op run.cut (rows_still e still) old new following) where
+  module _ (before old new following : List ℕ) (text_is : cut_text c ≡ before ++ (old ++ following)) (ordered : done ≤ length before) (x : PutsText op run.cut e old new following) where
     abbrev t : List ℕ
     t = cut_text c
 
@@ -123,23 +127,29 @@ module _ (c : Cut) (k n : ℕ) (out : List ℕ) (done : ℕ) (run : IsRowRun c k
         ∙ ap (λ (b : Bool). exchange_edit (cond b (exchange.gives (text_with_run t new_out finish) (splice_at (length new_front) old new)) exchange.too_large)) (lt-leb (length (text_with_run t new_out finish)) text_limit large))
 
     -- the run goes on after it
-    pub row_goes_on : IsCharBoundary t finish → HasOperand op → IsFitting op now → length (text_with_run t new_out finish) ≤ text_limit → IsRowRun c (op_document op) (suc (length e.front)) new_out finish
-    row_goes_on edge operand fitting small =
+    pub row_goes_on : (i : ℕ) → length e.front ≡ i → IsAfter k n (op_document op) i → IsCharBoundary t finish → HasOperand op → IsFitting op now → length (text_with_run t new_out finish) ≤ text_limit →
+        DocumentsStayFrom c run.cut k n → GoesOn c (op_document op) (suc i) new_out finish
+    row_goes_on i number later edge operand fitting small others =
         let m : ℕ = op_document op in
         let same : fitting.read.parts ≡ run.cut = same_Some _ _ (sym (parts_read now fitting.before fitting.read).0 ∙ run.read) in
         let fit : Fits (room_of (cut_text run.cut)) op (documents run.cut) = subst (λ (d : Cut). Fits (room_of (cut_text d)) op (documents d)) same (fits op now operand fitting) in
-        let y : ChangesRow m run.cut (rows_still e still) ss = x.changes operand fit (omega (arith, small, ap length new_is)) in
-        let front_size : length y.front ≡ length e.front = y.front_size ∙ still.size in
-        let kept : StaysFrom (suc (length e.front)) y.part (inserted y.front (y.new ∷ []) y.back y.part) =
-        subst (λ (i : ℕ). StaysFrom (suc i) y.part (inserted y.front (y.new ∷ []) y.back y.part)) front_size (rows_stay_there.exchanges y.part y.front y.back y.row y.new y.rows_are y.shape) in
-        record {
-          within = omega (arith, ap length text_is, length-append before (old ++ following), length-append old following);
-          edge = edge;
-          cut = put_document m (inserted y.front (y.new ∷ []) y.back y.part) run.cut;
-          read = ap read_at (sym new_is) ∙ y.read;
-          stays = λ l path f found after.
-              let first : StaysInRows f l path run.cut = run.stays l path f found (after_both k n m (length e.front) l (length f.front) later after) in
-              let z = rows_stay_there.entries run.cut m (suc (length e.front)) y.part (inserted y.front (y.new ∷ []) y.back y.part) l path (record f { start = first.start; front = first.front }) y.there kept first.found
-              (sized m (suc (length e.front)) l (length f.front) (length first.front) (sym first.size) after) in
-              record { start = z.start; front = z.front; found = z.found; size = z.size ∙ first.size };
-        }
+        let y : ChangesRow m run.cut e ss = x.changes operand fit (omega (arith, small, ap length new_is)) in
+        let front_size : length y.front ≡ i = y.front_size ∙ number in
+        let kept : StaysFrom (suc i) y.part (inserted y.front (y.new ∷ []) y.back y.part) =
+        subst (λ (j : ℕ). StaysFrom (suc j) y.part (inserted y.front (y.new ∷ []) y.back y.part)) front_size (rows_stay_there.exchanges y.part y.front y.back y.row y.new y.rows_are y.shape) in (
+          record {
+            within = omega (arith, ap length text_is, length-append before (old ++ following), length-append old following);
+            edge = edge;
+            cut = put_document m (inserted y.front (y.new ∷ []) y.back y.part) run.cut;
+            read = ap read_at (sym new_is) ∙ y.read;
+            stays = λ l path f found after.
+                let first : StaysInRows f l path run.cut = run.stays l path f found (after_both k n m i l (length f.front) later after) in
+                let z = rows_stay_there.entries run.cut m (suc i) y.part (inserted y.front (y.new ∷ []) y.back y.part) l path (record f { start = first.start; front = first.front }) y.there kept first.found
+                (sized m (suc i) l (length f.front) (length first.front) (sym first.size) after) in
+                record { start = z.start; front = z.front; found = z.found; size = z.size ∙ first.size };
+          },
+          λ l d placed after.
+              let first : StaysPlaced d l run.cut = others l d placed (after_both k n m i l 0 later after) in
+              let z = rows_stay_there.documents run.cut m (suc i) y.part (inserted y.front (y.new ∷ []) y.back y.part) l (record d { before = first.start }) y.there kept first.found (in_later m i l after) in
+              record { start = z.start; found = z.found },
+        )

@@ -1,6 +1,6 @@
 -- Operations at and below a node: their paths from the root, and the first of them apart.
-use Rattle.std.proofs.Common.{rules, ◌≡◌, ℕ, ◌-◌, ◌<◌, ◌≤◌, List, [], ◌∷◌, ◌++◌, length, map, take, drop, slice_index_or, Some, option_map}
-use Rattle.std.{proofs.Common.{sym, ap, ◌∙◌, subst, arith, string_bytes, take_all}, proofs.Math.Seq.take-append_seam}
+use Rattle.std.proofs.Common.{rules, ◌≡◌, ℕ, ◌-◌, ◌≤◌, List, [], ◌∷◌, ◌++◌, length, map, take, drop, slice_index_or, Some, option_map, sym}
+use Rattle.std.{proofs.Common.{ap, ◌∙◌, subst, arith, string_bytes, take_all}, proofs.Math.Seq.take-append_seam}
 use Rattle.std.proofs.lemmas.List.{length-map, take-map}
 use Rattle.yq_core.{specs.Entries.tree_step, specs.Paths.Step, specs.Values.value_node}
 use Rattle.yq_documents.{specs.Located.steps_of, specs.Reading.{cut_of, read_at}, specs.declared.path.Path.Path}

@@ -1,14 +1,17 @@
 -- Operations that change one row each, one after the other, on the rows as they were read (YAML 1.2.2, 8; own).
-use Rattle.std.specs.Prelude.{◌≡◌, ⊤, ◌⊎◌, ◌&&◌, not, if◌then◌else◌, ℕ, ◌+◌, ◌<◌, ◌≤◌, List, [], ◌∷◌, ◌++◌, length, Option, Some, None}
-use Rattle.std.{specs.Prelude.{true, false, string_bytes}, specs.Str.IsCharBoundary}
+use Rattle.std.specs.Prelude.{◌≡◌, ⊤, ◌⊎◌, ◌&&◌, not, if◌then◌else◌, ℕ, suc, ◌+◌, ◌<◌, ◌≤◌, List, [], ◌∷◌, ◌++◌, length, Option, Some, None}
+use Rattle.std.{specs.Prelude.{true, false, String, string_bytes}, specs.Str.IsCharBoundary, specs.declared.alloc.Global.Global}
 use Rattle.yq_text.{specs.Limit.text_limit, specs.Script.{Segment, keep, new_text, old_text}, specs.Splice.Splice}
-use Rattle.yq_core.{specs.Paths.Step, specs.Text.is_empty, specs.Tree.Node, specs.declared.style.Place.TheVariants.Block as InBlock}
-use Rattle.yq_row_table.specs.Rows.{Cut, cut_text}
+use Rattle.yq_core.{specs.Paths.Step, specs.Text.is_empty, specs.Tree.Node, specs.Values.value_node}
+use Rattle.yq_core.{specs.declared.style.Place.TheVariants.Block as InBlock, specs.declared.value.Value.Value}
+use Rattle.yq_row_table.specs.Rows.{Cut, Row, cut_text}
 use Rattle.yq_documents.{specs.declared.path.Path.Path, specs.LinesInRows.document_row, specs.Located.steps_of}
 use Rattle.yq_documents.specs.Reading.{cut_of, documents, read_at}
-use Rattle.yq_places.{specs.FirstBreak.first_break, specs.Placements.{RowsOfEntry, rows_of_entry}}
-use Rattle.yq_edit_rules.{specs.RowStays.{IsAfter, StaysInRows}, specs.Edits.op_edits, specs.Operands.HasOperand}
-use Rattle.yq_edit_rules.{specs.Replacing.keeps_scalar, specs.RowChanges.{ChangesRow, PutsOne}, specs.WrittenValues.value_text}
+use Rattle.yq_places.{specs.FirstBreak.first_break, specs.NodesAt.node_in, specs.PlacedRows.{PlacedPart, placed_document}}
+use Rattle.yq_places.specs.Placements.{RowsOfEntry, rows_of_entry}
+use Rattle.yq_edit_rules.{specs.RowStays.{IsAfter, StaysInRows, StaysPlaced}, specs.Edits.op_edits, specs.Operands.HasOperand}
+use Rattle.yq_edit_rules.{specs.Replacing.keeps_scalar, specs.RowChanges.{ChangesRow, PutsOne, lone_rows, root_rows}}
+use Rattle.yq_edit_rules.specs.WrittenValues.{value_text}
 use Rattle.yq_semantics.{specs.After.op_document, specs.Fits.Fits, specs.Rooms.room_of}
 use Rattle.yq_semantics.{specs.Operations.{Operation, append, head_comment, line_comment, remove, replace}, specs.declared.op.Op.Op}
 use Rattle.yq_edit_laws.{specs.Carried.carried, specs.Edit.gives, specs.Theorems.IsApplied}
@@ -43,11 +46,63 @@ pub record IsRowsRun (c : Cut) (o : Option (ℕ × ℕ)) (r : PutRun) : Type 0 w
   pub last : IsLast c o document row
   pub run : IsRowRun c document row (string_bytes r.text) r.done
 
+-- documents of which all rows come after so many of document k are in another cut as they were, but for what comes before them (own)
+abbrev pub DocumentsStayFrom : (c cut : Cut) → (k n : ℕ) → Type 0
+DocumentsStayFrom c cut k n = (m : ℕ) (d : PlacedPart) → placed_document m c ≡ Some d → IsAfter k n m 0 → StaysPlaced d m cut
+
+-- a run of the code after which items, entries and whole documents are as they were (own)
+pub record IsPlacesRun (c : Cut) (o : Option (ℕ × ℕ)) (r : PutRun) : Type 0 where
+  pub rows : IsRowsRun c o r
+  pub others : DocumentsStayFrom c rows.run.cut rows.document rows.row
+
+-- ---- rows
+
+-- The rows of an item or entry to which steps lead, or of a node that is alone on its line: a root, or one under an item or entry (8.2, 9.1).
+pub data RowsPlace : Type 0 where
+  of_entry : List Step → RowsOfEntry → RowsPlace
+  of_root : PlacedPart → Row → List Row → RowsPlace
+  of_lone : List Step → RowsOfEntry → Row → List Row → RowsPlace
+
+-- the rows that are there (own)
+abbrev pub place_rows : RowsPlace → RowsOfEntry
+place_rows (of_entry steps e) = e
+place_rows (of_root d r rs) = root_rows d r rs
+place_rows (of_lone steps e r rs) = lone_rows e r rs
+
+-- how many rows of their document come before those that have to be still (own)
+abbrev pub first_at : RowsPlace → ℕ
+first_at (of_entry steps e) = length e.front
+first_at (of_root d r rs) = 0
+first_at (of_lone steps e r rs) = length e.front
+
+-- they are those of document m of a cut (own)
+abbrev pub IsRowsPlace : RowsPlace → ℕ → Cut → Type 0
+IsRowsPlace (of_entry steps e) m c = rows_of_entry m steps c ≡ Some e
+IsRowsPlace (of_root d r rs) m c = (placed_document m c ≡ Some d) × (d.part.rows ≡ r ∷ rs)
+IsRowsPlace (of_lone steps e r rs) m c = (rows_of_entry m steps c ≡ Some e) × (e.under ≡ r ∷ rs)
+
+-- they are so in another cut too, but for what comes before them (own)
+abbrev pub StaysThere : RowsPlace → ℕ → Cut → Type 0
+StaysThere (of_entry steps e) m c = StaysInRows e m steps c
+StaysThere (of_root d r rs) m c = StaysPlaced d m c
+StaysThere (of_lone steps e r rs) m c = StaysInRows e m steps c
+
+-- so many rows come before that of an item or entry, and one more before the row under it, or as many before the first row of a document (own)
+abbrev pub IsLoneRow : ℕ → List Step → Cut → (first row : ℕ) → Type 0
+IsLoneRow n [] c first row = (first ≡ document_row n c) × (row ≡ document_row n c)
+IsLoneRow n (s ∷ ss) c first row = (e : RowsOfEntry) → rows_of_entry n (s ∷ ss) c ≡ Some e → (first ≡ document_row n c + length e.front) × (row ≡ suc first)
+
 -- ---- operations
 
 -- the rows of an item or entry that is still (own)
 abbrev pub rows_still : {m : ℕ} {steps : List Step} {d : Cut} → (e : RowsOfEntry) → StaysInRows e m steps d → RowsOfEntry
 rows_still e s = record e { start = s.start; front = s.front }
+
+-- the rows that are there in another cut (own)
+abbrev pub rows_now : (p : RowsPlace) (m : ℕ) (c : Cut) → StaysThere p m c → RowsOfEntry
+rows_now (of_entry steps e) m c s = record e { start = s.start; front = s.front }
+rows_now (of_root d r rs) m c s = root_rows (record d { before = s.start }) r rs
+rows_now (of_lone steps e r rs) m c s = lone_rows (record e { start = s.start; front = s.front }) r rs
 
 -- where what an operation makes fits, it changes one row (own)
 abbrev pub ChangesIfFit : Operation → Cut → RowsOfEntry → List Segment → Type 0
@@ -77,6 +132,10 @@ abbrev pub IsWrittenSo : Option Node → Node → List ℕ → Option (List ℕ)
 IsWrittenSo old v head None = keeps_scalar old v ≡ true
 IsWrittenSo old v head (Some w) = (keeps_scalar old v ≡ false) × (w ≡ value_text InBlock head v)
 
+-- the same of a value of the code at a path of a text, if a text is written (own)
+abbrev pub IsWrittenThere : Path → Value → (t head : List ℕ) → Option (String Global) → Type 0
+IsWrittenThere p v t head o = IsWrittenSo (node_in p.doc (steps_of p) (cut_of t)) (value_node v) head (bytes_in string_bytes o)
+
 -- the white space that stays before a line comment, in the place of one that is there or of none (own)
 abbrev pub white_left : (text white comment : List ℕ) → List ℕ
 white_left text white comment = if is_empty text && not (is_empty comment) then [] else white
@@ -97,19 +156,19 @@ KeepsBreak op c r = WritesSameBreak op (cut_text c) (now_text c r)
 abbrev pub KeepsBreakAt : Op → Cut → PutRun → Type 0
 KeepsBreakAt op c r = (p : Path) → KeepsBreak (op_at p op) c r
 
--- an operation puts a text, or leaves all bytes alone, wherever the item or entry is still and lines end by the same break (own)
-abbrev pub PutsWhereStill : Operation → List ℕ → RowsOfEntry → List Step → (old after : List ℕ) → Option (List ℕ) → Type 0
-PutsWhereStill op t e steps old after new =
-    (d : Cut) → read_at (cut_text d) ≡ Some d → WritesSameBreak op t (cut_text d) → (s : StaysInRows e (op_document op) steps d) →
-    PutsSo op d (rows_still e s) old after new
+-- an operation puts a text, or leaves all bytes alone, wherever rows are still and lines end by the same break (own)
+abbrev pub PutsWhereStill : Operation → List ℕ → RowsPlace → (old after : List ℕ) → Option (List ℕ) → Type 0
+PutsWhereStill op t p old after new =
+    (d : Cut) → read_at (cut_text d) ≡ Some d → WritesSameBreak op t (cut_text d) → (s : StaysThere p (op_document op) d) →
+    PutsSo op d (rows_now p (op_document op) d s) old after new
 
--- An operation puts a text in a row, or leaves it alone, wherever the item or entry is still (own).
+-- An operation puts a text in a row, or leaves it alone, wherever the rows of that are still (own).
 pub record PutsInRow (op : Operation) (c : Cut) (x : RowPut) : Type 0 where
-  pub steps : List Step
-  pub entry : RowsOfEntry
-  pub found : rows_of_entry (op_document op) steps c ≡ Some entry
+  pub place : RowsPlace
+  pub found : IsRowsPlace place (op_document op) c
   pub document : x.doc ≡ op_document op
-  pub row : x.row ≡ document_row (op_document op) c + length entry.front
+  pub first : x.first ≡ document_row (op_document op) c + first_at place
+  pub row : x.row ≡ document_row (op_document op) c + length (place_rows place).front
   pub valid : HasOperand op
   pub before : List ℕ
   pub old : List ℕ
@@ -119,7 +178,11 @@ pub record PutsInRow (op : Operation) (c : Cut) (x : RowPut) : Type 0 where
   pub finish : x.end ≡ length before + length old
   pub starts : IsCharBoundary (cut_text c) x.start
   pub ends : IsCharBoundary (cut_text c) x.end
-  pub there : PutsWhereStill op (cut_text c) entry steps old after (bytes_in string_bytes x.written)
+  pub there : PutsWhereStill op (cut_text c) place old after (bytes_in string_bytes x.written)
+
+-- a value is put in the row of the node to which a path leads in a text, wherever its rows are still (own)
+abbrev pub PutsValue : Path → Value → (t : List ℕ) → RowPut → Type 0
+PutsValue p v t x = PutsInRow (replace p.doc (steps_of p) (value_node v)) (cut_of t) x
 
 -- a head comment with a text is put above the row to which a path leads in a text, wherever the item or entry is still (own)
 abbrev pub PutsAbove : Path → (text t : List ℕ) → RowPut → Type 0
@@ -131,4 +194,4 @@ pub record RowsGoOn (op : Operation) (c : Cut) (before : PutRun) (last : Option 
   pub comes : carried op (now_text c before) ≡ gives (now_text c after) new_bytes
   pub applied : IsApplied op (now_text c before) (now_text c after) new_bytes
   pub splices : after.splices.items ≡ before.splices.items ++ new_bytes
-  pub run : IsRowsRun c last after
+  pub run : IsPlacesRun c last after

@@ -61,7 +61,7 @@ fn put_one<'d>(
     last: Option<(usize, usize)>,
     run: &mut PutRun,
 ) -> Result<Option<Option<(usize, usize)>>, ExprError>
-    requires run { spec.IsRowsRun (cut_of cut.old) last run.old }
+    requires run { spec.IsPlacesRun (cut_of cut.old) last run.old }
     requires fits { IsFitting (op_meant at) (now_text (cut_of cut.old) run.old) }
     requires operand { HasOperand (op_meant at) }
     ensures same { cut.new ≡ cut.old }
@@ -79,12 +79,13 @@ fn put_one<'d>(
     };
     let RowPut {
         doc,
+        first,
         row,
         start,
         end,
         written,
     } = found;
-    if !comes_later(last, doc, row) || start < run.done {
+    if !comes_later(last, doc, first) || start < run.done {
         return Ok(None);
     }
     let Some(written) = written else {

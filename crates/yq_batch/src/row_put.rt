@@ -1,24 +1,24 @@
 //! What an operation that changes one row puts there.
-ghost use Rattle.std.specs.Prelude.{◌≡◌, ◌+◌, ◌≤◌, length, true, IfOk, IfSome, string_bytes};
+ghost use Rattle.std.specs.Prelude.{◌≡◌, ◌+◌, ◌≤◌, length, true, IfOk, IfSome};
 ghost use Rattle.yq_text.specs.Limit.{text_limit};
 ghost use Rattle.yq_core.specs.Values.{value_node};
 ghost use Rattle.yq_documents.{specs.Located.steps_of, specs.Reading.cut_of};
 ghost use Rattle.yq_lookup.specs.PathLines.{IsLineOf};
-ghost use Rattle.yq_places.{specs.NodesAt.node_in, specs.PlacementViews.IsHeldRow};
+ghost use Rattle.yq_places.{specs.PlacementViews.{IsHeldRow, piece_view}, specs.Placements.alone};
 ghost use Rattle.yq_semantics.specs.Operations.{head_comment, line_comment, replace};
 ghost use Rattle.yq_edit_rules.specs.Operands.{HasOperand};
-ghost use Rattle.yq_batch.specs.Under.{op_meant};
+ghost use Rattle.yq_batch.{specs.RowEnds.IsPlacedSo, specs.Under.op_meant};
 ghost use Rattle.yq_batch.specs.RowRuns as spec;
 
 use crate::under::OpAt;
 use std::alloc::{AllocError, Global};
-use yq_block_edits::{comment_written, head_comment_written, is_kept_in_row};
+use yq_block_edits::{comment_written, head_comment_written, is_kept, is_kept_in_row};
 use yq_core::{Place, Value};
 use yq_documents::Path;
 use yq_edit_rules::{is_filled, value_text};
 use yq_lookup::CutText;
 use yq_outline::Position;
-use yq_places::{HeldRow, is_text, line_end};
+use yq_places::{HeldRow, Placement, TextPiece, is_text, line_end};
 use yq_semantics::Op;
 use yq_text::Halves;
 
@@ -27,6 +27,8 @@ use yq_text::Halves;
 pub(crate) struct RowPut {
     /// The row's document.
     pub(crate) doc: usize,
+    /// How many rows come before that of the item or entry of which it is one.
+    pub(crate) first: usize,
     /// How many rows come before it.
     pub(crate) row: usize,
     pub(crate) start: usize,
@@ -46,14 +48,32 @@ pub(crate) fn value_written(
 ) -> Result<Option<String>, AllocError>
     requires row { IsHeldRow path.now.doc (steps_of path.now) (cut_of cut.now) at.now }
     requires inline { at.now.inline ≡ true }
-    ensures { IfOk result (λ o. spec.IsWrittenSo (node_in path.now.doc (steps_of path.now)
-        (cut_of cut.now)) (value_node value.now) at.now.head.now (spec.bytes_in string_bytes o)) }
+    ensures { IfOk result (spec.IsWrittenThere path.now value.now cut.now at.now.head.now) }
 {
     let stays = is_kept_in_row(alloc, cut, path, at, value)?;
     if stays {
         return Ok(None);
     }
     let written = value_text(alloc, Place::Block, at.head.as_bytes(), value)?;
+    Ok(Some(written))
+}
+
+/// What is written for a value in the place of a node that is alone on its line; nothing, where it is the scalar that is
+/// there.
+fn lone_written(
+    alloc: Global,
+    cut: &CutText<'_, '_>,
+    path: &Path,
+    head: &str,
+    value: &Value,
+) -> Result<Option<String>, AllocError>
+    ensures { IfOk result (spec.IsWrittenThere path.now value.now cut.now head.now) }
+{
+    let stays = is_kept(alloc, cut, path, value)?;
+    if stays {
+        return Ok(None);
+    }
+    let written = value_text(alloc, Place::Block, head.as_bytes(), value)?;
     Ok(Some(written))
 }
 
@@ -68,8 +88,7 @@ fn value_in_row(
     requires operand { HasOperand (replace path.now.doc (steps_of path.now)
         (value_node value.now)) }
     requires row { IsHeldRow path.now.doc (steps_of path.now) (cut_of cut.now) at.now }
-    ensures { IfOk result (λ o. IfSome o (spec.PutsInRow
-        (replace path.now.doc (steps_of path.now) (value_node value.now)) (cut_of cut.now))) }
+    ensures { IfOk result (λ o. IfSome o (spec.PutsValue path.now value.now cut.now)) }
 {
     if !at.inline || is_filled(value) {
         return Ok(None);
@@ -78,11 +97,93 @@ fn value_in_row(
     let written = value_written(alloc, cut, path, at, value)?;
     Ok(Some(RowPut {
         doc: path.doc,
+        first: at.row,
         row: at.row,
         start: at.start,
         end: at.start + at.head.len(),
         written,
     }))
+}
+
+/// How many rows come before that of an item or entry, and before the row under it; of a root's row, both times that.
+fn lone_row(cut: &CutText<'_, '_>, path: &Path) -> Option<(usize, usize)>
+    ensures { IfSome result (λ x. spec.IsLoneRow path.now.doc (steps_of path.now) (cut_of cut.now) x.0 x.1) }
+{
+    if path.steps.is_empty() {
+        let walk = cut.walk(path.doc)?;
+        let first = walk.document.first;
+        return Some((first, first));
+    }
+    let line = cut.row_line(path)?;
+    let under = line.row.checked_add(1)?;
+    Some((line.row, under))
+}
+
+/// A value on one line in the place of a node that is alone on its line.
+fn value_in_piece(
+    alloc: Global,
+    cut: &CutText<'_, '_>,
+    path: &Path,
+    lone: &TextPiece<'_>,
+    value: &Value,
+) -> Result<Option<RowPut>, AllocError>
+    requires operand { HasOperand (replace path.now.doc (steps_of path.now)
+        (value_node value.now)) }
+    requires place { IsPlacedSo path.now cut.now (alone (piece_view lone.now)) }
+    ensures { IfOk result (λ o. IfSome o (spec.PutsValue path.now value.now cut.now)) }
+{
+    let Some((first, row)) = lone_row(cut, path) else {
+        return Ok(None);
+    };
+    let _text = cut.text();
+    let run = Halves::of(lone.text);
+    is_text(run);
+    is_text(lone.after);
+    let written = lone_written(alloc, cut, path, lone.text, value)?;
+    let start = lone.before.len();
+    Ok(Some(RowPut {
+        doc: path.doc,
+        first,
+        row,
+        start,
+        end: start + lone.text.len(),
+        written,
+    }))
+}
+
+/// The same, if a node is there that is alone on its line.
+fn value_alone(
+    alloc: Global,
+    cut: &CutText<'_, '_>,
+    path: &Path,
+    value: &Value,
+) -> Result<Option<RowPut>, AllocError>
+    requires { HasOperand (replace path.now.doc (steps_of path.now) (value_node value.now)) }
+    ensures { IfOk result (λ o. IfSome o (spec.PutsValue path.now value.now cut.now)) }
+{
+    match cut.placement(path) {
+        Some(Placement::Alone(lone)) => value_in_piece(alloc, cut, path, &lone, value),
+        _ => Ok(None),
+    }
+}
+
+/// A value in the place of an inline node after a key or dash, or alone under that.
+fn value_there(
+    alloc: Global,
+    cut: &CutText<'_, '_>,
+    path: &Path,
+    at: &HeldRow<'_>,
+    value: &Value,
+) -> Result<Option<RowPut>, AllocError>
+    requires operand { HasOperand (replace path.now.doc (steps_of path.now)
+        (value_node value.now)) }
+    requires row { IsHeldRow path.now.doc (steps_of path.now) (cut_of cut.now) at.now }
+    ensures { IfOk result (λ o. IfSome o (spec.PutsValue path.now value.now cut.now)) }
+{
+    if at.head.is_empty() {
+        return value_alone(alloc, cut, path, value);
+    }
+    value_in_row(alloc, cut, path, at, value)
 }
 
 /// Where what is replaced by a line comment begins and ends, after so many bytes, by the white space and the
@@ -120,6 +221,7 @@ fn comment_in_row(
     let written = comment_written(alloc, text, comment)?;
     Ok(Some(RowPut {
         doc: path.doc,
+        first: at.row,
         row: at.row,
         start,
         end,
@@ -153,6 +255,7 @@ fn comment_above_row(
     let written = head_comment_written(alloc, cut, column, text)?;
     Ok(Some(RowPut {
         doc: path.doc,
+        first: at.row,
         row: at.row,
         start,
         end: start + above.text.len(),
@@ -175,8 +278,8 @@ pub(crate) fn row_put<'d>(
     let path = at.path;
     match at.op {
         Op::Replace(_, value) => match cut.to_held_row(alloc, path) {
-            Some(row) => value_in_row(alloc, cut, path, &row, value),
-            None => Ok(None),
+            Some(row) => value_there(alloc, cut, path, &row, value),
+            None => value_alone(alloc, cut, path, value),
         },
         Op::LineComment(_, text) => match cut.to_held_row(alloc, path) {
             Some(row) => comment_in_row(alloc, cut, path, &row, text),

@@ -71,6 +71,7 @@ pub mod LoneHeads
 pub mod LoneContents
 pub mod LoneCarried
 pub mod LoneRows
+pub mod EntryNodeLaws
 pub mod MarkedValueLaws
 pub mod HeldRows
 pub mod DashNodes

@@ -1,6 +1,6 @@
 -- A value in the place of a node alone on its line.
-use Rattle.std.proofs.Common.{◌≡◌, ◌⊎◌, inl, inr, ℕ, ◌≤◌, cond, List, [], ◌∷◌, ◌++◌, length, replicate, Some, refl, sym, ap, ◌∙◌, subst}
-use Rattle.std.proofs.Common.{append_assoc, append-nil, arith, length-append, rules}
+use Rattle.std.proofs.Common.{◌≡◌, ◌⊎◌, inl, inr, is_some, ℕ, ◌≤◌, cond, List, [], ◌∷◌, ◌++◌, length, replicate, Some, refl, sym, ap, ◌∙◌}
+use Rattle.std.proofs.Common.{subst, append_assoc, append-nil, arith, length-append, rules}
 use Rattle.yq_text.{specs.Limit.text_limit, specs.Script.{Segment, new_text, old_text}}
 use Rattle.yq_core.{specs.Paths.{Step, changed_at}, specs.Tree.Node, specs.declared.style.Place.TheVariants.Block as InBlock}
 use Rattle.yq_core.{specs.Nodes.node_text, proofs.NodesWrittenLaws.node_then}
@@ -9,22 +9,24 @@ use Rattle.yq_row_table.{specs.Exchange.{asked_after, row_front, with_content}, 
 use Rattle.yq_row_table.specs.Rows.{Bare, Row, following_gap, parent_indent, print_row, rows_text, Cut, cut_text, Part, part_text}
 use Rattle.yq_row_table.{specs.View.slices, proofs.CharacterLaws.ends_after, proofs.NodePieces.following_ends}
 use Rattle.yq_row_table.proofs.seams.SeamLaws.{rows_text-append}
+use Rattle.yq_outline.specs.Lines.{head_of}
 use Rattle.yq_documents.{specs.Documents.lead_of, specs.Reading.{documents, read_at, root_of}, specs.TreeEdits.replaced_node}
 use Rattle.yq_documents.specs.Pieces.{TextPiece}
 use Rattle.yq_places.{specs.PlacedRows.{PlacedPart, PlacedRow, placed_document}, specs.Placements.lone}
 use Rattle.yq_places.{proofs.CommentEndLaws.row_text_parts, proofs.CommentPieceLaws.gap_end, proofs.LineEndLaws.line_tail}
 use Rattle.yq_places.{proofs.RemovalLines.{LiesIn, LineSeam, lies_in, seam_join}, proofs.RunSpans.rows_then}
 use Rattle.yq_edit_rules.{specs.DocumentRows.{IsDocumentPart, after_document}, specs.InlineRows.LeadsToLone, specs.PlacedParts.IsDocumentAt}
-use Rattle.yq_edit_rules.{specs.Rooms.is_block_root, specs.TextPieces.IsPiece, proofs.CoreLaws.put_core, proofs.InlineReplaceLaws.own_rows}
-use Rattle.yq_edit_rules.{proofs.LeadLaws.same_lead_goes, proofs.PartLaws.document_known, proofs.PlacedPartLaws.document_is_there_at}
-use Rattle.yq_edit_rules.proofs.RemovalPieceLaws.{seam_pieces, spaces_piece}
+use Rattle.yq_edit_rules.{specs.Appends.inserted, specs.Changed.put_document, specs.Rooms.{is_block_root, row_shape}}
+use Rattle.yq_edit_rules.{proofs.ValueContentLaws.content_head, specs.TextPieces.IsPiece, proofs.CoreLaws.put_core}
+use Rattle.yq_edit_rules.{proofs.InlineReplaceLaws.own_rows, proofs.LeadLaws.same_lead_goes, proofs.PartLaws.document_known}
+use Rattle.yq_edit_rules.{proofs.PlacedPartLaws.document_is_there_at, proofs.RemovalPieceLaws.{seam_pieces, spaces_piece}}
 use Rattle.yq_edit_rules.{proofs.TextPieceLaws.{cut_after, pieces_joined, text_is_piece}, specs.EditLaws.{CarriedOut, IsEdit}}
 use Rattle.yq_edit_rules.{specs.ReplaceEdits.{spaced_text, lone_put}, specs.WrittenValues.value_text}
 use Rattle.yq_edit_rules.{proofs.EditsFitLaws.{FitsReplace, fits_replace}, proofs.KeptLaws.led_same}
 use Rattle.yq_edit_rules.{proofs.TailPieces.{HasTailPieces, pieces}, proofs.ValueTexts.{IsWrittenFor, value_for}}
 use Rattle.yq_semantics.{specs.Fits.Fits, specs.Operations.{Operation, replace}, specs.Rooms.room_of}
 use Rattle.yq_edit_laws.{proofs.LoneHeads.{EndsLow, IsLoneHead, before_head, lone_head}, proofs.MarkHeads.no_raw}
-use Rattle.yq_edit_laws.proofs.OneRows.{PutsRow, RowIn, row_carried}
+use Rattle.yq_edit_laws.{proofs.HeldRows.head_there, proofs.OneRows.{MakesRow, PutsRow, RowIn, row_carried, row_made}}
 use Rattle.yq_edit_laws.proofs.LoneContents as contents
 
 -- A row that is alone on its line, among the rows of a document, to whose content steps lead; the rows before it end in an LF.
@@ -55,7 +57,8 @@ module _ (n : ℕ) (steps : List Step) (v : Node) (c : Cut) (read : read_at (cut
   row : IsRow (asked_after unlimited front) r z
   row = subst (λ u. IsRow (asked_after unlimited front) r (rows_text back (d.part.end ++ u))) is_located.after (own_rows (cut_text c) c n d.part front r back old rows_are).0
 
-  place : IsLoneHead r.content
+  -- a head is there
+  pub place : IsLoneHead r.content
   place = lone_head (parent_indent r) r.content z row.content (subst (λ m. IsMark m r.content z) mark row.mark)
 
   raw : (slices r).raw ≡ []
@@ -128,30 +131,63 @@ module _ (n : ℕ) (steps : List Step) (v : Node) (c : Cut) (read : read_at (cut
   abbrev here : RowIn n c
   here = record { part = d.part; old = old; start = d.before; put = λ x. is_located.put x ∙ ap (λ u. d.before ++ part_text x u) (sym is_located.after); front = front; row = r; back = back; rows_are = rows_are }
 
-  carried : IsValueTree v → Fits (room_of (cut_text c)) (replace n steps v) (documents c) → length (new_text us) ≤ text_limit → CarriedOut (replace n steps v) c us
-  carried tree fits =
-      let p : Part = d.part in
-      let op : Operation = replace n steps v in
-      let f : FitsReplace n steps v c p = fits_replace n steps v c p is_located.there tree fits in
-      let x : IsWrittenFor v t = value_for (slices r).head v tree f.deep f.long in
-      let new : Row = with_content (put_core x.node r.content) r in
-      let q : Part = contents.q c n p old front r back rows_are mark no_dashes steps leads v x.node x.is in
-      let spelled : node_text x.node ((slices r).tail ++ rows_text back (p.end ++ after_document n c)) ≡ t ++ w.after = search (rules, node_then, x, p) in
-      let block : is_block_root q ≡ is_block_root p = contents.same_block c n p old front r back rows_are mark no_dashes steps leads v x.node x.is in
-      let puts : PutsRow op c here new us = record {
-        old = old_is;
-        text = new_is ∙ sym (contents.text c n p old front r back rows_are mark no_dashes steps leads v x.node x.is d.before here.put ∙ ap (λ u. w.before ++ u) spelled);
-        puts = refl;
-        front = omega (arith, length-append w.before [], length-append base (row_front r ++ before_head r.content));
-        after = omega (arith, ap (λ u. length (rows_text back (d.part.end ++ u))) is_located.after, length-append w.after [], length-append (slices r).tail z);
-        pieces = (before_piece, (subst IsPiece (sym some_head) x.piece, (after_piece, tt)));
-      } in
-      row_carried op c here new us puts (changed_at steps (replaced_node v)) (record {
-        lead = lead_of p;
-        changed = λ readable. contents.lone_changed c n p old front r back rows_are mark no_dashes steps leads v x.node x.is readable f.node f.there f.may;
-        root = ap (λ m. changed_at steps (replaced_node m) (root_of p)) (sym (led_same (is_block_root p) (lead_of p) steps v (contents.rooted c n p old front r back rows_are mark no_dashes steps leads v x.node x.is)));
-        keeps = record { block = block; lead = same_lead_goes p q (contents.same_lead c n p old front r back rows_are mark no_dashes steps leads v x.node x.is) block; room = λ sets. absurd sets };
-      })
+  module _ (tree : IsValueTree v) (fits : Fits (room_of (cut_text c)) (replace n steps v) (documents c)) where
+    abbrev p : Part
+    p = d.part
+
+    abbrev op : Operation
+    op = replace n steps v
+
+    f : FitsReplace n steps v c p
+    f = fits_replace n steps v c p is_located.there tree fits
+
+    -- its node is written so
+    pub x : IsWrittenFor v t
+    x = value_for (slices r).head v tree f.deep f.long
+
+    -- the row with the value's node
+    abbrev pub new : Row
+    new = with_content (put_core x.node r.content) r
+
+    abbrev q : Part
+    q = contents.q c n p old front r back rows_are mark no_dashes steps leads v x.node x.is
+
+    spelled : node_text x.node ((slices r).tail ++ rows_text back (p.end ++ after_document n c)) ≡ t ++ w.after
+    spelled = search (rules, node_then, x, p)
+
+    block : is_block_root q ≡ is_block_root p
+    block = contents.same_block c n p old front r back rows_are mark no_dashes steps leads v x.node x.is
+
+    puts : PutsRow op c here new us
+    puts = record {
+      old = old_is;
+      text = new_is ∙ sym (contents.text c n p old front r back rows_are mark no_dashes steps leads v x.node x.is d.before here.put ∙ ap (λ u. w.before ++ u) spelled);
+      puts = refl;
+      front = omega (arith, length-append w.before [], length-append base (row_front r ++ before_head r.content));
+      after = omega (arith, ap (λ u. length (rows_text back (d.part.end ++ u))) is_located.after, length-append w.after [], length-append (slices r).tail z);
+      pieces = (before_piece, (subst IsPiece (sym some_head) x.piece, (after_piece, tt)));
+    }
+
+    makes : MakesRow op c here new (changed_at steps (replaced_node v))
+    makes = record {
+      lead = lead_of p;
+      changed = λ readable. contents.lone_changed c n p old front r back rows_are mark no_dashes steps leads v x.node x.is readable f.node f.there f.may;
+      root = ap (λ m. changed_at steps (replaced_node m) (root_of p)) (sym (led_same (is_block_root p) (lead_of p) steps v (contents.rooted c n p old front r back rows_are mark no_dashes steps leads v x.node x.is)));
+      keeps = record { block = block; lead = same_lead_goes p q (contents.same_lead c n p old front r back rows_are mark no_dashes steps leads v x.node x.is) block; room = λ sets. absurd sets };
+    }
+
+    carried : length (new_text us) ≤ text_limit → CarriedOut (replace n steps v) c us
+    carried = row_carried op c here new us puts (changed_at steps (replaced_node v)) makes
+
+    -- its cut, with the row of the same shape
+    pub lone_made : length (new_text us) ≤ text_limit → read_at (new_text us) ≡ Some (put_document n (inserted front (new ∷ []) back d.part) c)
+    lone_made = row_made op c here new us puts (changed_at steps (replaced_node v)) makes
+
+    pub lone_shape : row_shape new ≡ row_shape r
+    lone_shape =
+        let headed : is_some (head_of new.content) ≡ is_some (head_of r.content) =
+        ap is_some (content_head v x.node x.is r.content place.block) ∙ sym (head_there (parent_indent r) r.content z row.content place.some) in
+        λ j. record { column = r.column; dashes = r.dashes; mark = r.mark; headed = headed j }
 
   pub lone_carried : IsEdit (replace n steps v) c us
   lone_carried = record { old = old_is; carried = carried }

@@ -1,7 +1,7 @@
 -- Rows that are alone on their lines: under a key or dash, and as roots.
-use Rattle.std.proofs.Common.{option_map, append-nil, ◌≡◌, inl, inr, ℕ, true, List, [], ◌∷◌, ◌++◌, length, Option, Some, None, refl, sym}
-use Rattle.std.{proofs.Common.{ap, ◌∙◌, subst, arith, append_assoc, length-append, rules}, proofs.lemmas.Bool.{and_parts, false≢true}}
-use Rattle.std.proofs.lemmas.Option.{same_Some}
+use Rattle.std.proofs.Common.{option_map, append-nil, ◌≡◌, inl, inr, ℕ, ◌≤◌, true, false, List, [], ◌∷◌, ◌++◌, length, Option, Some, None}
+use Rattle.std.proofs.Common.{refl, sym, ap, ◌∙◌, subst, arith, append_assoc, length-append, rules}
+use Rattle.std.{proofs.lemmas.Bool.{and_parts, false≢true}, proofs.lemmas.Option.same_Some}
 use Rattle.yq_core.{specs.Answers.◌>>=◌, specs.Paths.Step, specs.Text.is_empty, specs.Tree.Node, proofs.Bools.bind_some}
 use Rattle.yq_core.proofs.LineLaws.{is_empty_is}
 use Rattle.yq_outline.{specs.Comments.head_comment, specs.Group.level_or, specs.Outline.{Line, Outline, end, row, flatten, IsEven, IsOpen}}
@@ -9,7 +9,8 @@ use Rattle.yq_outline.{specs.Places.find, specs.Positions.has_no_mark, proofs.De
 use Rattle.yq_outline.{specs.Lines.{lines_from, lines_of_rows, mark_line, line_mark, row_lines}, proofs.Plug.headless}
 use Rattle.yq_row_table.{specs.Grammar.{AreRows, unlimited}, specs.Rows.{Row, rows_text, print_row, Part, Cut, cut_text}}
 use Rattle.yq_row_table.proofs.seams.SeamLaws.{rows_text-append}
-use Rattle.yq_documents.{specs.Reading.{part_outline, read_at}, specs.LinesInRows.{RowLine, row_line_of}}
+use Rattle.yq_text.{specs.Limit.text_limit, specs.Script.new_text}
+use Rattle.yq_documents.{specs.Pieces.TextPiece, specs.Reading.{documents, part_outline, read_at}, specs.LinesInRows.{RowLine, row_line_of}}
 use Rattle.yq_places.specs.PlacedRows.{PlacedPart, placed_document}
 use Rattle.yq_places.specs.Placements.{RowsOfEntry, before_entry, after_entry, entry_rows_at, is_alone, lone, rows_of_entry}
 use Rattle.yq_places.{proofs.CommentPieceLaws.Ended, proofs.PrintedTexts.map_some, proofs.RemovalLines.LineSeam, proofs.RunSpans.rows_then}
@@ -18,9 +19,10 @@ use Rattle.yq_edit_rules.{specs.DocumentRows.{IsDocumentPart, after_document}, s
 use Rattle.yq_edit_rules.{specs.PlacedParts.IsDocumentAt, specs.PlacementLaws.HasItsRows, proofs.EndedRowLaws.rows_ended}
 use Rattle.yq_edit_rules.{proofs.LineLaws.row_count, proofs.NodeLineLaws.under_even, proofs.PartLaws.{document_known, part_rows}}
 use Rattle.yq_edit_rules.{proofs.PlacedPartLaws.document_is_there_at, proofs.PlacementRows.rows_located, proofs.UnderLaws.under_is}
-use Rattle.yq_edit_rules.{specs.EditLaws.IsEdit, specs.ReplaceEdits.lone_put, proofs.PlacementMarks.under_it}
-use Rattle.yq_semantics.specs.Operations.{replace}
-use Rattle.yq_edit_laws.proofs.LoneCarried.{lone_carried}
+use Rattle.yq_edit_rules.{specs.EditLaws.IsEdit, specs.ReplaceEdits.lone_put, proofs.PlacementMarks.under_it, specs.Operands.HasOperand}
+use Rattle.yq_edit_rules.specs.RowChanges.{ChangesRow, lone_rows, root_rows}
+use Rattle.yq_semantics.{specs.Fits.Fits, specs.Operations.replace, specs.Rooms.room_of}
+use Rattle.yq_edit_laws.proofs.LoneCarried.{lone_carried, lone_made, lone_shape, new, place}
 use Rattle.yq_outline.specs.Outline as outline
 use Rattle.yq_row_table.specs.Rows as rows
 
@@ -42,6 +44,12 @@ alone_line r h = let p = alone_row r h in go r.dashes r.mark p.1 p.0
 one_line : (m : ℕ) (o : Outline) (l : Line) (ls : List Line) → IsEven m o → l ∷ ls ≡ flatten o → l.mark ≡ outline.Bare → length (flatten o) ≡ 1
 one_line m end l ls even e bare = absurd (let no : l ∷ ls ≡ [] = e in cc)
 one_line m (row x u a) l ls even e bare = search (rules, false≢true)
+
+-- What a value does in the place of a node that is alone on its line: it is an edit, which changes one row, and leaves the shape of that (own).
+pub record PutsLone (n : ℕ) (steps : List Step) (v : Node) (c : Cut) (e : RowsOfEntry) (w : TextPiece) : Type 0 where
+  pub edit : IsEdit (replace n steps v) c (lone_put w v)
+  pub some : is_empty w.text ≡ false
+  pub changes : HasOperand (replace n steps v) → Fits (room_of (cut_text c)) (replace n steps v) (documents c) → length (new_text (lone_put w v)) ≤ text_limit → ChangesRow n c e (lone_put w v)
 
 -- ---- under a key or dash
 
@@ -115,34 +123,74 @@ module _ (n : ℕ) (s : Step) (ss : List Step) (v : Node) (c : Cut) (read : read
   following_is : rows_text (rs ++ e.back) (d.part.end ++ d.after) ≡ rows_text rs (after_entry e)
   following_is = rows_text-append rs e.back (d.part.end ++ d.after)
 
-  edit_there : IsEdit (replace n (s ∷ ss) v) c (lone_put (lone (before_entry e ++ print_row e.row []) r (rows_text rs (after_entry e))) v)
-  edit_there =
-      subst (λ (b : List ℕ). IsEdit (replace n (s ∷ ss) v) c (lone_put (lone b r (rows_text rs (after_entry e))) v)) before_is
-      (subst (λ (z : List ℕ). IsEdit (replace n (s ∷ ss) v) c (lone_put (lone (d.before ++ rows_text front []) r z) v)) following_is
-      (lone_carried n (s ∷ ss) v c read d placed front r (rs ++ e.back) rows_are (alone_row r alone).0 (alone_row r alone).1 leads ended))
+  puts_raw : PutsLone n (s ∷ ss) v c (lone_rows e r rs) (lone (d.before ++ rows_text front []) r (rows_text (rs ++ e.back) (d.part.end ++ d.after)))
+  puts_raw = record {
+    edit = lone_carried n (s ∷ ss) v c read d placed front r (rs ++ e.back) rows_are (alone_row r alone).0 (alone_row r alone).1 leads ended;
+    some = (place n (s ∷ ss) v c read d placed front r (rs ++ e.back) rows_are (alone_row r alone).0 (alone_row r alone).1 leads ended).some;
+    changes = λ operand fits size. record {
+      part = d.part;
+      there = is_located.there;
+      front = front;
+      row = r;
+      new = new n (s ∷ ss) v c read d placed front r (rs ++ e.back) rows_are (alone_row r alone).0 (alone_row r alone).1 leads ended operand fits;
+      back = rs ++ e.back;
+      rows_are = rows_are;
+      front_size = refl;
+      shape = lone_shape n (s ∷ ss) v c read d placed front r (rs ++ e.back) rows_are (alone_row r alone).0 (alone_row r alone).1 leads ended operand fits;
+      read = lone_made n (s ∷ ss) v c read d placed front r (rs ++ e.back) rows_are (alone_row r alone).0 (alone_row r alone).1 leads ended operand fits size;
+    };
+  }
+
+  puts_there : PutsLone n (s ∷ ss) v c (lone_rows e r rs) (lone (before_entry e ++ print_row e.row []) r (rows_text rs (after_entry e)))
+  puts_there =
+      subst (λ (b : List ℕ). PutsLone n (s ∷ ss) v c (lone_rows e r rs) (lone b r (rows_text rs (after_entry e)))) before_is
+      (subst (λ (z : List ℕ). PutsLone n (s ∷ ss) v c (lone_rows e r rs) (lone (d.before ++ rows_text front []) r z)) following_is puts_raw)
+
+pub lone_puts_under : (n : ℕ) (s : Step) (ss : List Step) (v : Node) (c : Cut) (e : RowsOfEntry) (r : Row) (rs : List Row) → read_at (cut_text c) ≡ Some c → rows_of_entry n (s ∷ ss) c ≡ Some e → e.line ≡ length e.row.dashes →
+    e.under ≡ r ∷ rs → is_alone r ≡ true → PutsLone n (s ∷ ss) v c (lone_rows e r rs) (lone (before_entry e ++ print_row e.row []) r (rows_text rs (after_entry e)))
+lone_puts_under n s ss v c e r rs read at last under alone =
+    let d = bind_some (placed_document n c) at in
+    let x = map_some (row_line_of (s ∷ ss) d.0.part.rows) d.2 in
+    subst (λ (y : RowsOfEntry). y.line ≡ length y.row.dashes → y.under ≡ r ∷ rs → PutsLone n (s ∷ ss) v c (lone_rows y r rs) (lone (before_entry y ++ print_row y.row []) r (rows_text rs (after_entry y)))) x.2
+    (λ own below. puts_there n s ss v c read d.0 d.1 x.0 x.1 r rs own below alone) last under
 
 pub lone_edit : (n : ℕ) (s : Step) (ss : List Step) (v : Node) (c : Cut) (e : RowsOfEntry) (r : Row) (rs : List Row) → read_at (cut_text c) ≡ Some c → rows_of_entry n (s ∷ ss) c ≡ Some e → e.line ≡ length e.row.dashes →
     e.under ≡ r ∷ rs → is_alone r ≡ true → IsEdit (replace n (s ∷ ss) v) c (lone_put (lone (before_entry e ++ print_row e.row []) r (rows_text rs (after_entry e))) v)
-lone_edit n s ss v c e r rs read at last under alone =
-    let d = bind_some (placed_document n c) at in
-    let x = map_some (row_line_of (s ∷ ss) d.0.part.rows) d.2 in
-    subst (λ (y : RowsOfEntry). y.line ≡ length y.row.dashes → y.under ≡ r ∷ rs → IsEdit (replace n (s ∷ ss) v) c (lone_put (lone (before_entry y ++ print_row y.row []) r (rows_text rs (after_entry y))) v)) x.2
-    (λ own below. edit_there n s ss v c read d.0 d.1 x.0 x.1 r rs own below alone) last under
+lone_edit n s ss v c e r rs read at last under alone = (lone_puts_under n s ss v c e r rs read at last under alone).edit
 
 -- ---- a root
 
-pub lone_root_edit : (n : ℕ) (v : Node) (c : Cut) (d : PlacedPart) (r : Row) (rs : List Row) → read_at (cut_text c) ≡ Some c → placed_document n c ≡ Some d → d.part.rows ≡ r ∷ rs → is_alone r ≡ true →
-    IsEdit (replace n [] v) c (lone_put (lone d.before r (rows_text rs (d.part.end ++ d.after))) v)
-lone_root_edit n v c d r rs read placed are alone =
-    subst (λ (b : List ℕ). IsEdit (replace n [] v) c (lone_put (lone b r (rows_text rs (d.part.end ++ d.after))) v)) (append-nil d.before)
-    (lone_carried n [] v c read d placed [] r rs are (alone_row r alone).0 (alone_row r alone).1 root (inl refl))
-  where
-    old : IsDocumentPart (cut_text c) c n d.part
-    old = record { read = read; there = (document_is_there_at c n d placed).there }
+module _ (n : ℕ) (v : Node) (c : Cut) (d : PlacedPart) (r : Row) (rs : List Row) (read : read_at (cut_text c) ≡ Some c) (placed : placed_document n c ≡ Some d) (are : d.part.rows ≡ r ∷ rs) (alone : is_alone r ≡ true) where
+  root_old : IsDocumentPart (cut_text c) c n d.part
+  root_old = record { read = read; there = (document_is_there_at c n d placed).there }
 
-    root : IsRootRow d.part r
-    root =
-        let l = alone_line r alone in
-        let lines : lines_of_rows d.part.rows ≡ l.0 ∷ lines_of_rows rs = ap lines_of_rows are ∙ ap (λ (ls : List Line). ls ++ lines_of_rows rs) l.1 in
-        let flat : flatten (part_outline d.part) ≡ lines_of_rows d.part.rows = flatten-group (lines_of_rows d.part.rows) in
-        record { count = sym (ap length flat) ∙ one_line _ (part_outline d.part) l.0 (lines_of_rows rs) (document_known (cut_text c) c n d.part old).even (sym lines ∙ sym flat) l.2; mark = (alone_row r alone).0 }
+  root : IsRootRow d.part r
+  root =
+      let l = alone_line r alone in
+      let lines : lines_of_rows d.part.rows ≡ l.0 ∷ lines_of_rows rs = ap lines_of_rows are ∙ ap (λ (ls : List Line). ls ++ lines_of_rows rs) l.1 in
+      let flat : flatten (part_outline d.part) ≡ lines_of_rows d.part.rows = flatten-group (lines_of_rows d.part.rows) in
+      record { count = sym (ap length flat) ∙ one_line _ (part_outline d.part) l.0 (lines_of_rows rs) (document_known (cut_text c) c n d.part root_old).even (sym lines ∙ sym flat) l.2; mark = (alone_row r alone).0 }
+
+  root_raw : PutsLone n [] v c (root_rows d r rs) (lone (d.before ++ []) r (rows_text rs (d.part.end ++ d.after)))
+  root_raw = record {
+    edit = lone_carried n [] v c read d placed [] r rs are (alone_row r alone).0 (alone_row r alone).1 root (inl refl);
+    some = (place n [] v c read d placed [] r rs are (alone_row r alone).0 (alone_row r alone).1 root (inl refl)).some;
+    changes = λ operand fits size. record {
+      part = d.part;
+      there = root_old.there;
+      front = [];
+      row = r;
+      new = new n [] v c read d placed [] r rs are (alone_row r alone).0 (alone_row r alone).1 root (inl refl) operand fits;
+      back = rs;
+      rows_are = are;
+      front_size = refl;
+      shape = lone_shape n [] v c read d placed [] r rs are (alone_row r alone).0 (alone_row r alone).1 root (inl refl) operand fits;
+      read = lone_made n [] v c read d placed [] r rs are (alone_row r alone).0 (alone_row r alone).1 root (inl refl) operand fits size;
+    };
+  }
+
+  pub lone_puts_root : PutsLone n [] v c (root_rows d r rs) (lone d.before r (rows_text rs (d.part.end ++ d.after)))
+  lone_puts_root = subst (λ (b : List ℕ). PutsLone n [] v c (root_rows d r rs) (lone b r (rows_text rs (d.part.end ++ d.after)))) (append-nil d.before) root_raw
+
+  pub lone_root_edit : IsEdit (replace n [] v) c (lone_put (lone d.before r (rows_text rs (d.part.end ++ d.after))) v)
+  lone_root_edit = lone_puts_root.edit

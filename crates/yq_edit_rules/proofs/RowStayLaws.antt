@@ -15,9 +15,9 @@ use Rattle.yq_places.specs.PlacedRows.{PlacedPart, before_part, placed_at, place
 use Rattle.yq_places.{specs.Placements.{RowsOfEntry, entry_rows_at, rows_of_entry}, proofs.PlacedPartLaws.map_some}
 use Rattle.yq_places.proofs.RowLineSpans.{steps_row}
 use Rattle.yq_edit_rules.{specs.Changed.{KeepsRows, put_document, put_part}, specs.Rooms.{RowShape, row_shape}}
-use Rattle.yq_edit_rules.specs.RowStays.{EntriesStay, ExchangesStay, HeadNodes, RowLinesStay, FollowingRowsStay, StaysInRows, StaysFrom}
-use Rattle.yq_edit_rules.{proofs.ChangedLaws.{document_put, first_stays, nth_changed}, proofs.FlowKeptLaws.one_other}
-use Rattle.yq_edit_rules.{proofs.ShapeLaws.line_by_shape, proofs.PlacementMarks.{even_there, under_it}}
+use Rattle.yq_edit_rules.specs.RowStays.{LaterDocumentsStay, EntriesStay, ExchangesStay, HeadNodes, RowLinesStay, FollowingRowsStay}
+use Rattle.yq_edit_rules.{specs.RowStays.{StaysInRows, StaysFrom, StaysPlaced}, proofs.ChangedLaws.{document_put, first_stays, nth_changed}}
+use Rattle.yq_edit_rules.{proofs.FlowKeptLaws.one_other, proofs.ShapeLaws.line_by_shape, proofs.PlacementMarks.{even_there, under_it}}
 use Rattle.yq_edit_rules.proofs.UnderLaws.{line_is, line_with}
 
 -- ---- rows of the same shapes
@@ -175,7 +175,18 @@ module _ (c : Cut) (k n : ℕ) (p q : Part) (there : slice_get (document_parts c
       size = length-take-le s.before q.rows (omega (arith, within, same_size p.rows q.rows stays.shapes)) ∙ sym front_size;
     }
 
-  -- the rows of one in a later document
+  -- a later document
+  module _ (m : ℕ) (d : PlacedPart) (placed : placed_document m c ≡ Some d) (later : k < m) where
+    abbrev now : PlacedPart
+    now = record { before = before_part (part_number m c) new; part = d.part; after = d.after }
+
+    placed_there : placed_document m new ≡ Some now
+    placed_there = search (rules, placed, document_put, nth_other, first_stays, keeps, number_stays, part_there, past_other, numbers_rise, later)
+
+    document_stays : StaysPlaced d m new
+    document_stays = record { start = before_part (part_number m c) new; found = placed_there }
+
+  -- the rows of an item or entry in a later document
   module _ (m : ℕ) (steps : List Step) (e : RowsOfEntry) (is : rows_of_entry m steps c ≡ Some e) (later : k < m) where
     other : (d : PlacedPart) × (placed_document m c ≡ Some d) × (option_map (entry_rows_at d) (row_line_of steps d.part.rows) ≡ Some e)
     other = bind_some (placed_document m c) is
@@ -183,26 +194,23 @@ module _ (c : Cut) (k n : ℕ) (p q : Part) (there : slice_get (document_parts c
     abbrev d : PlacedPart
     d = other.0
 
-    abbrev j : ℕ
-    j = part_number m c
-
-    abbrev now : PlacedPart
-    now = record { before = before_part j new; part = d.part; after = d.after }
-
-    placed_there : placed_document m new ≡ Some now
-    placed_there = search (rules, document_put, nth_other, first_stays, keeps, number_stays, part_there, past_other, numbers_rise, later)
+    abbrev start : List ℕ
+    start = before_part (part_number m c) new
 
     line_there_still : (s : RowLine) × (row_line_of steps d.part.rows ≡ Some s) × (entry_rows_at d s ≡ e)
     line_there_still = map_some (entry_rows_at d) (row_line_of steps d.part.rows) e other.2
 
     other_stays : StaysInRows e m steps new
     other_stays = record {
-      start = before_part j new;
+      start = start;
       front = e.front;
-      found = ap (λ (o : Option PlacedPart). o >>= λ x. option_map (entry_rows_at x) (row_line_of steps x.part.rows)) placed_there
-          ∙ (ap (option_map (entry_rows_at now)) line_there_still.1 ∙ (λ u. Some (record (line_there_still.2 u) { start = before_part j new; front = (line_there_still.2 u).front })));
+      found = ap (λ (o : Option PlacedPart). o >>= λ x. option_map (entry_rows_at x) (row_line_of steps x.part.rows)) (placed_there m d other.1 later)
+          ∙ (ap (option_map (entry_rows_at (record d { before = start }))) line_there_still.1 ∙ (λ u. Some (record (line_there_still.2 u) { start = start; front = (line_there_still.2 u).front })));
       size = refl;
     }
+
+documents_stay : LaterDocumentsStay
+documents_stay c k n p q m d there stays placed later = document_stays c k n p q there stays m d placed later
 
 entries_stay : EntriesStay
 entries_stay c k n p q m steps e there stays is (inl later) = other_stays c k n p q there stays m steps e is later
@@ -230,4 +238,4 @@ head_nodes n t ts c e h there mark is =
     ∙ (ap FoundNode there.is ∙ ((λ j. Some (content_under (sym line j) there.found.under)) ∙ (λ j. Some (anchored (content_anchor e.row.content) (head_or (is j) (value there.found.under)))))))
 
 pub rows_stay_there : FollowingRowsStay
-rows_stay_there = record { lines = row_lines_stay; entries = entries_stay; exchanges = exchanges_stay; nodes = head_nodes }
+rows_stay_there = record { lines = row_lines_stay; entries = entries_stay; documents = documents_stay; exchanges = exchanges_stay; nodes = head_nodes }

@@ -6,6 +6,7 @@ use Rattle.yq_core.{specs.BlockWritten.break_text, specs.declared.block_types.Br
 use Rattle.yq_row_table.{specs.Rows.{Cut, Part, Row, cut_text}, specs.Seams.is_block, specs.View.slices}
 use Rattle.yq_documents.{specs.Documents.document_parts, specs.Reading.{documents, read_at}, specs.Pieces.TextPiece}
 use Rattle.yq_places.{specs.Placements.{Held, RowsOfEntry, held, rows_of_entry}, specs.NodesAt.node_in, specs.FirstBreak.first_break}
+use Rattle.yq_places.specs.PlacedRows.{PlacedPart}
 use Rattle.yq_edit_rules.{specs.Appends.inserted, specs.Changed.put_document, specs.Rooms.row_shape, specs.BlockReading.is_filled}
 use Rattle.yq_edit_rules.specs.CommentEdits.{above_rows, comment_put, comment_written, head_comment_segments}
 use Rattle.yq_edit_rules.{specs.PiecePuts.piece_replaced, specs.Edits.op_edits, specs.Operands.HasOperand, specs.ReplaceEdits.held_put}
@@ -30,6 +31,14 @@ pub record PutsOne (ss : List Segment) (front old new after : List ℕ) : Type 0
   pub old_is : old_text ss ≡ front ++ (old ++ after)
   pub new_is : new_text ss ≡ front ++ (new ++ after)
   pub changes_are : changes ss ≡ splice_at (length front) old new
+
+-- the rows of a root that is alone on its line, as those of an item or entry (9.1; own)
+abbrev pub root_rows : PlacedPart → Row → List Row → RowsOfEntry
+root_rows d r rs = record { start = d.before; front = []; row = r; line = 0; under = []; back = rs; end = d.part.end; after = d.after }
+
+-- the same of a node that is alone on the line under an item or entry (8.2; own)
+abbrev pub lone_rows : RowsOfEntry → Row → List Row → RowsOfEntry
+lone_rows e r rs = record { start = e.start; front = e.front ++ (e.row ∷ []); row = r; line = 0; under = []; back = rs ++ e.back; end = e.end; after = e.after }
 
 -- An item or entry holds an inline node on the line of its key or dash, which is the last one of its row (7, 8.2).
 pub record HoldsInline (e : RowsOfEntry) : Type 0 where

@@ -4,7 +4,7 @@ use Rattle.yq_core.{specs.Paths.Step, specs.Tree.Node}
 use Rattle.yq_outline.{specs.Outline.anchored, specs.Lines.{content_anchor, head_of}}
 use Rattle.yq_row_table.specs.Rows.{Row, Part, Cut}
 use Rattle.yq_documents.{specs.Documents.document_parts, specs.LinesInRows.{RowLine, row_line_of}}
-use Rattle.yq_places.{specs.NodesAt.node_in, specs.Placements.{RowsOfEntry, rows_of_entry}}
+use Rattle.yq_places.{specs.NodesAt.node_in, specs.PlacedRows.{PlacedPart, placed_document}, specs.Placements.{RowsOfEntry, rows_of_entry}}
 use Rattle.yq_edit_rules.{specs.Appends.inserted, specs.Changed.put_document, specs.Rooms.row_shape, specs.PlacementLaws.HasItsRows}
 
 -- A part is another one but for the first so many of its rows, which keep their shapes (own).
@@ -30,6 +30,17 @@ pub record StaysInRows (e : RowsOfEntry) (m : ℕ) (steps : List Step) (c : Cut)
   pub found : rows_of_entry m steps c ≡ Some (record e { start = start; front = front })
   pub size : length front ≡ length e.front
 
+-- In another cut too, a part is document m, with the same text after it; the text before it may be another one (own).
+pub record StaysPlaced (d : PlacedPart) (m : ℕ) (c : Cut) : Type 0 where
+  pub start : List ℕ
+  pub found : placed_document m c ≡ Some (record d { before = start })
+
+-- A document after one that is exchanged for the other part is there still (own).
+abbrev pub LaterDocumentsStay : Type 0
+LaterDocumentsStay =
+    (c : Cut) (k n : ℕ) (p q : Part) (m : ℕ) (d : PlacedPart) → slice_get (document_parts c) k ≡ Some p → StaysFrom n p q →
+    placed_document m c ≡ Some d → k < m → StaysPlaced d m (put_document k q c)
+
 -- An item or entry after those is there still, with the document exchanged for the other part (own).
 abbrev pub EntriesStay : Type 0
 EntriesStay =
@@ -52,5 +63,6 @@ HeadNodes =
 pub record FollowingRowsStay : Type 0 where
   pub lines : RowLinesStay
   pub entries : EntriesStay
+  pub documents : LaterDocumentsStay
   pub exchanges : ExchangesStay
   pub nodes : HeadNodes

@@ -5,7 +5,7 @@ use Rattle.yq_edit_rules.specs.Operands.{HasOperand}
 use Rattle.yq_edit_laws.{proofs.CutLaws.text_small, specs.Carried.carried, specs.Valid.AreServed, proofs.FlowAnswers.whole_text}
 use Rattle.yq_edit_laws.{specs.Answers.EditFails, specs.Theorems.IsFitting}
 use Rattle.yq_semantics.{specs.Operations.Operation, specs.Under.{op_under, ops_under}}
-use Rattle.yq_batch.{specs.RowRuns.{RowsGoOn, IsRowsRun}, specs.Runs.{now_text, text_with_run}, specs.Under.op_meant}
+use Rattle.yq_batch.{specs.RowRuns.{IsPlacesRun, RowsGoOn}, specs.Runs.{now_text, text_with_run}, specs.Under.op_meant}
 use Rattle.yq_batch.{proofs.RowRunAnswers.rows_begin, proofs.RunAnswers.begins_with}
 use Rattle.yq_batch.proofs.UnderLaws.{carries_under, first_fails, first_fits, first_operand, others_come, others_served, under_begin}
 use Rattle.yq_text.specs.Halves.{whole}
@@ -48,7 +48,7 @@ operations-preserved c =
     }
 
 pub put_one-requires-clause-run : goal.put_one-requires-clause-run
-put_one-requires-clause-run c = subst (λ (u : List ℕ). IsRowsRun (cut_of u) c.operations.last c.operations.run) (sym c.operations.invariant.same) c.operations.invariant.runs
+put_one-requires-clause-run c = subst (λ (u : List ℕ). IsPlacesRun (cut_of u) c.operations.last c.operations.run) (sym c.operations.invariant.same) c.operations.invariant.runs
 
 pub put_one-requires-clause-fits : goal.put_one-requires-clause-fits
 put_one-requires-clause-fits c =
@@ -72,7 +72,7 @@ returns-in_err-next-clause-err c =
 
 pub end-requires : goal.end-requires
 end-requires c =
-    subst (λ (l : List ℕ). IsCharBoundary l c.operations.run.done) (sym (whole_text c.args.cut.now (whole c.text-text.result) c.text-text.ensures.read c.text-text.ensures.text)) c.operations.invariant.runs.run.edge
+    subst (λ (l : List ℕ). IsCharBoundary l c.operations.run.done) (sym (whole_text c.args.cut.now (whole c.text-text.result) c.text-text.ensures.read c.text-text.ensures.text)) c.operations.invariant.runs.rows.run.edge
 
 pub returns-clause-ok : goal.returns-clause-ok
 returns-clause-ok c =

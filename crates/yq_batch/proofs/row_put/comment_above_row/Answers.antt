@@ -19,4 +19,4 @@ returns c =
     let line = c.in-Some.ensures in
     let is = sym (ap (option_map (λ x. (x.0, piece_view x.1))) c.in-Some-lines_above_from.is) ∙ c.lines_above_from.ensures in
     head_comment_puts_there c.args.cut.now c.args.path.now c.args.text.now c.in-Some.at (c.in-Some-lines_above_from.column, piece_view above) _ c.text-text.ensures.read line is c.requires.operand
-    (subst IsUtf8 c.of-run.ensures.whole c.is_text.ensures) c.is_text-2.ensures refl refl c.len-start.ensures (ap (λ (n : ℕ). n + length above.text.now) c.len-start.ensures) (ap Some c.in_ok-written.ensures)
+    (subst IsUtf8 c.of-run.ensures.whole c.is_text.ensures) c.is_text-2.ensures refl refl refl c.len-start.ensures (ap (λ (n : ℕ). n + length above.text.now) c.len-start.ensures) (ap Some c.in_ok-written.ensures)

@@ -16,4 +16,4 @@ comment_place-start-requires c =
 pub returns : goal.returns
 returns c =
     comment_puts_there c.args.cut.now c.args.path.now.doc (steps_of c.args.path.now) c.args.text.now c.line_end.result.0.now c.line_end.result.1.now c.args.at.now _ c.text-text.ensures.read c.requires.row c.requires.operand
-    c.line_end.ensures.white c.line_end.ensures.comment refl refl c.comment_place-start.ensures.start c.comment_place-start.ensures.end (ap Some c.in_ok-written.ensures)
+    c.line_end.ensures.white c.line_end.ensures.comment refl refl refl c.comment_place-start.ensures.start c.comment_place-start.ensures.end (ap Some c.in_ok-written.ensures)

@@ -4,8 +4,8 @@ use Rattle.yq_lookup.specs.PathLines.{IsLineOf}
 use Rattle.yq_places.specs.PlacementViews.{IsHeldRow}
 use Rattle.yq_batch.proofs.row_put.row_put.Goals as goal
 
-pub value_in_row-requires-clause-row : goal.value_in_row-requires-clause-row
-value_in_row-requires-clause-row c =
+pub value_there-requires-clause-row : goal.value_there-requires-clause-row
+value_there-requires-clause-row c =
     subst (λ (u : List ℕ). IsHeldRow c.args.at.path.now.doc (steps_of c.args.at.path.now) (cut_of u) c.in-Some.row) (sym c.in-Some.ensures.same) c.in-Some.ensures.row
 
 pub comment_in_row-requires-clause-row : goal.comment_in_row-requires-clause-row

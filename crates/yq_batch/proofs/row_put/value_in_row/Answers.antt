@@ -14,4 +14,4 @@ pub returns : goal.returns
 returns c =
     let plain = sym c.is_filled.ensures ∙ c.if-is_filled.false in
     value_puts c.args.cut.now c.args.path.now.doc (steps_of c.args.path.now) (value_node c.args.value.now) c.args.at.now _ c.text-text.ensures.read c.requires.row c.if-not-at.false plain c.requires.operand
-    refl refl refl refl c.in_ok-written.ensures
+    refl refl refl refl refl c.in_ok-written.ensures

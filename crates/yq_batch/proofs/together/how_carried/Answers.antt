@@ -1,4 +1,3 @@
-use Rattle.std.proofs.Common.{ℕ}
 use Rattle.yq_batch.{specs.Runs.IsFoundHead, proofs.HeadRunLaws.some_is}
 use Rattle.yq_batch.proofs.together.how_carried.Goals as goal
 

@@ -1,5 +1,5 @@
 use Rattle.std.proofs.Common.{◌≡◌, ◌++◌, List, map, refl, ap, ◌∙◌}
-use Rattle.yq_core.{specs.Entries.tree_step, specs.Paths.Step}
+use Rattle.yq_core.specs.Entries.{tree_step}
 use Rattle.yq_documents.{specs.Located.steps_of, specs.declared.path.Path.Path}
 use Rattle.yq_batch.proofs.UnderLaws.{begins_on, leads_on}
 use Rattle.yq_core.specs.declared.path.Step as declared
