@@ -4,8 +4,8 @@ usage: cost.py PATH_OF_YQ [FOLDER]
 
 Reads: four texts, which are services of 1 MB and of 16 MB (services.py), and 100,000 lines `- i` and `ki: i`. Each is
 read by yq, which prints one value of its middle; by the floor (floor.c), which reads the file and counts its line feeds;
-by libyaml (libyaml.c), its events and its documents as trees; by Debian's python3-yaml, whose loader stands over libyaml;
-and by yaml.v3 of Go. What isn't there is told as skipped. Instructions are counted by valgrind's callgrind, less those of
+by libyaml (libyaml.c), its events and its documents as trees; by Debian's python3-yaml, whose loader is built on libyaml;
+and by yaml.v3 of Go. What isn't there is reported as skipped. Instructions are counted by valgrind's callgrind, less those of
 a read of one line; they don't vary from run to run. Those of Python aren't counted. The memory is the peak of the
 resident memory, said by a small program (measured.c), and the time the processor's, the least of three turns.
 

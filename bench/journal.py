@@ -44,7 +44,7 @@ def written(folder, name, data):
 
 
 def records(count):
-    """A text of 30 lines that stands after so many edits of its port, and its journal as the program writes it."""
+    """A text of 30 lines after so many edits of its port, and its journal as the program writes it."""
     rows = [b"key%d: value%d\n" % (n, n) for n in range(29)]
     texts = [b"".join(rows[:15] + [b"port: %d\n" % port] + rows[15:]) for port in (8000, 8001)]
     found = []

@@ -1,4 +1,4 @@
-/* Carries a command out, without its output, and tells the processor's time in seconds and the peak of the resident memory
+/* Carries a command out, without its output, and prints the processor's time in seconds and the peak of the resident memory
    in bytes. A process keeps the peak of the one that started it until it becomes the command, so this one is small.
    usage: measured COMMAND.. */
 #include <fcntl.h>

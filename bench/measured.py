@@ -1,8 +1,8 @@
-"""Carries a command out and tells the processor's time and the peak of the resident memory that it took.
+"""Carries a command out and gives the processor's time and the peak of the resident memory that it took.
 
 usage: measured.py COMMAND..
 
-A process keeps the peak of the one that started it, so a small one stands between a script that holds texts and the
+A process keeps the peak of the one that started it, so a small one is between a script that holds texts and the
 command: `used_by` runs this file for it. It prints seconds and bytes; what the command prints is left out, its errors
 are not.
 """

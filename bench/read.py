@@ -1,4 +1,4 @@
-"""Times the reading of texts of 1 MB and 16 MB, next to a floor, and tells the memory that it takes.
+"""Times the reading of texts of 1 MB and 16 MB, next to a floor, and prints the memory that it takes.
 
 usage: read.py PATH_OF_YQ [TURNS]
 

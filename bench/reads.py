@@ -1,4 +1,4 @@
-"""Times reads of texts of 1 MB and 16 MB, next to a floor, and tells the memory that they take.
+"""Times reads of texts of 1 MB and 16 MB, next to a floor, and prints the memory that they take.
 
 usage: reads.py PATH_OF_YQ [TURNS]
 
@@ -6,7 +6,7 @@ The text is a sequence of 100,000 mappings of one entry, every other one with th
 items, the text as one value, and by `select` the values of `a`. The floor starts a process that ends at once, reads the
 file, counts its line feeds by one pass of memchr and writes as many bytes as the read prints.
 All numbers of a table are of one run: the processor's time, the least of all turns, and the peak of the resident memory.
-Where valgrind is there, a second table tells the instructions for each byte of the text, which don't vary: callgrind
+Where valgrind is there, a second table has the instructions for each byte of the text, which don't vary: callgrind
 counts those of the whole run, less those of a run that prints the help.
 """
 

@@ -20,7 +20,7 @@ from services import services
 
 COUNTS = (1_000, 10_000, 25_000, 100_000)
 
-# What is asked of the items of a text, which stand at the root.
+# What is asked of the items of a text, which are at the root.
 IN_ALL = (".[] = 77", ".[] |= . + 1", "del(.[])")
 IN_BLOCK = ('.[] line_comment = "x"',)
 

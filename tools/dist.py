@@ -24,7 +24,7 @@ ADDED = ("examples/demo.sh", "examples/server.yaml")
 README = """\
 # yq: edit YAML files in place, with undo
 
-`yq` prints the values of a YAML file, changes what it is told to and no other byte of it, and takes any edit back to the byte.
+`yq` prints the values of a YAML file, changes what it is asked to and no other byte of it, and takes any edit back to the byte.
 
     yq EXPR FILE               print what EXPR reads, or FILE as the update EXPR would leave it
     yq -i EXPR FILE            edit FILE in place, and record the edit in FILE.undo.json
@@ -38,7 +38,7 @@ show that it is whole and works.
 
 Pages, in share/doc/yq: the [manual](share/doc/yq/MANUAL.md) has an example for each task;
 [FROM-YQ-V4](share/doc/yq/FROM-YQ-V4.md) is for who knows yq version 4; [EXPRESSIONS](share/doc/yq/EXPRESSIONS.md),
-[TEXT](share/doc/yq/TEXT.md), [STYLE-AND-EXTENTS](share/doc/yq/STYLE-AND-EXTENTS.md) and [JOURNAL](share/doc/yq/JOURNAL.md) tell all
+[TEXT](share/doc/yq/TEXT.md), [STYLE-AND-EXTENTS](share/doc/yq/STYLE-AND-EXTENTS.md) and [JOURNAL](share/doc/yq/JOURNAL.md) have all
 of the language, of the texts that are read, of what an edit writes, and of the journal. NOTICES has the terms of the libraries of
 which the program contains code.
 """

@@ -32,7 +32,7 @@ def hindrance(crate, name, tier="wrong-bodies"):
                         texts[path] = it.read()
                 found = texts[path].count(old)
                 if found != 1:
-                    return f"an old text stands in {path} {found} times, and not once"
+                    return f"an old text is in {path} {found} times, and not once"
                 unlisted = [it for it in re.findall(r"\b(\w+)::", text) if it in libraries and it not in libraries[crate]]
                 if unlisted and path.endswith(".rt"):
                     return f"it names {unlisted[0]}, which crates.txt doesn't list for {crate}"

@@ -12,7 +12,7 @@ DATA_OF = {"core": "unicode"}
 RULE = "=" * 80
 HEAD = """\
 yq contains code of these libraries of its toolchain, most of them ports of Rust crates of the same name.
-Behind their names stand the terms of each.
+After their names come the terms of each.
 """
 
 

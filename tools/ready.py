@@ -174,7 +174,7 @@ def not_applied():
 def otherwise_told():
     """Files that name options otherwise than the table."""
     for path, _ in retold():
-        yield f"{path} tells of the options otherwise than completions/options.json: tools/options.py writes it anew"
+        yield f"{path} has other options than completions/options.json: tools/options.py writes it anew"
 
 
 def other_codes():

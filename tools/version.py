@@ -6,7 +6,7 @@ import re
 from crates import ROOT
 
 HELP = os.path.join("crates", "yq_commands", "src", "help.rt")
-# Where else it stands: in the man page's foot, and as the first heading of the changes.
+# Where else it is: in the man page's foot, and as the first heading of the changes.
 OTHERS = {
     os.path.join("man", "yq.1"): re.compile(r"^\.Os yq (\S+)$", re.MULTILINE),
     "CHANGELOG.md": re.compile(r"^## (\S+)", re.MULTILINE),
@@ -26,7 +26,7 @@ def version():
 
 
 def other_versions():
-    """Where another version stands than the one that help prints."""
+    """Where another version is than the one that help prints."""
     wanted = version()
     if wanted is None:
         yield f"{HELP} names no version"

@@ -1,4 +1,4 @@
-"""Which checks run below a process, and the processor seconds that they take, as /proc tells."""
+"""Which checks run below a process, and the processor seconds that they take, as /proc reports them."""
 
 import os
 import time

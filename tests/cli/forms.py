@@ -54,7 +54,7 @@ def as_written(folder, text, row, tally):
         tally["reads"] += 1
     for expr, old, new in row["edits"]:
         put(folder, text)
-        equal(text.count(old.encode()), 1, (expr, "the old part stands once"))
+        equal(text.count(old.encode()), 1, (expr, "the old part is there once"))
         folder.accepts("-i", expr, FILE)
         equal(folder.read(FILE).decode(), text.replace(old.encode(), new.encode()).decode(), expr)
         folder.accepts("undo", FILE)

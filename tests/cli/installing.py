@@ -123,7 +123,7 @@ def check_a_program_that_is_there_is_installed(folder):
 def packed(folder, to):
     """The path of the archive, less its ending, made in a new folder."""
     if shutil.which("rt") is None:
-        raise Skip("needs rt, beside which the notices stand")
+        raise Skip("needs rt, next to which the notices are")
     os.mkdir(folder.name(to))
     run(folder, sys.executable, os.path.join("tools", "dist.py"), folder.yq, folder.name(to))
     return os.path.join(folder.name(to), f"yq-{version_told(folder)}-linux-x86_64")

@@ -1,6 +1,6 @@
 """Each growth of memory in a command is refused in turn: alone, or with all that come after it.
 
-The C library is told to ask the system for each growth by a call of its own, and strace refuses these calls. The command
+The C library is set to ask the system for each growth by a call of its own, and strace refuses these calls. The command
 is then refused as out of memory. The file holds the text before it or the one after it, and what comes next goes on.
 """
 

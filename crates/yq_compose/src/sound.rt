@@ -48,7 +48,7 @@ fn check_bare<'a, 't>(
         has_no_lines (part ls (n at.entry.position + 1) floor)) &&
         spec.head_is_sound depth l.head)) }
     ensures reached { IfOk result (IsReached x.entry.decoded.now x.entry.rows.now x.entry.document) }
-    ensures following { IfOk result (λ r. GivesStop x.entry.rows.now x.entry.document at.entry.position
+    ensures after { IfOk result (λ r. GivesStop x.entry.rows.now x.entry.document at.entry.position
         floor r.position) }
     ensures fault { IfErr result IsOfText }
 {
@@ -130,7 +130,7 @@ fn check_line<'a, 't>(
     ensures sound { OfCheckedLine x.entry at.entry.position (λ ls num l. Decides result
         (spec.are_sound_under depth n l (part ls (num at.entry.position + 1) (outline.level l)))) }
     ensures reached { IfOk result (IsReached x.entry.decoded.now x.entry.rows.now x.entry.document) }
-    ensures following { IfOk result (λ r.
+    ensures after { IfOk result (λ r.
         GivesEnd x.entry.rows.now x.entry.document at.entry.position r.position) }
     ensures kept { OnOk result (key_texts keys.new.items ≡ key_texts keys.old.items) }
     ensures fault { IfErr result IsOfText }
@@ -167,7 +167,7 @@ pub(crate) fn check_lines<'a, 't>(
     ensures sound { OfChecked x.entry (λ ls n. Decides result
         (spec.is_sound_outline depth (part ls (n start.entry.position) floor))) }
     ensures reached { IfOk result (IsReached x.entry.decoded.now x.entry.rows.now x.entry.document) }
-    ensures following { IfOk result (λ r.
+    ensures after { IfOk result (λ r.
         GivesStop x.entry.rows.now x.entry.document start.entry.position floor r.position) }
     ensures kept { OnOk result (key_texts keys.new.items ≡ key_texts keys.old.items) }
     ensures fault { IfErr result IsOfText }

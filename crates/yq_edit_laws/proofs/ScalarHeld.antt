@@ -104,7 +104,7 @@ module _ (n : ℕ) (s : Step) (ss : List Step) (c : Cut) (e : RowsOfEntry) (ther
   header_line u =
       let t : LineEnd = end_in_line [] (slices e.row).tail in
       ap (λ q. t.white ++ (t.comment ++ (q ++ u))) line_is
-      ∙ (ap (λ q. t.white ++ q) (sym (append_assoc t.comment t.bytes_after u)) ∙ (sym (append_assoc t.white (t.comment ++ t.bytes_after) u) ∙ ap (λ q. q ++ u) (sym (end_parts [] (slices e.row).tail) ∙ tail_is)))
+      ∙ (ap (λ q. t.white ++ q) (sym (append_assoc t.comment t.after u)) ∙ (sym (append_assoc t.white (t.comment ++ t.after) u) ∙ ap (λ q. q ++ u) (sym (end_parts [] (slices e.row).tail) ∙ tail_is)))
 
   -- the old text
   pub raw_old : (held e).before ++ ((held e).space ++ ((held e).head ++ ((held e).white ++ ((held e).comment ++ (line_break (held e) ++ ((held e).lines ++ (raw_last (held e) ++ ((held e).after ++ [])))))))) ≡ cut_text c

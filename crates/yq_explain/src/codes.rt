@@ -7,7 +7,7 @@ pub const ROWS: &str = "\
 U1\tusage\tThe words don't fit: a flag that isn't there, no FILE, two files, '-' as FILE, the journal named as the file, an N that is no number. The next line says which word, and what to do.\t'yq --help'. For standard input name '/dev/stdin', in reads. After '--' are names that begin with '-'.
 E1\tsyntax\tThe expression is not valid.\tLook for a quote that isn't closed, a path that doesn't begin with a dot ('.[0]', not '[0]'), a pipe on a left side without parentheses. It may also be a key twice in a literal, or an index that is no whole number.
 E1\tsyntax\tSelected places are updated without parentheses.\t(.c[] | select(.n == \"a\") | .v) = 2
-E2\tnot in profile\tA word or operator of yq version 4 that isn't taken on here.\tFROM-YQ-V4.md says what to use.
+E2\tnot in profile\tA word or operator of yq version 4 that isn't here.\tFROM-YQ-V4.md says what to use.
 E2\tnot in profile\tA text without quotes.\t.a = \"web\"
 E2\tnot in profile\tA path without its dot; or a command's name that is misspelt, 'yq undoo f.yaml'.\t'.a.b'; 'yq --help' lists the commands.
 E3\tpattern\t'*' or '?' in a key or in what is compared with.\tName each key; there are no patterns.
@@ -47,7 +47,7 @@ Y3\ttab indent\tA tab in the indentation.\tSpaces.
 Y4\tdirective\tA line with '%' before a document.\tRemove it: the texts are read as YAML 1.2.
 Y5\ttag\tA tag, anywhere in the file.\tThe file is refused whole, as a tag changes what a text means. Edit it by another program; it can't be undone here.
 Y6\texplicit key\tA key after '?'.\t'a: 1'.
-Y7\tmerge key\tA plain key '<<'.\tNot taken on: an edit would change keys that the text doesn't show. The text '\"<<\"' can be a key.
+Y7\tmerge key\tA plain key '<<'.\tAn edit would change keys that the text doesn't show. The text '\"<<\"' can be a key.
 Y8\tbad key\tA key is missing, is a collection or alias, or has more than 1,024 characters.\tThe empty key is '\"\":'.
 Y8\tbad key\tA line without a key beside keys: no ':', or no space after it.\tb: 2
 Y8\tbad key\tA template: '{' begins a flow mapping, whose key can't be one.\tEdit what the template makes, or put the value in quotes: 'a: \"{{ x }}\"'.

@@ -94,7 +94,7 @@ coll_unopened total (suc d) k t h = go (read_gap t) h where
   go None e = refl
   go (Some gap) e = cc
 
-coll_opened : (total d k : ℕ) (t r : List ℕ) → after_bracket d t ≡ Some r → placed_coll total d k t ≡ (placed_items total (d - 1) k r >>= λ x. Some (holder k x.0, x.1))
+pub coll_opened : (total d k : ℕ) (t r : List ℕ) → after_bracket d t ≡ Some r → placed_coll total d k t ≡ (placed_items total (d - 1) k r >>= λ x. Some (holder k x.0, x.1))
 coll_opened total zero k t r h = cc
 coll_opened total (suc d) k t r h = go (read_gap t) h where
   held_parts : Parts × List ℕ → Option (CoreNode × List ℕ)

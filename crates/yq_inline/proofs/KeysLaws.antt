@@ -17,6 +17,9 @@ all_stay n ks e = record { within = omega (arith, e, length-map ks (λ k. k.now)
 pub none_own : (n : ℕ) (ks : List (Bor (List ℕ))) → n ≡ length ks → drop n (key_texts ks) ≡ []
 none_own n ks e = drop_all n (key_texts ks) (omega (arith, e, length-map ks (λ k. k.now)))
 
+pub first_apart : (n : ℕ) (ks : List (Bor (List ℕ))) (more : List (List ℕ)) → n ≡ length ks → are_distinct (drop n (key_texts ks) ++ more) ≡ true → are_distinct more ≡ true
+first_apart n ks more e apart = sym (ap (λ (own : List (List ℕ)). are_distinct (own ++ more)) (none_own n ks e)) ∙ apart
+
 -- with more after them
 longer : (n : ℕ) (xs ys : List (List ℕ)) → n ≤ length xs → n ≤ length (xs ++ ys)
 longer zero xs ys h = omega arith

@@ -1,17 +1,18 @@
 -- Steps of finding the ends of nodes, as the code takes them.
-use Rattle.std.proofs.Common.{◌≡◌, ℕ, suc, ◌-◌, ◌<◌, ◌≤◌, Bool, true, false, cond, not, ◌&&◌, ◌||◌, List, length, drop, Option, Some, None}
-use Rattle.std.{proofs.Common.{refl, ap, ◌∙◌, subst, arith}, proofs.lemmas.Option.same_Some}
+use Rattle.std.proofs.Common.{◌≡◌, ℕ, ◌-◌, ◌<◌, ◌≤◌, Bool, true, false, cond, not, ◌&&◌, ◌||◌, List, length, drop, Option, Some, None, refl}
+use Rattle.std.{proofs.Common.{sym, ap, ◌∙◌, arith}, proofs.lemmas.Option.same_Some}
 use Rattle.yq_core.{specs.Answers.◌>>=◌, specs.Text.is_empty, proofs.Bools.bind_some, specs.declared.piece.Piece.Piece}
-use Rattle.yq_core.{specs.declared.style.Style.Style, specs.Nodes.{FlowNode, begins_with, begins_content, coll, Items}}
+use Rattle.yq_core.{specs.declared.style.Style.Style, specs.Nodes.{FlowNode, begins_with, begins_content, coll, Items, opening_bracket}}
 use Rattle.yq_core.specs.Places.{Placed, placed, CoreNode, nothing, name, text, sequence, mapping, Parts, part, anchored_node}
 use Rattle.yq_core.specs.Places.{placed_between, bare_placed, holder, key_here, locate_items}
 use Rattle.yq_core.specs.PlacedReading.{core_between, placed_node, placed_items, placed_content, placed_coll, placed_item, placed_entry}
 use Rattle.yq_core.specs.PlacedReading.{split_key, past_sep, may_follow_anchor, then_anchored}
-use Rattle.yq_core.specs.Reading.{read_gap, read_scalar, name_at, lead_at, read_collection, read_core, kids_of, all_items}
+use Rattle.yq_core.specs.Reading.{read_gap, read_scalar, name_at, lead_at, read_collection, read_core, kids_of}
 use Rattle.yq_core.{specs.Scalars.{scalar_style, begins_scalar}, proofs.Loops.node_shorter, proofs.NodesPieceLaws.front_is}
 use Rattle.yq_core.proofs.Steps.{items_end, items_more, entries_more, node_plain, node_anchored, node_no_name, node_no_lead}
-use Rattle.yq_inline.specs.Measured.{kind_of_style, node_measure, measured, past_node, is_no_node, node_may_follow, closing_byte, past_part}
-use Rattle.yq_inline.specs.declared.measuring.MeasuredKind.{MeasuredKind}
+use Rattle.yq_inline.specs.Measured.{kind_of_style, node_measure, measured, past_node, is_no_node, node_may_follow, closing_byte}
+use Rattle.yq_inline.{specs.Measured.{from_value, past_value}, specs.Forms.after_bracket}
+use Rattle.yq_inline.{specs.declared.measuring.MeasuredKind.MeasuredKind, proofs.FormLaws.{coll_opened, coll_unopened}}
 use Rattle.yq_core.specs.declared.style.Style.TheVariants as styles
 use Rattle.yq_inline.specs.declared.measuring.MeasuredKind.TheVariants as kinds
 
@@ -121,21 +122,23 @@ mapping_is : (flow : Bool) (spaces : Option ℕ) (d : ℕ) (t : List ℕ) → be
 unfolding read_core read_collection
 mapping_is flow spaces d t star other opens = rw (star, other, opens) (mapping_gap d t (read_gap (drop 1 t)))
 
-pub sequence_none : (flow : Bool) (spaces : Option ℕ) (d : ℕ) (t : List ℕ) → begins_with 42 t ≡ false → begins_with 91 t ≡ true → past_node (placed_coll 0 d 93 (drop 1 t)) ≡ None → measured (placed_content flow spaces 0 d t) ≡ None
-sequence_none flow spaces d t star opens e = sequence_is flow spaces d t star opens ∙ ap as_collection e
+coll_is : (flow : Bool) (spaces : Option ℕ) (d : ℕ) (t : List ℕ) (keyed : Bool) → begins_with (opening_bracket (closing_byte keyed)) t ≡ true →
+    measured (placed_content flow spaces 0 d t) ≡ as_collection (past_node (placed_coll 0 d (closing_byte keyed) (drop 1 t)))
+coll_is flow spaces d t true opens = let front = front_is 123 t opens in mapping_is flow spaces d t (ap (begins_with 42) front) (ap (begins_with 91) front) opens
+coll_is flow spaces d t false opens = sequence_is flow spaces d t (ap (begins_with 42) (front_is 91 t opens)) opens
 
-pub sequence_some : (flow : Bool) (spaces : Option ℕ) (d : ℕ) (t r : List ℕ) → begins_with 42 t ≡ false → begins_with 91 t ≡ true →
-    past_node (placed_coll 0 d 93 (drop 1 t)) ≡ Some r → measured (placed_content flow spaces 0 d t) ≡ Some ((false, kinds.Collection), r)
-sequence_some flow spaces d t r star opens e = sequence_is flow spaces d t star opens ∙ ap as_collection e
+pub coll_none : (flow : Bool) (spaces : Option ℕ) (d : ℕ) (t : List ℕ) (keyed : Bool) → begins_with (opening_bracket (closing_byte keyed)) t ≡ true →
+    past_node (placed_coll 0 d (closing_byte keyed) (drop 1 t)) ≡ None → measured (placed_content flow spaces 0 d t) ≡ None
+coll_none flow spaces d t keyed opens e = coll_is flow spaces d t keyed opens ∙ ap as_collection e
 
-pub mapping_none : (flow : Bool) (spaces : Option ℕ) (d : ℕ) (t : List ℕ) → begins_with 42 t ≡ false → begins_with 91 t ≡ false →
-    begins_with 123 t ≡ true → past_node (placed_coll 0 d 125 (drop 1 t)) ≡ None → measured (placed_content flow spaces 0 d t) ≡ None
-mapping_none flow spaces d t star other opens e = mapping_is flow spaces d t star other opens ∙ ap as_collection e
+pub coll_some : (flow : Bool) (spaces : Option ℕ) (d : ℕ) (t r : List ℕ) (keyed : Bool) → begins_with (opening_bracket (closing_byte keyed)) t ≡ true →
+    past_node (placed_coll 0 d (closing_byte keyed) (drop 1 t)) ≡ Some r → measured (placed_content flow spaces 0 d t) ≡ Some ((false, kinds.Collection), r)
+coll_some flow spaces d t r keyed opens e = coll_is flow spaces d t keyed opens ∙ ap as_collection e
 
-pub mapping_some : (flow : Bool) (spaces : Option ℕ) (d : ℕ) (t r : List ℕ) → begins_with 42 t ≡ false → begins_with 91 t ≡ false →
-    begins_with 123 t ≡ true → past_node (placed_coll 0 d 125 (drop 1 t)) ≡ Some r →
-    measured (placed_content flow spaces 0 d t) ≡ Some ((false, kinds.Collection), r)
-mapping_some flow spaces d t r star other opens e = mapping_is flow spaces d t star other opens ∙ ap as_collection e
+-- in what is no collection none is nested
+pub leaf_deep : (flow : Bool) (spaces : Option ℕ) (d : ℕ) (t : List ℕ) → begins_with 91 t ≡ false → begins_with 123 t ≡ false → placed_content flow spaces 0 0 t ≡ placed_content flow spaces 0 d t
+unfolding read_core
+leaf_deep flow spaces d t a b = rw (a, b) refl
 
 pub scalar_none : (flow : Bool) (spaces : Option ℕ) (d : ℕ) (t : List ℕ) → begins_with 42 t ≡ false → begins_with 91 t ≡ false →
     begins_with 123 t ≡ false → begins_content flow t ≡ true → read_scalar flow spaces t ≡ None → measured (placed_content flow spaces 0 d t) ≡ None
@@ -197,49 +200,52 @@ pub node_some : (flow : Bool) (spaces : Option ℕ) (d : ℕ) (t n r g s u : Lis
     node_may_follow g (a, k) ≡ true → measured (placed_node flow spaces 0 d t) ≡ Some ((true, k), u)
 node_some flow spaces d t n r g s u a k amp e f h may = anchored_is flow spaces d t n r g s u a k amp e f h ∙ ap (λ c. cond c (Some ((true, k), u)) None) may
 
--- collections
-pub coll_no_gap : (d k : ℕ) (t : List ℕ) → read_gap t ≡ None → past_node (placed_coll 0 d k t) ≡ None
-coll_no_gap d k t h = rw h refl
+-- an opening bracket
+past_held : (k : ℕ) (o : Option (Parts × List ℕ)) → past_node (o >>= λ x. Some (holder k x.0, x.1)) ≡ past_node o
+past_held k None = refl
+past_held k (Some x) = refl
 
-pub coll_too_deep : (k : ℕ) (t g r : List ℕ) → read_gap t ≡ Some (g, r) → past_node (placed_coll 0 0 k t) ≡ None
-coll_too_deep k t g r h = rw h refl
+pub unopened : (d k : ℕ) (t : List ℕ) → after_bracket d t ≡ None → past_node (placed_coll 0 d k t) ≡ None
+unopened d k t h = ap past_node (coll_unopened 0 d k t h)
 
-coll_deeper : (d k : ℕ) (t g r : List ℕ) → read_gap t ≡ Some (g, r) → past_node (placed_coll 0 (suc d) k t) ≡ past_node (placed_items 0 d k r)
-coll_deeper d k t g r h = rw h (go (all_items d k r)) where
-  go : (o : Option (Items × List ℕ)) → past_node (o >>= λ x. Some (holder k (locate_items 0 k x.0 x.1), x.1)) ≡ past_node (o >>= λ x. Some (locate_items 0 k x.0 x.1, x.1))
+pub inside : (d k : ℕ) (t r : List ℕ) → after_bracket d t ≡ Some r → past_node (placed_items 0 (d - 1) k r) ≡ past_node (placed_coll 0 d k t)
+inside d k t r h = sym (ap past_node (coll_opened 0 d k t r h) ∙ past_held k (placed_items 0 (d - 1) k r))
+
+-- what follows an entry, or item
+abbrev past_part : Bool → ℕ → List ℕ → Option (List ℕ)
+past_part true d t = past_node (placed_entry 0 d t)
+past_part false d t = past_node (placed_item 0 d t)
+
+-- an entry before what follows it, if anything does
+abbrev with_entry : List ℕ × Piece → Placed → Option (List ℕ) → Option (((List ℕ × Piece) × Placed) × List ℕ)
+with_entry key x o = o >>= λ r. Some ((key, x), r)
+
+past_entry : (key : List ℕ × Piece) (x : Placed) (o : Option (List ℕ)) → past_node (with_entry key x o) ≡ o
+past_entry key x None = refl
+past_entry key x (Some r) = refl
+
+past_keyed : (key : List ℕ × Piece) (o : Option (Placed × List ℕ)) → past_node (o >>= λ x. with_entry key x.0 (past_sep 125 x.1)) ≡ (measured o >>= past_value true)
+past_keyed key None = refl
+past_keyed key (Some x) = past_entry key x.0 (past_sep 125 x.1)
+
+past_bare : (o : Option (Placed × List ℕ)) → past_node (o >>= λ x. cond (bare_placed x.0) None (past_sep 93 x.1 >>= λ r. Some (x.0, r))) ≡ (measured o >>= past_value false)
+past_bare None = refl
+past_bare (Some x) = rw (bare_measure x.0) (go (is_no_node (node_measure x.0)) (past_sep 93 x.1)) where
+  go : (c : Bool) (o : Option (List ℕ)) → past_node (cond c None (o >>= λ r. Some (x.0, r))) ≡ cond c None o
+  go true o = refl
+  go false None = refl
+  go false (Some s) = refl
+
+abbrev placed_here : List ℕ → List ℕ × List ℕ → Option ((List ℕ × Piece) × List ℕ)
+placed_here t x = Some (key_here 0 t x.0, x.1)
+
+part_is : (keyed : Bool) (d : ℕ) (t : List ℕ) → past_part keyed d t ≡ (from_value keyed t >>= λ u. measured (placed_node true (Some 0) 0 d u) >>= past_value keyed)
+part_is true d t = go (split_key t) where
+  go : (o : Option (List ℕ × List ℕ)) → past_node ((o >>= placed_here t) >>= λ key. placed_node true (Some 0) 0 d key.1 >>= λ x. with_entry key.0 x.0 (past_sep 125 x.1)) ≡
+      (past_node o >>= λ u. measured (placed_node true (Some 0) 0 d u) >>= past_value true)
   go None = refl
-  go (Some x) = refl
-
-pub coll_items : (d k : ℕ) (t g r : List ℕ) → 0 < d → read_gap t ≡ Some (g, r) → past_node (placed_coll 0 d k t) ≡ past_node (placed_items 0 (d - 1) k r)
-coll_items d k t g r some h =
-    let one : suc (d - 1) ≡ d = omega arith in
-    subst (λ (n : ℕ). past_node (placed_coll 0 n k t) ≡ past_node (placed_items 0 (d - 1) k r)) one (coll_deeper (d - 1) k t g r h)
-
--- items
-item_is : (d : ℕ) (t r : List ℕ) (a : Bool) (k : MeasuredKind) → measured (placed_node true (Some 0) 0 d t) ≡ Some ((a, k), r) → past_node (placed_item 0 d t) ≡ cond (is_no_node (a, k)) None (past_sep 93 r)
-item_is d t r a k h =
-    let y = found (placed_node true (Some 0) 0 d t) a k r h in
-    let bare : bare_placed y.node ≡ is_no_node (a, k) = bare_measure y.node ∙ ap is_no_node y.measured_as in
-    rw (y.read, bare) (go (is_no_node (a, k)) y.node (past_sep 93 r))
-  where
-    go : (c : Bool) (x : Placed) (o : Option (List ℕ)) → past_node (cond c None (o >>= λ s. Some (x, s))) ≡ cond c None o
-    go true x o = refl
-    go false x None = refl
-    go false x (Some s) = refl
-
-pub item_none : (d : ℕ) (t : List ℕ) → measured (placed_node true (Some 0) 0 d t) ≡ None → past_node (placed_item 0 d t) ≡ None
-item_none d t h = rw (unread (placed_node true (Some 0) 0 d t) h) refl
-
-pub item_bare : (d : ℕ) (t r : List ℕ) (a : Bool) (k : MeasuredKind) → measured (placed_node true (Some 0) 0 d t) ≡ Some ((a, k), r) → is_no_node (a, k) ≡ true → past_node (placed_item 0 d t) ≡ None
-item_bare d t r a k h bare = item_is d t r a k h ∙ ap (λ c. cond c None (past_sep 93 r)) bare
-
-pub item_some : (d : ℕ) (t r : List ℕ) (a : Bool) (k : MeasuredKind) → measured (placed_node true (Some 0) 0 d t) ≡ Some ((a, k), r) → is_no_node (a, k) ≡ false → past_node (placed_item 0 d t) ≡ past_sep 93 r
-item_some d t r a k h bare = item_is d t r a k h ∙ ap (λ c. cond c None (past_sep 93 r)) bare
-
-pub item_shorter : (d : ℕ) (t r : List ℕ) (a : Bool) (k : MeasuredKind) → measured (placed_node true (Some 0) 0 d t) ≡ Some ((a, k), r) → is_no_node (a, k) ≡ false → length r < length t
-item_shorter d t r a k h bare =
-    let y = found (placed_node true (Some 0) 0 d t) a k r h in
-    node_shorter 0 d t y.node r y.read (bare_measure y.node ∙ (ap is_no_node y.measured_as ∙ bare))
+  go (Some x) = past_keyed (key_here 0 t x.0) (placed_node true (Some 0) 0 d x.1)
+part_is false d t = past_bare (placed_node true (Some 0) 0 d t)
 
 pub items_last : (d k : ℕ) (t : List ℕ) → begins_with k t ≡ true → past_node (placed_items 0 d k t) ≡ Some (drop 1 t)
 items_last d k t h = ap past_node (items_end 0 d k t h)
@@ -253,35 +259,6 @@ items_are d t h = ap past_node (items_more 0 d t h) ∙ go (placed_item 0 d t) w
   go : (o : Option (Placed × List ℕ)) → past_node (o >>= λ x. placed_items 0 d 93 x.1 >>= λ y. Some (part None x.0 y.0, y.1)) ≡ (past_node o >>= λ r. past_node (placed_items 0 d 93 r))
   go None = refl
   go (Some x) = after x.0 (placed_items 0 d 93 x.1)
-
--- entries
--- an entry before what follows it, if anything does
-abbrev with_entry : List ℕ × Piece → Placed → Option (List ℕ) → Option (((List ℕ × Piece) × Placed) × List ℕ)
-with_entry key x o = o >>= λ r. Some ((key, x), r)
-
-past_entry : (key : List ℕ × Piece) (x : Placed) (o : Option (List ℕ)) → past_node (with_entry key x o) ≡ o
-past_entry key x None = refl
-past_entry key x (Some r) = refl
-
-past_value : (key : List ℕ × Piece) (o : Option (Placed × List ℕ)) → past_node (o >>= λ x. with_entry key x.0 (past_sep 125 x.1)) ≡ (past_node o >>= past_sep 125)
-past_value key None = refl
-past_value key (Some x) = past_entry key x.0 (past_sep 125 x.1)
-
-entry_is : (d : ℕ) (t k u : List ℕ) → split_key t ≡ Some (k, u) → past_node (placed_entry 0 d t) ≡ (past_node (placed_node true (Some 0) 0 d u) >>= past_sep 125)
-entry_is d t k u h = rw h (past_value (key_here 0 t k) (placed_node true (Some 0) 0 d u))
-
-past_measured : (o : Option (Placed × List ℕ)) → past_node o ≡ past_node (measured o)
-past_measured None = refl
-past_measured (Some x) = refl
-
-pub entry_no_key : (d : ℕ) (t : List ℕ) → split_key t ≡ None → past_node (placed_entry 0 d t) ≡ None
-entry_no_key d t h = rw h refl
-
-pub entry_none : (d : ℕ) (t k u : List ℕ) → split_key t ≡ Some (k, u) → measured (placed_node true (Some 0) 0 d u) ≡ None → past_node (placed_entry 0 d t) ≡ None
-entry_none d t k u h e = entry_is d t k u h ∙ ap (λ o. o >>= past_sep 125) (past_measured (placed_node true (Some 0) 0 d u) ∙ ap past_node e)
-
-pub entry_some : (d : ℕ) (t k u r : List ℕ) (a : Bool) (kind : MeasuredKind) → split_key t ≡ Some (k, u) → measured (placed_node true (Some 0) 0 d u) ≡ Some ((a, kind), r) → past_node (placed_entry 0 d t) ≡ past_sep 125 r
-entry_some d t k u r a kind h e = entry_is d t k u h ∙ ap (λ o. o >>= past_sep 125) (past_measured (placed_node true (Some 0) 0 d u) ∙ ap past_node e)
 
 entries_are : (d : ℕ) (t : List ℕ) → begins_with 125 t ≡ false → past_node (placed_items 0 d 125 t) ≡ (past_node (placed_entry 0 d t) >>= λ r. past_node (placed_items 0 d 125 r))
 entries_are d t h = ap past_node (entries_more 0 d t h) ∙ go (placed_entry 0 d t) where
@@ -297,36 +274,41 @@ parts_are : (keyed : Bool) (d : ℕ) (t : List ℕ) → begins_with (closing_byt
 parts_are true d t h = entries_are d t h
 parts_are false d t h = items_are d t h
 
-pub parts_none : (keyed : Bool) (d : ℕ) (t : List ℕ) → begins_with (closing_byte keyed) t ≡ false → past_part keyed d t ≡ None → past_node (placed_items 0 d (closing_byte keyed) t) ≡ None
-parts_none keyed d t h e = parts_are keyed d t h ∙ ap (λ o. o >>= λ r. past_node (placed_items 0 d (closing_byte keyed) r)) e
+parts_by : (keyed : Bool) (d : ℕ) (t : List ℕ) → begins_with (closing_byte keyed) t ≡ false → past_node (placed_items 0 d (closing_byte keyed) t) ≡
+    ((from_value keyed t >>= λ u. measured (placed_node true (Some 0) 0 d u) >>= past_value keyed) >>= λ r. past_node (placed_items 0 d (closing_byte keyed) r))
+parts_by keyed d t h = parts_are keyed d t h ∙ ap (λ o. o >>= λ r. past_node (placed_items 0 d (closing_byte keyed) r)) (part_is keyed d t)
 
-pub parts_some : (keyed : Bool) (d : ℕ) (t r : List ℕ) → begins_with (closing_byte keyed) t ≡ false → past_part keyed d t ≡ Some r → past_node (placed_items 0 d (closing_byte keyed) t) ≡ past_node (placed_items 0 d (closing_byte keyed) r)
-parts_some keyed d t r h e = parts_are keyed d t h ∙ ap (λ o. o >>= λ r. past_node (placed_items 0 d (closing_byte keyed) r)) e
+pub no_value : (keyed : Bool) (d : ℕ) (t : List ℕ) → begins_with (closing_byte keyed) t ≡ false → from_value keyed t ≡ None → past_node (placed_items 0 d (closing_byte keyed) t) ≡ None
+no_value keyed d t h e = parts_by keyed d t h ∙ rw e refl
 
--- a collection that is an item or a value
-pub list_none : (d : ℕ) (t : List ℕ) → begins_with 91 t ≡ true → past_node (placed_coll 0 d 93 (drop 1 t)) ≡ None → measured (placed_node true (Some 0) 0 d t) ≡ None
-list_none d t opens e =
-    let front = front_is 91 t opens in
-    node_content true (Some 0) d t (ap (begins_with 38) front) ∙ sequence_none true (Some 0) d t (ap (begins_with 42) front) opens e
+pub no_measure : (keyed : Bool) (d : ℕ) (t u : List ℕ) → begins_with (closing_byte keyed) t ≡ false → from_value keyed t ≡ Some u →
+    measured (placed_node true (Some 0) 0 d u) ≡ None → past_node (placed_items 0 d (closing_byte keyed) t) ≡ None
+no_measure keyed d t u h e f = parts_by keyed d t h ∙ rw e (rw f refl)
 
-pub list_some : (d : ℕ) (t r : List ℕ) → begins_with 91 t ≡ true → past_node (placed_coll 0 d 93 (drop 1 t)) ≡ Some r → measured (placed_node true (Some 0) 0 d t) ≡ Some ((false, kinds.Collection), r)
-list_some d t r opens e =
-    let front = front_is 91 t opens in
-    node_content true (Some 0) d t (ap (begins_with 38) front) ∙ sequence_some true (Some 0) d t r (ap (begins_with 42) front) opens e
+pub no_sep : (keyed : Bool) (d : ℕ) (t u : List ℕ) (m : (Bool × MeasuredKind) × List ℕ) → begins_with (closing_byte keyed) t ≡ false → from_value keyed t ≡ Some u →
+    measured (placed_node true (Some 0) 0 d u) ≡ Some m → past_value keyed m ≡ None → past_node (placed_items 0 d (closing_byte keyed) t) ≡ None
+no_sep keyed d t u m h e f g = parts_by keyed d t h ∙ rw e (rw f (rw g refl))
 
-pub map_none : (d : ℕ) (t : List ℕ) → begins_with 123 t ≡ true → past_node (placed_coll 0 d 125 (drop 1 t)) ≡ None → measured (placed_node true (Some 0) 0 d t) ≡ None
-map_none d t opens e =
-    let front = front_is 123 t opens in
-    node_content true (Some 0) d t (ap (begins_with 38) front) ∙ mapping_none true (Some 0) d t (ap (begins_with 42) front) (ap (begins_with 91) front) opens e
+pub parts_on : (keyed : Bool) (d : ℕ) (t u r : List ℕ) (m : (Bool × MeasuredKind) × List ℕ) → begins_with (closing_byte keyed) t ≡ false → from_value keyed t ≡ Some u →
+    measured (placed_node true (Some 0) 0 d u) ≡ Some m → past_value keyed m ≡ Some r → past_node (placed_items 0 d (closing_byte keyed) r) ≡ past_node (placed_items 0 d (closing_byte keyed) t)
+parts_on keyed d t u r m h e f g = sym (parts_by keyed d t h ∙ rw e (rw f (rw g refl)))
 
-pub map_some : (d : ℕ) (t r : List ℕ) → begins_with 123 t ≡ true → past_node (placed_coll 0 d 125 (drop 1 t)) ≡ Some r → measured (placed_node true (Some 0) 0 d t) ≡ Some ((false, kinds.Collection), r)
-map_some d t r opens e =
-    let front = front_is 123 t opens in
-    node_content true (Some 0) d t (ap (begins_with 38) front) ∙ mapping_some true (Some 0) d t r (ap (begins_with 42) front) (ap (begins_with 91) front) opens e
+-- an item is longer than nothing
+some_item : (b : Bool) (o : Option (List ℕ)) (r : List ℕ) → cond b None o ≡ Some r → b ≡ false
+some_item true o r h = cc
+some_item false o r h = refl
 
--- the steps of measuring an item or a value, a node, and a node without an anchor
-pub ruleset value_steps = (list_none, list_some, map_none, map_some)
+pub part_shorter : (keyed : Bool) (d : ℕ) (t u s r : List ℕ) (a : Bool) (k : MeasuredKind) → from_value keyed t ≡ Some u → (keyed ≡ true → length u < length t) →
+    measured (placed_node true (Some 0) 0 d u) ≡ Some ((a, k), s) → length s ≤ length u → past_value keyed ((a, k), s) ≡ Some r → length r ≤ length s → length r < length t
+part_shorter true d t u s r a k at less is le past short = omega (arith, less refl, le, short)
+part_shorter false d t u s r a k at less is le past short =
+    let y = found (placed_node true (Some 0) 0 d u) a k s is in
+    let some : bare_placed y.node ≡ false = bare_measure y.node ∙ (ap is_no_node y.measured_as ∙ some_item (is_no_node (a, k)) (past_sep 93 s) r past) in
+    omega (arith, node_shorter 0 d u y.node s y.read some, ap length (same_Some _ _ at), short)
 
+-- the steps of measuring a node, one that is no collection, and items or entries
 pub ruleset node_steps = (node_content, node_nameless, node_leadless, node_none, node_apart, node_some)
 
-pub ruleset content_steps = (named_none, named_some, sequence_none, sequence_some, mapping_none, mapping_some, scalar_none, scalar_some, nothing_here)
+pub ruleset leaf_steps = (named_none, named_some, scalar_none, scalar_some, nothing_here)
+
+pub ruleset part_steps = (no_value, no_measure, no_sep, items_last)

@@ -5,13 +5,14 @@ use Rattle.std.proofs.lemmas.Option.{same_Some}
 use Rattle.yq_core.{specs.Borrowed.{borrows_items, borrows_node, borrows_text}, specs.Gaps.IsInlineGap}
 use Rattle.yq_core.specs.Keys.{are_distinct, each_has_unique_keys, has_unique_keys, keys_of}
 use Rattle.yq_core.specs.Nodes.{FlowNode, empty, alias, scalar, coll, anchored, Items, none, item, Key, bare, keyed, node_text}
-use Rattle.yq_core.specs.Nodes.{flow_items_text, sep_text, key_text, IsFlowNode, AreFlowItems, IsInlineKey, IsSep, Deeper, is_empty_node}
-use Rattle.yq_core.{specs.Nodes.{begins_with, begins_content, opening_bracket}, specs.PlacedReading.{key_piece, past_sep}}
+use Rattle.yq_core.specs.Nodes.{flow_items_text, sep_text, key_text, IsFlowNode, AreFlowItems, IsInlineKey, IsSep, Deeper, is_close}
+use Rattle.yq_core.{specs.Nodes.{is_empty_node, begins_with, begins_content, opening_bracket}, specs.PlacedReading.{key_piece, past_sep}}
 use Rattle.yq_core.{specs.Scalars.scalar_content, specs.Reading.{read_flow_key, read_gap, read_scalar, sep_at}}
-use Rattle.yq_core.{specs.Trees.{items_tree, tree_of}, proofs.Bools.bind_some, proofs.GapLaws.gap_takes}
-use Rattle.yq_core.proofs.NodesPieceLaws.{front_is, key_takes, scalar_some, scalar_takes, sep_takes}
+use Rattle.yq_core.{specs.Trees.{items_tree, tree_collection, tree_of}, proofs.Bools.bind_some, proofs.GapLaws.gap_takes}
+use Rattle.yq_core.{proofs.NodeAgain.item_longer, proofs.NodesPieceLaws.{front_is, key_takes, scalar_some, scalar_takes, sep_takes}}
 use Rattle.yq_core.specs.FitKeys.{each_has_fit_keys, has_fit_keys, is_fit}
-use Rattle.yq_inline.specs.Passed.{AreApartEntries, ArePassedParts, IsPassedCollection, IsPassedContent, IsPassedKey, IsPassedNode}
+use Rattle.yq_inline.specs.Forms.{after_bracket}
+use Rattle.yq_inline.specs.Passed.{ArePassedParts, IsPassedCollection, IsPassedContent, IsPassedKey, IsPassedNode, IsPassedPart}
 
 -- more collections may be nested
 mutual
@@ -48,45 +49,41 @@ pub nothing_passed : (d : ℕ) (t : List ℕ) → begins_content true t ≡ fals
 unfolding node_text IsFlowNode tree_of
 nothing_passed d t content amp = record { node = empty; is_located = refl; valid = (content, amp); borrowed = refl; unique = refl; fit = refl }
 
--- a collection
-pub sequence_passed : (d : ℕ) (t g r rest : List ℕ) → read_gap t ≡ Some (g, r) → ArePassedParts d 93 [] r rest → IsPassedCollection 93 (d + 1) t rest
+-- a collection, and the gap after its bracket
+opened : (n : ℕ) (t r : List ℕ) → after_bracket n t ≡ Some r → (g : List ℕ) × (t ≡ g ++ r) × IsInlineGap g r
+opened zero t r h = cc
+opened (suc n) t r h =
+    let x = bind_some (read_gap t) h in
+    let a = gap_takes t x.0 x.1 in
+    let at = same_Some _ _ x.2 in
+    (x.0.0, a.0 ∙ ap (λ l. x.0.0 ++ l) at, subst (IsInlineGap x.0.0) at a.1)
+
+collection_of : (k n d : ℕ) (t r rest : List ℕ) (keys : List (List ℕ)) → is_close k ≡ true → after_bracket n t ≡ Some r →
+    (p : ArePassedParts d k keys r rest) → has_unique_keys (tree_collection k (items_tree p.items)) ≡ true → IsPassedCollection k (d + 1) t rest
 unfolding node_text IsFlowNode tree_of
-sequence_passed d t g r rest read p =
-    let a = gap_takes t (g, r) read in
+collection_of k n d t r rest keys closes begun p unique =
+    let a = opened n t r begun in
     let more : suc d ≡ d + 1 = omega arith in
     record {
       passed = record {
-        node = coll 93 g p.items;
-        is_located = ap (λ l. 91 ∷ l) (a.0 ∙ ap (λ l. g ++ l) p.are_there);
-        valid = (refl, subst (IsInlineGap g) p.are_there a.1, subst (λ (x : ℕ). Deeper x (λ e. AreFlowItems e 93 p.items rest)) more p.valid);
+        node = coll k a.0 p.items;
+        is_located = ap (λ l. opening_bracket k ∷ l) (a.1 ∙ ap (λ l. a.0 ++ l) p.are_there);
+        valid = (closes, subst (IsInlineGap a.0) p.are_there a.2, subst (λ (x : ℕ). Deeper x (λ e. AreFlowItems e k p.items rest)) more p.valid);
         borrowed = p.borrowed;
-        unique = p.unique;
+        unique = unique;
         fit = p.fit;
       };
-      gap = g;
+      gap = a.0;
       items = p.items;
       is = refl;
     }
 
-pub mapping_passed : (d : ℕ) (t g r rest : List ℕ) → read_gap t ≡ Some (g, r) → AreApartEntries d r rest → IsPassedCollection 125 (d + 1) t rest
-unfolding node_text IsFlowNode tree_of
-mapping_passed d t g r rest read e =
-    let p = e.passed in
-    let a = gap_takes t (g, r) read in
-    let more : suc d ≡ d + 1 = omega arith in
-    record {
-      passed = record {
-        node = coll 125 g p.items;
-        is_located = ap (λ l. 123 ∷ l) (a.0 ∙ ap (λ l. g ++ l) p.are_there);
-        valid = (refl, subst (IsInlineGap g) p.are_there a.1, subst (λ (x : ℕ). Deeper x (λ e. AreFlowItems e 125 p.items rest)) more p.valid);
-        borrowed = p.borrowed;
-        unique = and_from (are_distinct (keys_of (items_tree p.items))) (each_has_unique_keys (items_tree p.items)) (ap are_distinct p.keys_are ∙ e.apart) p.unique;
-        fit = p.fit;
-      };
-      gap = g;
-      items = p.items;
-      is = refl;
-    }
+pub sequence_passed : (n d : ℕ) (t r rest : List ℕ) → after_bracket n t ≡ Some r → ArePassedParts d 93 [] r rest → IsPassedCollection 93 (d + 1) t rest
+sequence_passed n d t r rest begun p = collection_of 93 n d t r rest [] refl begun p p.unique
+
+pub mapping_passed : (n d : ℕ) (t r rest : List ℕ) (keys : List (List ℕ)) → after_bracket n t ≡ Some r → ArePassedParts d 125 keys r rest → are_distinct keys ≡ true → IsPassedCollection 125 (d + 1) t rest
+mapping_passed n d t r rest keys begun p apart =
+    collection_of 125 n d t r rest keys refl begun p (and_from (are_distinct (keys_of (items_tree p.items))) (each_has_unique_keys (items_tree p.items)) (ap are_distinct p.keys_are ∙ apart) p.unique)
 
 pub collection_passed : (k d : ℕ) (t s rest : List ℕ) → t ≡ opening_bracket k ∷ s → IsPassedCollection k d s rest → IsPassedContent d t rest
 collection_passed k d t s rest front c =
@@ -98,6 +95,19 @@ collection_passed k d t s rest front c =
 
 pub bracket_front : (k : ℕ) (t s : List ℕ) → begins_with (opening_bracket k) t ≡ true → s ≡ drop 1 t → t ≡ opening_bracket k ∷ s
 bracket_front k t s begins is = front_is (opening_bracket k) t begins ∙ ap (λ l. opening_bracket k ∷ l) (sym is)
+
+-- an item is longer than nothing
+pub content_shorter : (d : ℕ) (t rest : List ℕ) → IsPassedContent d t rest → length rest < length t
+content_shorter d t rest c = let p = c.passed in omega (arith, ap length p.is_located, item_longer true (Some 0) d bare p.node rest (ap not c.some) p.valid)
+
+-- a value or an item
+pub content_part : (keyed : Bool) (d : ℕ) (t rest : List ℕ) → IsPassedContent d t rest → IsPassedPart keyed d t rest
+content_part true d t rest c = c.passed
+content_part false d t rest c = c
+
+pub nothing_part : (keyed : Bool) (t : List ℕ) → keyed ≡ true → begins_content true t ≡ false → begins_with 38 t ≡ false → IsPassedPart keyed 0 t t
+nothing_part true t is content amp = nothing_passed 0 t content amp
+nothing_part false t is content amp = cc
 
 -- after the last item or entry
 pub none_passed : (d k : ℕ) (t s : List ℕ) → begins_with k t ≡ true → s ≡ drop 1 t → ArePassedParts d k [] t s

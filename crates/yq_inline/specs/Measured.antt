@@ -1,8 +1,8 @@
 -- What is known of an inline node of which only the end is found (own).
-use Rattle.std.specs.Prelude.{◌≡◌, ℕ, Bool, true, false, ◌||◌, ◌&&◌, not, List, Option, Some, None}
-use Rattle.yq_core.{specs.Answers.◌>>=◌, specs.Text.is_empty}
+use Rattle.std.specs.Prelude.{◌≡◌, ℕ, ◌<◌, Bool, drop, length, true, false, ◌||◌, ◌&&◌, not, List, Option, Some, None, if◌then◌else◌}
+use Rattle.yq_core.{specs.Answers.◌>>=◌, specs.Nodes.{begins_with, opening_bracket}, specs.Text.is_empty}
 use Rattle.yq_core.specs.Places.{Placed, placed, CoreNode, nothing, name, text, sequence, mapping}
-use Rattle.yq_core.{specs.PlacedReading.{placed_entry, placed_item, placed_node}, specs.Reading.all_node, specs.declared.style.Style.Style}
+use Rattle.yq_core.{specs.PlacedReading.{past_sep, placed_node, split_key}, specs.Reading.all_node, specs.declared.style.Style.Style}
 use Rattle.yq_core.specs.declared.borrowed.BorrowedNode.{BorrowedNode}
 use Rattle.yq_inline.{specs.declared.measuring.MeasuredKind.MeasuredKind, specs.declared.measuring.Measured.Measured}
 use Rattle.yq_inline.specs.declared.measuring.MeasuredKind.TheVariants as kinds
@@ -78,10 +78,23 @@ abbrev pub closing_byte : Bool → ℕ
 closing_byte true = 125
 closing_byte false = 93
 
--- what follows the entry, or item, in front and what separates it (own)
-abbrev pub past_part : Bool → ℕ → List ℕ → Option (List ℕ)
-past_part true d t = past_node (placed_entry 0 d t)
-past_part false d t = past_node (placed_item 0 d t)
+-- the node of the entry, or item, in front, and what follows it (own)
+abbrev pub from_value : Bool → List ℕ → Option (List ℕ)
+from_value true t = past_node (split_key t)
+from_value false t = Some t
+
+-- what follows what separates an entry, or item, by its node (own)
+abbrev pub past_value : Bool → (Bool × MeasuredKind) × List ℕ → Option (List ℕ)
+past_value true m = past_sep 125 m.1
+past_value false m = if is_no_node m.0 then None else past_sep 93 m.1
+
+-- a mapping, or else a sequence, is in front; after its bracket is that rest (own)
+abbrev pub HasBracket : List ℕ → Bool → List ℕ → Type 0
+HasBracket t keyed rest = (begins_with (opening_bracket (closing_byte keyed)) t ≡ true) × (rest ≡ drop 1 t) × (length rest < length t)
+
+-- no collection is in front (own)
+abbrev pub HasNoBracket : List ℕ → Type 0
+HasNoBracket t = (begins_with 91 t ≡ false) × (begins_with 123 t ≡ false)
 
 -- what follows a node that a text lends (own)
 abbrev pub after_borrowed : BorrowedNode → Option (List ℕ)

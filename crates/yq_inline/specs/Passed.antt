@@ -1,9 +1,9 @@
 -- Reading (own; a reader may skip it): what is passed of flow collections that the text lends.
-use Rattle.std.specs.Prelude.{◌≡◌, ℕ, ◌<◌, ◌≤◌, true, false, List, ◌∷◌, Some}
+use Rattle.std.specs.Prelude.{◌≡◌, ℕ, ◌<◌, ◌≤◌, Bool, true, false, List, ◌∷◌, Some}
 use Rattle.yq_core.{specs.Borrowed.{borrows_items, borrows_node, borrows_text}, specs.FitKeys.{is_fit, has_fit_keys, each_has_fit_keys}}
 use Rattle.yq_core.specs.Inline.{depth_limit}
 use Rattle.yq_core.specs.Nodes.{opening_bracket, FlowNode, coll, Items, node_text, flow_items_text, IsFlowNode, AreFlowItems, is_empty_node}
-use Rattle.yq_core.{specs.Keys.{are_distinct, each_has_unique_keys, has_unique_keys, keys_of}, specs.PlacedReading.split_key}
+use Rattle.yq_core.{specs.Keys.{each_has_unique_keys, has_unique_keys, keys_of}, specs.PlacedReading.split_key}
 use Rattle.yq_core.{specs.Scalars.scalar_content, specs.Trees.{tree_of, items_tree}}
 
 -- A node that the text lends is in front, with at most d collections nested; its keys are fit, and no mapping has one twice (own).
@@ -19,6 +19,11 @@ pub record IsPassedNode (d : ℕ) (t rest : List ℕ) : Type 0 where
 pub record IsPassedContent (d : ℕ) (t rest : List ℕ) : Type 0 where
   pub passed : IsPassedNode d t rest
   pub some : is_empty_node passed.node ≡ false
+
+-- The same of the value of an entry, or of an item (own).
+abbrev pub IsPassedPart : Bool → ℕ → List ℕ → List ℕ → Type 0
+IsPassedPart true d t rest = IsPassedNode d t rest
+IsPassedPart false d t rest = IsPassedContent d t rest
 
 -- The same of a collection by its closing bracket, after the opening one (own).
 pub record IsPassedCollection (k d : ℕ) (t rest : List ℕ) : Type 0 where
@@ -36,12 +41,6 @@ pub record ArePassedParts (d k : ℕ) (keys : List (List ℕ)) (t rest : List �
   pub unique : each_has_unique_keys (items_tree items) ≡ true
   pub fit : each_has_fit_keys items ≡ true
   pub keys_are : keys_of (items_tree items) ≡ keys
-
--- The same of entries whose keys differ (own).
-pub record AreApartEntries (d : ℕ) (t rest : List ℕ) : Type 0 where
-  pub keys : List (List ℕ)
-  pub passed : ArePassedParts d 125 keys t rest
-  pub apart : are_distinct keys ≡ true
 
 -- A fit key that the text lends is in front; after its `:` and a gap is that rest (own).
 pub record IsPassedKey (content t rest : List ℕ) : Type 0 where

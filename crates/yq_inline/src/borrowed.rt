@@ -1,11 +1,11 @@
 //! Flow collections that the text lends, passed without their trees.
-ghost use Rattle.std.specs.Prelude.{◌≡◌, ◌<◌, ◌≤◌, [], IfSome, length};
+ghost use Rattle.std.specs.Prelude.{◌≡◌, ◌<◌, ◌≤◌, IfSome, length};
 ghost use Rattle.yq_inline.{specs.KeyTexts.key_texts, specs.Short.IsShortKey};
 ghost use Rattle.yq_inline.specs.Passed as spec;
 
 use crate::borrows::{borrows_text, is_short, key_fits};
 use crate::keys::{Keys, take_distinct};
-use crate::lead::read_gap;
+use crate::lead::read_open;
 use crate::pieces::{begins_content, begins_scalar, read_key, read_scalar, read_sep};
 use crate::short::{short_key, short_scalar};
 use yq_core::{borrowed_text, first_is, strip};
@@ -74,65 +74,52 @@ fn pass_key(text: &str) -> Option<(&str, &str)>
     Some((borrowed_text(key), rest))
 }
 
-/// A node that is something, in which at most so many collections are nested.
+/// What follows the value in front if `keyed`, or else the item, where it is no collection.
 #[inline(always)]
-#[cycle(passing)]
-fn pass_content<'t>(keys: &mut Keys<'t>, depth: usize, text: &'t str) -> Option<Passed<'t>>
-    ensures shorter { IfSome result (λ p. length p.rest.now < length text.now) }
-    ensures nested { IfSome result (λ p. p.nested ≤ depth) }
-    ensures passed { IfSome result (λ p. spec.IsPassedContent p.nested text.now p.rest.now) }
-    ensures kept { IfSome result (λ p. key_texts keys.new.items ≡ key_texts keys.old.items) }
+fn past_other(keyed: bool, text: &str) -> Option<&str>
+    ensures shorter { IfSome result (λ r. length r.now ≤ length text.now) }
+    ensures passed { IfSome result (λ r. spec.IsPassedPart keyed 0 text.now r.now) }
 {
-    match past_short(text) {
-        Some(rest) => Some(Passed { rest, nested: 0 }),
-        None => pass_collection(keys, depth, text),
+    if begins_scalar(true, text.as_bytes()) {
+        return past_scalar(text);
     }
+    if !keyed {
+        return None;
+    }
+    if begins_content(true, text.as_bytes()) {
+        return None;
+    }
+    if first_is(b'&', text.as_bytes()) {
+        return None;
+    }
+    Some(text)
 }
 
-/// The same, most often a collection.
+/// A value if `keyed`, or else an item, in which at most so many collections are nested.
 #[inline(always)]
 #[cycle(passing)]
-fn pass_collection<'t>(keys: &mut Keys<'t>, depth: usize, text: &'t str) -> Option<Passed<'t>>
-    ensures shorter { IfSome result (λ p. length p.rest.now < length text.now) }
+fn pass_part<'t>(
+    keys: &mut Keys<'t>,
+    keyed: bool,
+    depth: usize,
+    text: &'t str,
+) -> Option<Passed<'t>>
+    ensures shorter { IfSome result (λ p. length p.rest.now ≤ length text.now) }
     ensures nested { IfSome result (λ p. p.nested ≤ depth) }
-    ensures passed { IfSome result (λ p. spec.IsPassedContent p.nested text.now p.rest.now) }
+    ensures passed { IfSome result (λ p. spec.IsPassedPart keyed p.nested text.now p.rest.now) }
     ensures kept { IfSome result (λ p. key_texts keys.new.items ≡ key_texts keys.old.items) }
 {
+    if let Some(rest) = past_short(text) {
+        return Some(Passed { rest, nested: 0 });
+    }
     if let Some(after) = strip(b'[', text) {
         return pass_sequence(keys, depth, after);
     }
     if let Some(after) = strip(b'{', text) {
         return pass_mapping(keys, depth, after);
     }
-    if !begins_scalar(true, text.as_bytes()) {
-        return None;
-    }
-    let rest = past_scalar(text)?;
+    let rest = past_other(keyed, text)?;
     Some(Passed { rest, nested: 0 })
-}
-
-/// A node in which at most so many collections are nested.
-#[inline(always)]
-#[cycle(passing)]
-fn pass_node<'t>(keys: &mut Keys<'t>, depth: usize, text: &'t str) -> Option<Passed<'t>>
-    ensures shorter { IfSome result (λ p. length p.rest.now ≤ length text.now) }
-    ensures nested { IfSome result (λ p. p.nested ≤ depth) }
-    ensures passed { IfSome result (λ p. spec.IsPassedNode p.nested text.now p.rest.now) }
-    ensures kept { IfSome result (λ p. key_texts keys.new.items ≡ key_texts keys.old.items) }
-{
-    if let Some(rest) = past_short(text) {
-        return Some(Passed { rest, nested: 0 });
-    }
-    if begins_content(true, text.as_bytes()) {
-        return pass_collection(keys, depth, text);
-    }
-    if first_is(b'&', text.as_bytes()) {
-        return None;
-    }
-    Some(Passed {
-        rest: text,
-        nested: 0,
-    })
 }
 
 /// A sequence after its `[`, in which at most so many collections are nested, itself among them.
@@ -148,20 +135,29 @@ pub(crate) fn pass_sequence<'t>(
         spec.IsPassedCollection 93 p.nested text.now p.rest.now) }
     ensures kept { IfSome result (λ p. key_texts keys.new.items ≡ key_texts keys.old.items) }
 {
-    if depth == 0 {
-        return None;
-    }
-    let Ok((_, rest)) = read_gap(text, text) else {
+    let Ok(first) = read_open(text, depth, text) else {
         return None;
     };
-    let items = pass_items(keys, depth - 1, rest)?;
-    Some(Passed {
-        rest: items.rest,
-        nested: items.nested + 1,
-    })
+    let mut nested = 0;
+    let mut rest = first;
+    'each: loop {
+        if let Some(following) = strip(b']', rest) {
+            return Some(Passed {
+                rest: following,
+                nested: nested + 1,
+            });
+        }
+        let item = pass_part(keys, false, depth - 1, rest)?;
+        let Ok(after) = read_sep(b']', text, text, item.rest) else {
+            return None;
+        };
+        nested = nested.max(item.nested);
+        rest = after;
+    }
 }
 
-/// A mapping after its `{`, in which at most so many collections are nested, itself among them.
+/// A mapping after its `{`, in which at most so many collections are nested, itself among them; its keys
+/// differ.
 #[cycle(passing)]
 pub(crate) fn pass_mapping<'t>(
     keys: &mut Keys<'t>,
@@ -174,58 +170,12 @@ pub(crate) fn pass_mapping<'t>(
         spec.IsPassedCollection 125 p.nested text.now p.rest.now) }
     ensures kept { IfSome result (λ p. key_texts keys.new.items ≡ key_texts keys.old.items) }
 {
-    if depth == 0 {
-        return None;
-    }
-    let Ok((_, rest)) = read_gap(text, text) else {
+    let Ok(first) = read_open(text, depth, text) else {
         return None;
     };
-    let entries = pass_entries(keys, depth - 1, rest)?;
-    Some(Passed {
-        rest: entries.rest,
-        nested: entries.nested + 1,
-    })
-}
-
-/// The items in front and their `]`.
-#[inline(always)]
-#[cycle(passing)]
-fn pass_items<'t>(keys: &mut Keys<'t>, depth: usize, text: &'t str) -> Option<Passed<'t>>
-    ensures shorter { IfSome result (λ p. length p.rest.now ≤ length text.now) }
-    ensures nested { IfSome result (λ p. p.nested ≤ depth) }
-    ensures passed { IfSome result (λ p. spec.ArePassedParts p.nested 93 [] text.now p.rest.now) }
-    ensures kept { IfSome result (λ p. key_texts keys.new.items ≡ key_texts keys.old.items) }
-{
-    let mut nested = 0;
-    let mut rest = text;
-    'each: loop {
-        if let Some(following) = strip(b']', rest) {
-            return Some(Passed {
-                rest: following,
-                nested,
-            });
-        }
-        let item = pass_content(keys, depth, rest)?;
-        let Ok(after) = read_sep(b']', text, text, item.rest) else {
-            return None;
-        };
-        nested = nested.max(item.nested);
-        rest = after;
-    }
-}
-
-/// The entries in front and their `}`, where their keys differ.
-#[inline(always)]
-#[cycle(passing)]
-fn pass_entries<'t>(keys: &mut Keys<'t>, depth: usize, text: &'t str) -> Option<Passed<'t>>
-    ensures shorter { IfSome result (λ p. length p.rest.now ≤ length text.now) }
-    ensures nested { IfSome result (λ p. p.nested ≤ depth) }
-    ensures passed { IfSome result (λ p. spec.AreApartEntries p.nested text.now p.rest.now) }
-    ensures kept { IfSome result (λ p. key_texts keys.new.items ≡ key_texts keys.old.items) }
-{
     let others = keys.len();
     let mut nested = 0;
-    let mut rest = text;
+    let mut rest = first;
     'each: loop {
         if let Some(following) = strip(b'}', rest) {
             if !take_distinct(keys, others) {
@@ -233,11 +183,11 @@ fn pass_entries<'t>(keys: &mut Keys<'t>, depth: usize, text: &'t str) -> Option<
             }
             return Some(Passed {
                 rest: following,
-                nested,
+                nested: nested + 1,
             });
         }
         let (key, value) = pass_key(rest)?;
-        let node = pass_node(keys, depth, value)?;
+        let node = pass_part(keys, true, depth - 1, value)?;
         let Ok(after) = read_sep(b'}', text, text, node.rest) else {
             return None;
         };

@@ -92,6 +92,7 @@ pub fn read_gap<'t>(whole: &str, text: &'t str) -> Result<(&'t str, &'t str), Re
 }
 
 /// What follows an opening bracket and the gap after it, where so many collections may be nested still.
+#[inline(always)]
 pub(crate) fn read_open<'t>(whole: &str, depth: usize, text: &'t str) -> Result<&'t str, ReadFault>
     ensures read { ReadsAs (λ x. x.now) result (after_bracket depth text.now) }
     ensures shorter { IfOk result (λ x. length x.now ≤ length text.now) }

@@ -1,14 +1,13 @@
 //! The ends of inline nodes, found without their trees.
-ghost use Rattle.std.specs.Prelude.{◌≡◌, ◌≢◌, ◌<◌, ◌≤◌, IfErr, IfOk, IfSome, Some, false, length, true};
-ghost use Rattle.yq_core.{specs.Answers.ReadsAs, specs.declared.fault.FaultKind.TheVariants.NotUtf8};
-ghost use Rattle.yq_core.specs.Scalars.{scalar_style as style_at};
-ghost use Rattle.yq_core.specs.PlacedReading.{placed_node, placed_content, placed_coll, placed_items};
-ghost use Rattle.yq_inline.{specs.InlineAnswers.{MeasuresNode, PassesNode}, specs.Measured.measured_view};
+ghost use Rattle.std.specs.Prelude.{◌≡◌, ◌≢◌, ◌<◌, ◌≤◌, IfErr, IfOk, IfSome, MatchOption, Some, false, length, true};
+ghost use Rattle.yq_core.{specs.Answers.ReadsAs, specs.Nodes.begins_with, specs.declared.fault.FaultKind.TheVariants.NotUtf8};
+ghost use Rattle.yq_core.{specs.Scalars.scalar_style as style_at, specs.PlacedReading.{placed_node, placed_content, placed_coll}};
+ghost use Rattle.yq_inline.{specs.InlineAnswers.{MeasuresNode, PassesNode}, specs.Measured.{closing_byte, measured_view}};
 ghost use Rattle.yq_inline.specs.Measured as spec;
-ghost use Rattle.yq_core.specs.PlacedReading as reading;
 
 use crate::fault::flow_fault;
-use crate::lead::read_gap;
+use crate::lead::read_open;
+use crate::parts::closing_bracket;
 use crate::pieces::{
     begins_content, no_node, read_key, read_lead, read_name, read_scalar, read_sep,
 };
@@ -99,7 +98,7 @@ pub fn measure_node<'t>(
     text: &'t str,
 ) -> Result<Measured<'t>, ReadFault>
     ensures shorter { IfOk result (λ m. length m.rest.now ≤ length text.now) }
-    ensures read { MeasuresNode result (reading.placed_node flow spaces 0 depth text.now) }
+    ensures read { MeasuresNode result (placed_node flow spaces 0 depth text.now) }
     ensures fault { IfErr result (λ f. f.kind ≢ NotUtf8) }
 {
     let Some(after) = strip(b'&', text) else {
@@ -118,32 +117,24 @@ pub fn measure_node<'t>(
     })
 }
 
-/// The node in front, which has no anchor.
+/// The node in front, where it has no anchor and is no collection.
 #[inline(always)]
-#[cycle(ends)]
-#[tactic(auto, using(crate::proofs::MeasureSteps::content_steps))]
-fn measure_content<'t>(
+#[tactic(auto, using(crate::proofs::MeasureSteps::leaf_steps))]
+fn measure_leaf<'t>(
     flow: bool,
     spaces: Option<usize>,
     whole: &str,
-    depth: usize,
     text: &'t str,
 ) -> Result<Measured<'t>, ReadFault>
+    requires sequence { begins_with 91 text.now ≡ false }
+    requires mapping { begins_with 123 text.now ≡ false }
     ensures shorter { IfOk result (λ m. length m.rest.now ≤ length text.now) }
-    ensures read { MeasuresNode result (reading.placed_content flow spaces 0 depth text.now) }
+    ensures read { MeasuresNode result (placed_content flow spaces 0 0 text.now) }
     ensures fault { IfErr result (λ f. f.kind ≢ NotUtf8) }
 {
     if let Some(after) = strip(b'*', text) {
         let (_, rest) = read_name(whole, after)?;
         return Ok(unanchored(MeasuredKind::Alias, rest));
-    }
-    if let Some(after) = strip(b'[', text) {
-        let rest = measure_collection(whole, depth, false, after)?;
-        return Ok(unanchored(MeasuredKind::Collection, rest));
-    }
-    if let Some(after) = strip(b'{', text) {
-        let rest = measure_collection(whole, depth, true, after)?;
-        return Ok(unanchored(MeasuredKind::Collection, rest));
     }
     if begins_content(flow, text.as_bytes()) {
         let (piece, rest) = read_scalar(flow, spaces, whole, text)?;
@@ -152,101 +143,119 @@ fn measure_content<'t>(
     Ok(unanchored(MeasuredKind::Nothing, text))
 }
 
-/// What follows a mapping, or else a sequence, of which the `{` or `[` came before the text.
+/// Whether a mapping, or else a sequence, is in front, and what follows its bracket.
+#[inline(always)]
+fn split_opening(text: &str) -> Option<(bool, &str)>
+    ensures { MatchOption result (spec.HasNoBracket text.now) (λ x. spec.HasBracket text.now x.0 x.1.now) }
+{
+    if let Some(rest) = strip(b'[', text) {
+        return Some((false, rest));
+    }
+    let rest = strip(b'{', text)?;
+    Some((true, rest))
+}
+
+/// The node in front, which has no anchor.
+#[inline(always)]
 #[cycle(ends)]
-#[tactic(auto, using(crate::proofs::MeasureSteps::coll_no_gap, crate::proofs::MeasureSteps::coll_too_deep, crate::proofs::MeasureSteps::coll_items))]
-fn measure_collection<'t>(
+#[tactic(auto, using(crate::proofs::MeasureSteps::coll_none, crate::proofs::MeasureSteps::coll_some))]
+fn measure_content<'t>(
+    flow: bool,
+    spaces: Option<usize>,
     whole: &str,
     depth: usize,
-    keyed: bool,
     text: &'t str,
-) -> Result<&'t str, ReadFault>
-    ensures shorter { IfOk result (λ r. length r.now ≤ length text.now) }
-    ensures read { PassesNode result (reading.placed_coll 0 depth (spec.closing_byte keyed) text.now) }
+) -> Result<Measured<'t>, ReadFault>
+    ensures shorter { IfOk result (λ m. length m.rest.now ≤ length text.now) }
+    ensures read { MeasuresNode result (placed_content flow spaces 0 depth text.now) }
     ensures fault { IfErr result (λ f. f.kind ≢ NotUtf8) }
 {
-    let (_, rest) = read_gap(whole, text)?;
-    if depth == 0 {
-        return Err(fault(FaultKind::TooDeep, whole, text));
-    }
-    measure_parts(whole, depth - 1, keyed, text, rest)
+    let Some((keyed, inside)) = split_opening(text) else {
+        return measure_leaf(flow, spaces, whole, text);
+    };
+    let rest = measure_parts(whole, depth, keyed, inside)?;
+    Ok(unanchored(MeasuredKind::Collection, rest))
 }
 
 /// The node in front of an item or of a value.
 #[inline(always)]
 #[cycle(ends)]
-#[tactic(auto, using(crate::proofs::MeasureSteps::value_steps))]
 pub(crate) fn measure_value<'t>(
     whole: &str,
     depth: usize,
     text: &'t str,
 ) -> Result<Measured<'t>, ReadFault>
     ensures shorter { IfOk result (λ m. length m.rest.now ≤ length text.now) }
-    ensures read { MeasuresNode result (reading.placed_node true (Some 0) 0 depth text.now) }
+    ensures read { MeasuresNode result (placed_node true (Some 0) 0 depth text.now) }
     ensures fault { IfErr result (λ f. f.kind ≢ NotUtf8) }
 {
-    if let Some(node) = measure_scalar(text) {
-        return Ok(node);
+    match measure_scalar(text) {
+        Some(node) => Ok(node),
+        None => measure_node(true, Some(0), whole, depth, text),
     }
-    if let Some(after) = strip(b'[', text) {
-        let rest = measure_collection(whole, depth, false, after)?;
-        return Ok(unanchored(MeasuredKind::Collection, rest));
-    }
-    if let Some(after) = strip(b'{', text) {
-        let rest = measure_collection(whole, depth, true, after)?;
-        return Ok(unanchored(MeasuredKind::Collection, rest));
-    }
-    measure_node(true, Some(0), whole, depth, text)
 }
 
-/// What follows the entry, or item, in front and the `,` after it; after the `{` or `[` was `open`.
-#[cycle(ends)]
-#[tactic(auto, using(crate::proofs::MeasureSteps::item_none, crate::proofs::MeasureSteps::item_bare, crate::proofs::MeasureSteps::item_some, crate::proofs::MeasureSteps::entry_no_key, crate::proofs::MeasureSteps::entry_none, crate::proofs::MeasureSteps::entry_some))]
-fn measure_part<'t>(
+/// The node of the entry, or item, in front, and what follows it; after the `{` or `[` was `open`.
+#[inline(always)]
+fn find_value<'t>(whole: &str, keyed: bool, open: &str, text: &'t str) -> Result<&'t str, ReadFault>
+    ensures shorter { IfOk result (λ r. length r.now ≤ length text.now) }
+    ensures after_key { IfOk result (λ r. keyed ≡ true → length r.now < length text.now) }
+    ensures read { ReadsAs (λ r. r.now) result (spec.from_value keyed text.now) }
+    ensures fault { IfErr result (λ f. f.kind ≢ NotUtf8) }
+{
+    if !keyed {
+        return Ok(text);
+    }
+    let (_, rest) = read_key(whole, open, text)?;
+    Ok(rest)
+}
+
+/// What follows the entry, or item, in front of `text` and the `,` after it, by its node; after the `{` or
+/// `[` was `open`.
+#[inline(always)]
+fn past_value<'t>(
     whole: &str,
-    depth: usize,
     keyed: bool,
     open: &str,
-    text: &'t str,
+    text: &str,
+    node: Measured<'t>,
 ) -> Result<&'t str, ReadFault>
-    ensures shorter { IfOk result (λ r. length r.now < length text.now) }
-    ensures read { ReadsAs (λ r. r.now) result (spec.past_part keyed depth text.now) }
+    ensures shorter { IfOk result (λ r. length r.now ≤ length node.entry.rest.now) }
+    ensures read { ReadsAs (λ r. r.now) result (spec.past_value keyed (measured_view node.entry)) }
     ensures fault { IfErr result (λ f. f.kind ≢ NotUtf8) }
 {
     if keyed {
-        let (_, rest) = read_key(whole, open, text)?;
-        let value = measure_value(whole, depth, rest)?;
-        return read_sep(b'}', whole, open, value.rest);
+        return read_sep(b'}', whole, open, node.rest);
     }
-    let item = measure_value(whole, depth, text)?;
-    if is_bare(item) {
+    if is_bare(node) {
         let kind = no_node(text.as_bytes(), FaultKind::BadFlow);
         return Err(flow_fault(kind, whole, open, text));
     }
-    read_sep(b']', whole, open, item.rest)
+    read_sep(b']', whole, open, node.rest)
 }
 
-/// What follows the entries, or items, in front and their `}` or `]`; after their `{` or `[` was
-/// `open`.
+/// What follows a mapping, or else a sequence, of which the `{` or `[` came before the text.
 #[cycle(ends)]
-#[tactic(auto, using(crate::proofs::MeasureSteps::parts_none, crate::proofs::MeasureSteps::items_last))]
+#[tactic(auto, using(crate::proofs::MeasureSteps::unopened, crate::proofs::MeasureSteps::part_steps))]
 fn measure_parts<'t>(
     whole: &str,
     depth: usize,
     keyed: bool,
-    open: &str,
     text: &'t str,
 ) -> Result<&'t str, ReadFault>
     ensures shorter { IfOk result (λ r. length r.now ≤ length text.now) }
-    ensures read { PassesNode result (reading.placed_items 0 depth (spec.closing_byte keyed) text.now) }
+    ensures read { PassesNode result (placed_coll 0 depth (closing_byte keyed) text.now) }
     ensures fault { IfErr result (λ f. f.kind ≢ NotUtf8) }
 {
-    let closing = if keyed { b'}' } else { b']' };
-    let mut rest = text;
+    let closing = closing_bracket(keyed);
+    let first = read_open(whole, depth, text)?;
+    let mut rest = first;
     'each: loop {
         if let Some(after) = strip(closing, rest) {
             return Ok(after);
         }
-        rest = measure_part(whole, depth, keyed, open, rest)?;
+        let value = find_value(whole, keyed, text, rest)?;
+        let node = measure_value(whole, depth - 1, value)?;
+        rest = past_value(whole, keyed, text, rest, node)?;
     }
 }

@@ -125,9 +125,9 @@ held_by e s t below = record {
   head = s.head;
   white = t.white;
   comment = t.comment;
-  break = if is_empty below then [] else t.position_after;
+  break = if is_empty below then [] else t.after;
   lines = less_break below;
-  last = if is_empty below then t.position_after else last_break below;
+  last = if is_empty below then t.after else last_break below;
   after = after_entry e;
 }
 

@@ -142,7 +142,7 @@ fn read_rows<'t>(
     ensures found { GivesRows whole.now rows result (spec.all_rows unlimited text.now) }
     ensures placed { PlacesRows whole.now text.now rows result (spec.all_rows unlimited text.now) }
     ensures kept { IfOk result (λ x. AreRowsIn whole.now x.0.items) }
-    ensures following { IfOk result (λ x. Ends x.2.now whole.now) }
+    ensures after { IfOk result (λ x. Ends x.2.now whole.now) }
     ensures others { KeepOthers whole.now rows notes.old result notes.new }
     ensures fault { IfErr result IsOfText }
 {
