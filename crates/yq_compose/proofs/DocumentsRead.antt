@@ -1,5 +1,5 @@
 -- A text reads as documents where the keys of its rows are fit and its documents are sound.
-use Rattle.std.proofs.Common.{rules, ◌≡◌, get_or, ℕ, zero, suc, ◌+◌, ◌<◌, ◌≤◌, ◌-◌, Bool, true, false, ◌||◌, ◌&&◌, not, List, [], ◌∷◌, ◌++◌}
+use Rattle.std.proofs.Common.{◌≡◌, get_or, ℕ, zero, suc, ◌+◌, ◌<◌, ◌≤◌, ◌-◌, Bool, true, false, ◌||◌, ◌&&◌, not, List, [], ◌∷◌, ◌++◌}
 use Rattle.std.{proofs.Common.{length, take, drop, Option, Some, None, refl, sym, ap, ◌∙◌, subst, arith}, proofs.lemmas.Bool.false≢true}
 use Rattle.std.{proofs.lemmas.List.Folds.list_all-append, proofs.lemmas.Option.{slice_get-get_or, slice_get_within}}
 use Rattle.std.specs.List.{list_all, list_any, slice_get}

@@ -2,7 +2,7 @@
 use Rattle.std.proofs.Common.{rules, ◌≡◌, ℕ, zero, suc, ◌+◌, ◌-◌, ◌≤◌, ◌||◌, Bool, true, false, List, [], ◌∷◌, length, take, drop, Option, Some, None}
 use Rattle.std.proofs.Common.{refl, subst, sym, ap, ◌∙◌, arith}
 use Rattle.std.{proofs.lemmas.Bool.{false≢true, le-leb}, proofs.lemmas.Option.same_Some}
-use Rattle.std.{specs.List.slice_get, specs.Prelude.{is_none, is_some, option_map}}
+use Rattle.std.{specs.List.slice_get, specs.Prelude.{is_some, option_map}}
 use denote.Bor.{Bor}
 use Rattle.yq_core.{specs.Borrowed.{is_borrowed, leading_node}, specs.Nodes.begins_with, specs.declared.kind.Kind.Kind}
 use Rattle.yq_core.{specs.Tree.{Node, alias, scalar}, specs.Places.Placed, specs.Trees.placed_tree}
@@ -17,9 +17,9 @@ use Rattle.yq_compose.{specs.Checking.IsCheckable, specs.Named.flow_names, proof
 use Rattle.yq_outline.specs.declared.line.Head as heads
 
 -- nothing is there
-pub none_of : (o : Option (Bor Decoded)) → is_none o ≡ true → option_map (λ m. m.now) o ≡ None
+pub none_of : (o : Option (Bor Decoded)) → is_some o ≡ false → option_map (λ m. m.now) o ≡ None
 none_of None e = refl
-none_of (Some m) e = absurd (false≢true e)
+none_of (Some m) e = absurd (false≢true (sym e))
 
 -- an item of a part of a list is one of the list
 get_take : {A : Type 0} (n i : ℕ) (xs : List A) (x : A) → slice_get (take n xs) i ≡ Some x → slice_get xs i ≡ Some x

@@ -1,6 +1,6 @@
 -- The anchors and aliases of lines, row by row.
-use Rattle.std.proofs.Common.{rules, ◌≡◌, ℕ, ◌+◌, ◌≤◌, List, [], ◌++◌, drop, length, Option, Some, None, refl, sym, ap, ◌∙◌, append_assoc}
-use Rattle.std.{proofs.Common.append-nil, proofs.lemmas.List.drop_all, specs.List.slice_get, specs.Prelude.{option_and_then, option_map}}
+use Rattle.std.proofs.Common.{◌≡◌, ℕ, ◌+◌, ◌≤◌, List, [], ◌++◌, drop, length, Option, Some, None, refl, sym, ap, ◌∙◌, append_assoc}
+use Rattle.std.{proofs.Common.append-nil, proofs.lemmas.List.drop_all, specs.List.slice_get}
 use Rattle.yq_core.specs.Anchors.{Name, anchor_names}
 use Rattle.yq_outline.{specs.Names.{head_names, line_names}, specs.Outline.Line, specs.Lines.{content_anchor, head_of, lines_of_rows}}
 use Rattle.yq_outline.proofs.WalkLevels.{names_row}

@@ -64,7 +64,7 @@ fn decode_others<'t>(
             made,
             refers: named,
         } = found;
-        refers = refers || named;
+        refers |= named;
         push_decoded(&mut decoded, made)?;
         left = after;
     }
@@ -98,7 +98,7 @@ fn decode_each<'t>(
             Err(e) => return Err(e),
         };
         let RowRead { made, refers: here } = found;
-        refers = refers || here;
+        refers |= here;
         push_decoded(&mut decoded, made)?;
         at += 1;
     }

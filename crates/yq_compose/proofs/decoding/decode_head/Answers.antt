@@ -2,7 +2,7 @@ use Rattle.std.{proofs.Common.{rules, ℕ, List, ◌++◌, refl, sym, ap, ◌∙
 use Rattle.std.{proofs.lemmas.Int.to_z-of_z, specs.List.list_any}
 use Rattle.yq_core.specs.{Nodes.begins_with, Text.is_empty}
 use Rattle.yq_outline.specs.Names.{is_reference}
-use Rattle.yq_row_table.{specs.Rows.parent_indent, specs.View.{Slices, slices}}
+use Rattle.yq_row_table.{specs.View.{Slices, slices}}
 use Rattle.yq_documents.specs.Reading.{cut_of}
 use Rattle.yq_compose.{specs.Named.flow_names, proofs.DocumentsRead.cut_view}
 use Rattle.yq_compose.proofs.RowsRead.{alias_fit, alias_given, borrowed_fit, fit_agrees, head_quoted, head_read, lent_fit, lent_given}
@@ -112,8 +112,8 @@ returns-in-Ok-clause-agrees c = λ r is.
     c.head-head.result.now parent head c.in-Ok.head c.in-Ok.ensures.view c.in-Ok.ensures.flow in
     record { head = given; names_none = λ e. ap (λ o. list_any is_reference (flow_names o)) (sym given.1) ∙ (sym c.head_refers.ensures ∙ e) }
 
-pub returns-in-Err-clause-fits : goal.returns-in-Err-clause-fits
-returns-in-Err-clause-fits c = λ r is.
+pub returns-clause-fits : goal.returns-clause-fits
+returns-clause-fits c = λ r is.
     let k = c.requires.cut in
     let pieces = pieces_there c.args.text.now c.args.rows.now k c.args.other.row r is in
     let head = c.head-head.ensures (slices r) pieces in

@@ -1,5 +1,5 @@
 use Rattle.std.proofs.Common.{◌≡◌, ℕ, ◌+◌, ◌-◌, ◌++◌, drop, length, sym, ap, ◌∙◌, arith}
-use Rattle.yq_outline.{specs.Names.{head_names, line_names}, specs.Lines.{head_of, lines_of_rows}, specs.RowWalk.IsLine, proofs.WalkRows.rows_length}
+use Rattle.yq_outline.{specs.Names.{line_names}, specs.Lines.{head_of, lines_of_rows}, specs.RowWalk.IsLine, proofs.WalkRows.rows_length}
 use Rattle.yq_outline.proofs.WalkPositions.{located}
 use Rattle.yq_row_table.specs.{Exchange.after_row, View.slices}
 use Rattle.yq_documents.{specs.FlowReading.row_flow, specs.RowReading.name_in, proofs.RowLineLaws.anchor_is}

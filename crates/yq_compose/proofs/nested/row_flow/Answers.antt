@@ -1,6 +1,4 @@
-use Rattle.std.proofs.Common.{◌≡◌, ap, ◌∙◌, sym, subst, Option}
-use Rattle.yq_documents.specs.{Decoded.{IsGivenHead, IsKnownRow, decoded_at, made_head}}
-use Rattle.yq_documents.specs.declared.decoded.Decoded.{Decoded}
+use Rattle.std.proofs.Common.{◌∙◌}
 use Rattle.yq_compose.proofs.HeadViewLaws.{known_row}
 use Rattle.yq_compose.proofs.nested.row_flow.Goals as goal
 

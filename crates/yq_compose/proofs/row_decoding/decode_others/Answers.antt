@@ -1,4 +1,4 @@
-use Rattle.std.proofs.Common.{ℕ, suc, get_or, length, arith, refl, subst}
+use Rattle.std.proofs.Common.{ℕ, suc, ◌||◌, get_or, length, arith, refl, subst}
 use Rattle.yq_row_table.{specs.View.{rows_of, slices}, specs.declared.rows.Other.Other}
 use Rattle.yq_documents.{specs.Reading.{cut_of, have_fit_keys}, specs.RowReading.row_fits}
 use Rattle.yq_compose.{proofs.AllOf.all_fails, proofs.DecidingLaws.denies_as, proofs.WordRowLaws.{next_other, no_other}}
@@ -40,7 +40,7 @@ rows-preserved c =
     record {
       at = suc (get_or c.rows.left.now 0 none).row;
       within = omega (arith, u.0);
-      upto = subst (λ (n : ℕ). DecodedUpto c.args.text.now _ n c.push_decoded.new.decoded.items) (omega arith)
+      upto = subst (λ (n : ℕ). DecodedUpto c.args.text.now (c.rows.refers || c.in-Ok.found.refers) n c.push_decoded.new.decoded.items) (omega arith)
           (row_step c.args.text.now c.rows.refers (get_or c.rows.left.now 0 none).row c.rows.decoded.items u.1 r.0 r.1 (c.in-Ok.ensures.fits r.0 r.1) c.in-Ok.found.made
           c.push_decoded.new.decoded.items c.in-Ok.ensures.row c.in_ok-push_decoded.ensures (c.in-Ok.ensures.agrees r.0 r.1) c.in-Ok.found.refers _ refl (c.in-Ok.ensures.refers r.0 r.1));
       others = u.3;
