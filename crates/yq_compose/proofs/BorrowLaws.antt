@@ -3,8 +3,7 @@ use Rattle.std.proofs.Common.{◌≡◌, ℕ, ℤ, eqb, Bool, true, false, not, 
 use Rattle.std.proofs.lemmas.Bool.{and_parts, false≢true, not-true, or_parts}
 use Rattle.yq_core.{specs.Borrowed.{borrowed_text, borrows_text}, specs.ContentReading.quoted_content, specs.Nodes.begins_with}
 use Rattle.yq_core.{specs.Quoted.IsQuotedText, specs.Text.is_empty, specs.Scalars.{is_quoted, scalar_content}}
-use Rattle.yq_core.proofs.BorrowedTexts.{borrows_key, borrows_parts}
-use Rattle.yq_core.proofs.Bools.{at_byte}
+use Rattle.yq_core.{proofs.BorrowedTexts.{borrows_key, borrows_parts}, proofs.Bools.at_byte}
 use Rattle.yq_documents.{specs.Decoded.{begins_flow, borrowed_head, opens_collection}, specs.FlowReading.head_flow_at}
 use Rattle.yq_documents.specs.RowReading.{is_block_head, read_head, is_short_plain, string_head}
 use Rattle.yq_compose.specs.Checking.{begins_tree, borrows_head}

@@ -1,8 +1,8 @@
 -- What is made of rows, one after the other.
-use Rattle.std.proofs.Common.{◌≡◌, ◌⊎◌, inl, inr, ℕ, suc, ◌+◌, ◌<◌, ◌≤◌, eqb, Bool, true, false, ◌&&◌, ◌||◌, cond, List, [], ◌∷◌, ◌++◌, length}
-use Rattle.std.proofs.Common.{drop, Option, Some, None, refl, sym, ap, ◌∙◌, subst, arith, append-nil}
-use Rattle.std.{proofs.lemmas.Bool.{cases_lt, cond-false, cond-true, eq-eqb, ne_eqb, or_parts}, proofs.lemmas.Option.{same_Some, slice_get_within}}
-use Rattle.std.{specs.List.{list_all, slice_get}, specs.Prelude.IfSome}
+use Rattle.std.proofs.Common.{◌≡◌, ◌⊎◌, inl, inr, ℕ, suc, ◌+◌, ◌<◌, ◌≤◌, eqb, Bool, true, false, ◌&&◌, ◌||◌, cond, List, [], ◌∷◌, ◌++◌}
+use Rattle.std.proofs.Common.{length, drop, Option, Some, None, refl, sym, ap, ◌∙◌, subst, arith, append-nil}
+use Rattle.std.proofs.lemmas.Bool.{cases_lt, cond-false, cond-true, eq-eqb, ne_eqb, or_parts}
+use Rattle.std.{proofs.lemmas.Option.{same_Some, slice_get_within}, specs.List.{list_all, slice_get}, specs.Prelude.IfSome}
 use Rattle.yq_row_table.{specs.Rows.Row, specs.View.rows_of}
 use Rattle.yq_documents.specs.Decoded.{IsDecoded, IsDecodedBy, Rise, decoded_at}
 use Rattle.yq_documents.{specs.Reading.{content_is_fit, cut_of, have_fit_keys, mark_is_fit}, specs.RowReading.row_fits}

@@ -1,18 +1,18 @@
 -- What a line's head spells, by what is made of its row.
-use Rattle.std.proofs.Common.{rules, ◌≡◌, ℕ, zero, suc, ◌+◌, ◌-◌, ◌≤◌, ◌||◌, Bool, true, false, List, [], ◌∷◌, length, take, drop, Option, Some, None}
-use Rattle.std.proofs.Common.{refl, subst, sym, ap, ◌∙◌, arith}
-use Rattle.std.{proofs.lemmas.Bool.{false≢true, le-leb}, proofs.lemmas.Option.same_Some}
-use Rattle.std.{specs.List.slice_get, specs.Prelude.{is_some, option_map}}
+use Rattle.std.proofs.Common.{rules, ◌≡◌, ℕ, zero, suc, ◌+◌, ◌-◌, ◌≤◌, ◌||◌, Bool, true, false, List, [], ◌∷◌, length, take, drop, Option}
+use Rattle.std.{proofs.Common.{Some, None, refl, subst, sym, ap, ◌∙◌, arith}, proofs.lemmas.Bool.{false≢true, le-leb}}
+use Rattle.std.{proofs.lemmas.Option.same_Some, specs.List.slice_get, specs.Prelude.{is_some, option_map}}
 use denote.Bor.{Bor}
 use Rattle.yq_core.{specs.Borrowed.{is_borrowed, leading_node}, specs.Nodes.begins_with, specs.declared.kind.Kind.Kind}
 use Rattle.yq_core.{specs.Tree.{Node, alias, scalar}, specs.Places.Placed, specs.Trees.placed_tree}
 use Rattle.yq_outline.{specs.Extents.head_place, specs.Names.head_names, specs.View.{content_view, head_flow, head_view}}
-use Rattle.yq_outline.{specs.Outline.Line, specs.Sound.head_is_sound, specs.Lines.{head_of, lines_of_rows}, specs.RowWalk.{IsLine, line_number}}
-use Rattle.yq_outline.{specs.declared.line_position.Position.Position, specs.declared.line_position.Stretch.Stretch}
-use Rattle.yq_outline.{proofs.KnownLaws.get_dropped, proofs.WalkPositions.located}
+use Rattle.yq_outline.{specs.Outline.Line, specs.Sound.head_is_sound, specs.Lines.{head_of, lines_of_rows}}
+use Rattle.yq_outline.{specs.RowWalk.{IsLine, line_number}, specs.declared.line_position.Position.Position}
+use Rattle.yq_outline.{specs.declared.line_position.Stretch.Stretch, proofs.KnownLaws.get_dropped, proofs.WalkPositions.located}
 use Rattle.yq_row_table.{specs.Exchange.after_row, specs.Rows.Row, specs.View.{RowsView, rows_of, slices}}
-use Rattle.yq_documents.specs.Decoded.{IsGiven, IsGivenHead, IsKnownRow, IsLent, alias_from, borrowed_depth, borrowed_head, decoded_at, made_head, opens_collection}
-use Rattle.yq_documents.{specs.FlowReading.row_flow, specs.declared.decoded.Decoded.Decoded}
+use Rattle.yq_documents.specs.Decoded.{IsKnownAs, IsKnownHead, IsKnownRow, IsBorrowedAs, alias_from, borrowed_depth, borrowed_head}
+use Rattle.yq_documents.{specs.Decoded.{decoded_at, owned_head, opens_collection}, specs.FlowReading.row_flow}
+use Rattle.yq_documents.specs.declared.decoded.Decoded.{Decoded}
 use Rattle.yq_compose.{specs.Checking.IsCheckable, specs.Named.flow_names, proofs.BorrowedDepths.depth_kept, proofs.PositionOrder.head_last}
 use Rattle.yq_outline.specs.declared.line.Head as heads
 
@@ -45,7 +45,7 @@ known_row t s ms d k i m made = record {
   cut = k.cut;
   rows = k.rows;
   rows_view = k.rows_view;
-  agrees = λ r is. subst (λ (o : Option Decoded). IsGivenHead t k.cut (made_head o) i r) (sym made) (k.agrees i r is).head;
+  agrees = λ r is. subst (λ (o : Option Decoded). IsKnownHead t k.cut (owned_head o) i r) (sym made) (k.agrees i r is).head;
 }
 
 -- a head and the alias or flow collection that it is agree
@@ -77,7 +77,7 @@ pub alias_sound : (d : ℕ) (n : List ℕ) → head_is_sound d (Some (alias n)) 
 alias_sound d n = search (rules, le-leb)
 
 -- what is so of what the text lends
-lent_is : (P : Option Node × Option Placed → Type 0) (t h : List ℕ) (start : ℕ) (n : Option Node) (f : Option Placed) → IsLent t h start n f →
+lent_is : (P : Option Node × Option Placed → Type 0) (t h : List ℕ) (start : ℕ) (n : Option Node) (f : Option Placed) → IsBorrowedAs t h start n f →
     P (Some (placed_tree (alias_from (drop 1 h) start)), Some (alias_from (drop 1 h) start)) →
     (is_borrowed borrowed_depth (drop start t) ≡ true → P (Some (placed_tree (leading_node (length t) borrowed_depth (drop start t))), Some (leading_node (length t) borrowed_depth (drop start t)))) →
     P (borrowed_head h, None) → P (n, f)
@@ -88,12 +88,12 @@ lent_is P t h start n f l star opens other = go (begins_with 42 h) refl (opens_c
     go false e true q = let x = l.collection q in subst P (λ i. (x.view i, x.flow i)) (opens x.borrowed)
     go false e false q = let x = l.other (ap (λ a. a || opens_collection h) e ∙ q) in subst P (λ i. (x.0 i, x.1 i)) other
 
-pub given_means : (t h : List ℕ) (start : ℕ) (m : Option heads.Head) (n : Option Node) (f : Option Placed) → IsGiven t h start m n f → MeansFlow n f
+pub given_means : (t h : List ℕ) (start : ℕ) (m : Option heads.Head) (n : Option Node) (f : Option Placed) → IsKnownAs t h start m n f → MeansFlow n f
 given_means t h start None n f g = lent_is (λ (x : Option Node × Option Placed). MeansFlow x.0 x.1) t h start n f g refl (λ e. refl) (borrowed_named h, λ d. borrowed_flat d h)
 given_means t h start (Some x) n f g = subst (λ (y : Option Node × Option Placed). MeansFlow y.0 y.1) (λ i. (g.0 i, g.1 i)) (made_means x)
 
 -- where nothing is made of it, few collections are nested in it
-lent_sound : (t h : List ℕ) (start d : ℕ) (n : Option Node) (f : Option Placed) → borrowed_depth ≤ d → IsLent t h start n f → head_is_sound d n ≡ true
+lent_sound : (t h : List ℕ) (start d : ℕ) (n : Option Node) (f : Option Placed) → borrowed_depth ≤ d → IsBorrowedAs t h start n f → head_is_sound d n ≡ true
 lent_sound t h start d n f le g =
     lent_is (λ (x : Option Node × Option Placed). head_is_sound d x.0 ≡ true) t h start n f g (alias_sound d (drop 1 h)) (λ e. depth_kept (length t) borrowed_depth d (drop start t) e le) (borrowed_flat d h)
 
@@ -108,7 +108,7 @@ module _ (t : List ℕ) (s : RowsView) (ms : List Decoded) (d : Stretch) (k : Is
   row = (located s d k.document q at).row
 
   pub row_means : MeansFlow (head_of row.content) (row_flow (length t) row (after_row q.row k.cut))
-  row_means = given_means t (slices row).head (head_place q.row k.cut row).0 (made_head (decoded_at q.row ms)) _ _ (k.agrees q.row row (row_of_cut t s ms d k q at)).head
+  row_means = given_means t (slices row).head (head_place q.row k.cut row).0 (owned_head (decoded_at q.row ms)) _ _ (k.agrees q.row row (row_of_cut t s ms d k q at)).head
 
   module _ (l : Line) (is : slice_get (lines_of_rows k.document.rows) (line_number d k.document.rows q) ≡ Some l) where
     -- the head of a line that has one is reported
@@ -141,5 +141,5 @@ module _ (t : List ℕ) (s : RowsView) (ms : List Decoded) (d : Stretch) (k : Is
     -- nothing is made of the row
     pub unmade_sound : (depth : ℕ) → borrowed_depth ≤ depth → decoded_at q.row ms ≡ None → head_is_sound depth l.head ≡ true
     unmade_sound depth le none =
-        let lent = subst (λ (o : Option Decoded). IsGivenHead t k.cut (made_head o) q.row row) none (k.agrees q.row row (row_of_cut t s ms d k q at)).head in
+        let lent = subst (λ (o : Option Decoded). IsKnownHead t k.cut (owned_head o) q.row row) none (k.agrees q.row row (row_of_cut t s ms d k q at)).head in
         by_row depth (lent_sound t (slices row).head (head_place q.row k.cut row).0 depth _ _ le lent)

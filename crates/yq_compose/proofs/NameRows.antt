@@ -5,7 +5,7 @@ use Rattle.yq_core.specs.Anchors.{Name, anchor_names}
 use Rattle.yq_outline.{specs.Names.{head_names, line_names}, specs.Outline.Line, specs.Lines.{content_anchor, head_of, lines_of_rows}}
 use Rattle.yq_outline.proofs.WalkLevels.{names_row}
 use Rattle.yq_row_table.specs.Rows.{Row}
-use Rattle.yq_compose.{proofs.RowContents.lines_at}
+use Rattle.yq_compose.proofs.RowContents.{lines_at}
 
 with-append : (a : Option (List ℕ)) (xs ys : List Name) → anchor_names a (xs ++ ys) ≡ anchor_names a xs ++ ys
 with-append None xs ys = refl

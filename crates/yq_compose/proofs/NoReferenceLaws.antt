@@ -1,11 +1,12 @@
 -- Where no alias is in the heads of rows, none is in their lines.
-use Rattle.std.proofs.Common.{◌≡◌, ℕ, suc, ◌+◌, false, ◌||◌, List, [], ◌∷◌, ◌++◌, length, Option, Some, None, refl, ap}
-use Rattle.std.{proofs.Common.{◌∙◌, subst}, proofs.lemmas.List.Folds.list_any-append, specs.List.{list_any, slice_get}}
+use Rattle.std.proofs.Common.{◌≡◌, ℕ, suc, ◌+◌, false, ◌||◌, List, [], ◌∷◌, ◌++◌, length, Option, Some, None, refl, ap, ◌∙◌, subst}
+use Rattle.std.{proofs.lemmas.List.Folds.list_any-append, specs.List.{list_any, slice_get}}
 use Rattle.yq_core.specs.Anchors.{Name, anchor_names}
-use Rattle.yq_outline.{specs.Extents.head_place, specs.Names.{head_names, is_reference, line_names}, specs.Lines.{content_anchor, head_of, lines_of_rows}}
-use Rattle.yq_outline.{specs.declared.line_position.Stretch.Stretch, proofs.WalkLevels.names_row}
+use Rattle.yq_outline.{specs.Extents.head_place, specs.Names.{head_names, is_reference, line_names}}
+use Rattle.yq_outline.{specs.Lines.{content_anchor, head_of, lines_of_rows}, specs.declared.line_position.Stretch.Stretch}
+use Rattle.yq_outline.proofs.WalkLevels.{names_row}
 use Rattle.yq_row_table.{specs.Exchange.after_row, specs.Rows.{Cut, Row}, specs.View.{RowsView, rows_of, slices}}
-use Rattle.yq_documents.{proofs.ReadLaws.cut_is, specs.Decoded.{decoded_at, made_head}, specs.FlowReading.row_flow}
+use Rattle.yq_documents.{proofs.ReadLaws.cut_is, specs.Decoded.{decoded_at, owned_head}, specs.FlowReading.row_flow}
 use Rattle.yq_documents.specs.declared.decoded.Decoded.{Decoded}
 use Rattle.yq_compose.{specs.Checking.IsCheckable, specs.Decoding.AreAliasFree, specs.Named.flow_names}
 use Rattle.yq_compose.proofs.HeadViewLaws.{given_means, means_named, row_in_cut}
@@ -29,5 +30,8 @@ ready_refers_not t s ms d k free =
     rows_refer_not k.document.rows
     (λ i r e.
     let there = row_in_cut t s ms d k i r e in
-    ap (list_any is_reference) (means_named (head_of r.content) (row_flow (length t) r (after_row (d.first + i) k.cut)) (given_means t (slices r).head (head_place (d.first + i) k.cut r).0 (made_head (decoded_at (d.first + i) ms)) _ _ (k.agrees (d.first + i) r there).head))
+    ap (list_any is_reference)
+    (means_named (head_of r.content) (row_flow (length t) r (after_row (d.first + i) k.cut))
+    (given_means t (slices r).head (head_place (d.first + i) k.cut r).0 (owned_head (decoded_at (d.first + i) ms)) _ _
+    (k.agrees (d.first + i) r there).head))
     ∙ none (d.first + i) r there)

@@ -6,18 +6,17 @@ use Rattle.std.{proofs.lemmas.List.length-map, proofs.lemmas.Option.{cond_some, 
 use Rattle.std.{specs.List.{list_any, slice_get}, specs.Prelude.option_map, specs.Str.{IsCharBoundary, IsUtf8}}
 use Rattle.yq_core.{specs.Answers.{ReadFails, ReadError}, specs.Quoted.IsQuotedText, specs.Nodes.begins_with, specs.Text.is_empty}
 use Rattle.yq_core.{specs.Scalars.{scalar_content, is_quoted}, proofs.OneLine.kept, specs.Places.Placed, specs.Trees.placed_tree}
-use Rattle.yq_core.specs.Borrowed.{borrows_text, borrowed_text, is_borrowed, leading_node}
-use Rattle.yq_core.{specs.FitKeys.key_fits, proofs.BorrowedNames.front_names, proofs.BorrowedTexts.borrows_key}
-use Rattle.yq_outline.{specs.Lines.head_of, specs.Names.is_reference, specs.View.{head_flow, head_view}}
-use Rattle.yq_outline.{specs.declared.line.Head.Head, proofs.RowLaws.{colon_some, mark_quoted}}
+use Rattle.yq_core.{specs.Borrowed.{borrows_text, borrowed_text, is_borrowed, leading_node}, specs.FitKeys.key_fits}
+use Rattle.yq_core.{proofs.BorrowedNames.front_names, proofs.BorrowedTexts.borrows_key}
+use Rattle.yq_outline.{specs.Lines.head_of, specs.Names.is_reference, specs.View.{head_flow, head_view}, specs.declared.line.Head.Head}
+use Rattle.yq_outline.proofs.RowLaws.{colon_some, mark_quoted}
 use Rattle.yq_row_table.{specs.Exchange.{before_content, after_row, following_rows}, specs.Grammar.IsMark}
 use Rattle.yq_row_table.{specs.Rows.{Row, Cut, parent_indent}, specs.View.{Slices, colon_of, key_of_mark, slices, rows_of, RowsView}}
 use Rattle.yq_row_table.{proofs.PlaceLaws.{RowIn, place, row_in}, proofs.SliceLaws.content_slices, specs.WordRows.KnowsHead}
 use Rattle.yq_documents.{specs.FlowReading.{head_flow_at, row_flow}, specs.KeyReading.EndsIn}
-use Rattle.yq_documents.specs.Decoded.{IsGivenHead, borrowed_depth, borrowed_head, opens_collection}
-use Rattle.yq_documents.specs.Reading.{content_is_fit, cut_of, mark_is_fit}
-use Rattle.yq_documents.{specs.RowReading.read_head, proofs.HeadLaws.{fitting, head_is, head_text}, proofs.RowFlowLaws.flow_is}
-use Rattle.yq_documents.proofs.RowLineLaws.{content_quoted}
+use Rattle.yq_documents.specs.Decoded.{IsKnownHead, borrowed_depth, borrowed_head, opens_collection}
+use Rattle.yq_documents.{specs.Reading.{content_is_fit, cut_of, mark_is_fit}, specs.RowReading.read_head}
+use Rattle.yq_documents.{proofs.HeadLaws.{fitting, head_is, head_text}, proofs.RowFlowLaws.flow_is, proofs.RowLineLaws.content_quoted}
 use Rattle.yq_inline.proofs.WholeCollections.{whole_passed}
 use Rattle.yq_compose.{specs.Borrowing.{LendsHead, PassesHead}, specs.Checking.borrows_head, specs.Deciding.Denies}
 use Rattle.yq_compose.{specs.Decoding.{IsCutInto, IsKeyDecoded, NamesNone}, specs.Named.flow_names, proofs.RowBegins.mark_plain}
@@ -138,7 +137,7 @@ module _ (t : List ℕ) (s : RowsView) (k : IsCutInto t s) (i : ℕ) (r : Row) (
     pub borrowed_fit : content_is_fit r.content ≡ true
     borrowed_fit = (cond_some (content_is_fit r.content) _ _ borrowed_so.0).0
 
-    pub none_given : IsGivenHead t c None i r
+    pub none_given : IsKnownHead t c None i r
     none_given =
         let apart = or_parts (begins_with 42 (slices r).head) (opens_collection (slices r).head) (no_flow (slices r).head (ap borrows_head (sym head) ∙ borrows)) in
         record {
@@ -161,7 +160,7 @@ module _ (t : List ℕ) (s : RowsView) (k : IsCutInto t s) (i : ℕ) (r : Row) (
     pub alias_fit : content_is_fit r.content ≡ true
     alias_fit = means.fit
 
-    pub alias_given : IsGivenHead t c None i r
+    pub alias_given : IsKnownHead t c None i r
     alias_given = record {
       alias = λ e. (means.head, means.flow (length t) (length before) (omega (arith, ap length text_there, length-append before after)));
       collection = λ opens. absurd (false≢true (sym (star_closed (slices r).head own_star) ∙ opens));
@@ -197,7 +196,7 @@ module _ (t : List ℕ) (s : RowsView) (k : IsCutInto t s) (i : ℕ) (r : Row) (
       flow_read : head_flow_at t p h text ≡ row_flow (length t) r (after_row i c)
       flow_read = (λ j. head_flow_at t (parent j) (head j) (from_there j)) ∙ flow_again
 
-      pub read_given : (x : Head) → read_head t p h text ≡ Some (head_view x) → head_flow x ≡ head_flow_at t p h text → IsGivenHead t c (Some x) i r
+      pub read_given : (x : Head) → read_head t p h text ≡ Some (head_view x) → head_flow x ≡ head_flow_at t p h text → IsKnownHead t c (Some x) i r
       read_given x view flow = (sym (cond_some (content_is_fit r.content) _ _ (sym head_read ∙ view)).1, flow ∙ flow_read)
 
     -- the text lends the collection that the head is
@@ -223,7 +222,7 @@ module _ (t : List ℕ) (s : RowsView) (k : IsCutInto t s) (i : ℕ) (r : Row) (
       here : drop (length before) t ≡ text
       here = ap (λ (n : ℕ). drop n t) (sym place_is) ∙ sym from
 
-      pub lent_given : IsCharBoundary t (length before) → IsGivenHead t c None i r
+      pub lent_given : IsCharBoundary t (length before) → IsKnownHead t c None i r
       lent_given boundary = record {
         alias = λ star. absurd (false≢true (sym (star_closed (slices r).head star) ∙ own_opens));
         collection = λ opens. record {

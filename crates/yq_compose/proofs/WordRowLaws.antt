@@ -9,10 +9,10 @@ use Rattle.yq_row_table.specs.WordRows.{AreOtherRows, AreWordRows, KnowsRow, bor
 use Rattle.yq_row_table.{specs.declared.rows.Other.Other, proofs.WordFronts.word_unquoted}
 use Rattle.yq_documents.{specs.Decoded.IsDecodedBy, specs.Reading.{cut_of, mark_is_fit}, specs.RowReading.row_fits}
 use Rattle.yq_documents.specs.declared.decoded.Decoded.{Decoded}
-use Rattle.yq_compose.{specs.Checking.{begins_tree, borrows_head}, specs.Decoding.{IsCutInto, IsKeyDecoded, NamesNone}, proofs.AheadLaws.first_apart}
-use Rattle.yq_compose.{proofs.DecodedRows.{DecodedUpto, row_step}, proofs.WordHeads.no_tree}
-use Rattle.yq_compose.proofs.RowsRead.{borrowed_fit, key_borrowed, key_fits_is, key_unquoted, keyless, no_head, none_given, none_named, pieces_there}
-use Rattle.yq_compose.proofs.RowsRead.{row_at}
+use Rattle.yq_compose.{specs.Checking.{begins_tree, borrows_head}, specs.Decoding.{IsCutInto, IsKeyDecoded, NamesNone}}
+use Rattle.yq_compose.{proofs.AheadLaws.first_apart, proofs.DecodedRows.{DecodedUpto, row_step}, proofs.WordHeads.no_tree}
+use Rattle.yq_compose.proofs.RowsRead.{borrowed_fit, key_borrowed, key_fits_is, key_unquoted, keyless, no_head, none_given, none_named}
+use Rattle.yq_compose.proofs.RowsRead.{pieces_there, row_at}
 
 no_break : (b : Bool) → not b ≡ true → b ≡ false
 no_break false h = refl

@@ -1,6 +1,6 @@
 -- Reading (own; a reader may skip it): heads that the text lends.
 use Rattle.std.specs.Prelude.{◌≡◌, ◌≤◌, ℕ, List, true}
-use Rattle.yq_core.{specs.Inline.depth_limit}
+use Rattle.yq_core.specs.Inline.{depth_limit}
 use Rattle.yq_inline.specs.Passed.{IsPassedHead}
 use Rattle.yq_documents.specs.Decoded.{borrowed_depth, opens_collection}
 

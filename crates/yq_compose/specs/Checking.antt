@@ -5,10 +5,8 @@ use Rattle.yq_outline.{specs.Ends.{IsEndOf, has_no_lines, part}, specs.Extents.I
 use Rattle.yq_outline.{specs.Lines.lines_of_rows, specs.RowWalk.{HasRows, IsPosition, OfLine, OfLines, line_number, lines_stop}}
 use Rattle.yq_outline.{specs.declared.line_position.Position.Position, specs.declared.line_position.Stretch.Stretch}
 use Rattle.yq_row_table.{specs.Grammar.IsCut, specs.Rows.{Row, Cut}, specs.View.{rows_of, RowsView, rows_view}}
-use Rattle.yq_documents.{specs.Decoded.{IsDecoded, Rise}, specs.RowReading.is_block_head}
-use Rattle.yq_documents.specs.declared.decoded.Decoded.{Decoded}
-use Rattle.yq_compose.{specs.Ahead.IsAhead, specs.declared.checked.Checked.Checked}
-use Rattle.yq_compose.specs.declared.reached.Reached.{Reached}
+use Rattle.yq_documents.{specs.Decoded.{IsDecoded, Rise}, specs.RowReading.is_block_head, specs.declared.decoded.Decoded.Decoded}
+use Rattle.yq_compose.{specs.Ahead.IsAhead, specs.declared.checked.Checked.Checked, specs.declared.reached.Reached.Reached}
 
 -- an alias, a flow collection or a block scalar begins so (own)
 abbrev pub begins_tree : List ℕ → Bool

@@ -1,11 +1,10 @@
 -- Reading (own; a reader may skip it): what is made of the rows of a text.
-use Rattle.std.specs.Prelude.{◌≡◌, ℕ, List, [], ◌∷◌, length, slice_get, Option, Some, None, String, option_map, false}
-use Rattle.std.{specs.List.list_any, specs.Prelude.string_bytes, specs.declared.alloc.Global.Global}
+use Rattle.std.specs.Prelude.{◌≡◌, ℕ, List, [], ◌∷◌, length, slice_get, Option, Some, None, String, option_map, false, string_bytes}
+use Rattle.std.{specs.List.list_any, specs.declared.alloc.Global.Global}
 use Rattle.yq_core.{specs.Scalars.scalar_content, specs.Borrowed.borrowed_text}
 use Rattle.yq_outline.specs.Names.{is_reference}
 use Rattle.yq_row_table.{specs.Exchange.after_row, specs.Grammar.IsCut, specs.Rows.Row, specs.View.{rows_of, slices, RowsView, rows_view}}
-use Rattle.yq_documents.specs.FlowReading.{row_flow}
-use Rattle.yq_documents.{specs.Decoded.{IsDecoded, IsGivenHead, Rise, decoded_or}, specs.Reading.cut_of}
+use Rattle.yq_documents.{specs.FlowReading.row_flow, specs.Decoded.{IsDecoded, IsKnownHead, Rise, decoded_or}, specs.Reading.cut_of}
 use Rattle.yq_documents.specs.declared.decoded.Decoded.{Decoded}
 use Rattle.yq_compose.{specs.Named.flow_names, specs.declared.decoding.HeadRead.HeadRead}
 
@@ -32,7 +31,7 @@ AreAliasFree t = (i : ℕ) → OfRow t i (NamesNone t i)
 
 -- A row's head is what is made of it, or its text lends it; it is known whether an alias may be in it (own).
 pub record IsHeadRead (t : List ℕ) (i : ℕ) (h : HeadRead) (r : Row) : Type 0 where
-  pub head : IsGivenHead t (cut_of t) h.head i r
+  pub head : IsKnownHead t (cut_of t) h.head i r
   pub names_none : h.refers ≡ false → NamesNone t i r
 
 -- What the rows of a text spell is given by what is made of them, which is in their order (own).

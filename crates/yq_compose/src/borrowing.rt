@@ -28,7 +28,7 @@ fn head_depth<'t>(keys: &mut Keys<'t>, depth: usize, text: &'t str) -> Option<us
 
 /// Whether a head which is written so and with which the text begins is a flow collection that the text lends, and
 /// whose keys are fit and differ; its depth is 0 where nothing is known of it.
-pub(crate) fn is_lent<'t>(keys: &mut Keys<'t>, depth: usize, head: &str, text: &'t str) -> bool
+pub(crate) fn lends_head<'t>(keys: &mut Keys<'t>, depth: usize, head: &str, text: &'t str) -> bool
     requires known { 0 < depth → spec.PassesHead depth text.now }
     ensures { IsTrue result → spec.LendsHead head.now text.now }
 {

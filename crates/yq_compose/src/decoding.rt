@@ -1,17 +1,17 @@
 //! What rows spell, made where their text doesn't lend it.
-ghost use Rattle.std.specs.Prelude.{◌≡◌, ◌<◌, ◌++◌, false, length, option_and_then, option_map, string_bytes, true, IfErr, IfOk, IfSome, IsTrue};
-ghost use Rattle.std.specs.Prelude.{List, ℕ};
+ghost use Rattle.std.specs.Prelude.{◌≡◌, ◌<◌, ◌++◌, false, length, option_and_then, option_map, string_bytes, true, IfErr, IfOk, IfSome};
+ghost use Rattle.std.{specs.Prelude.{IsTrue, List, ℕ}, specs.List.list_any};
 ghost use Rattle.yq_core.{specs.Answers.IsOfText, specs.Text.front, specs.Quoted.IsQuotedText, specs.Runs.is_word_byte};
 ghost use Rattle.yq_core.specs.Scalars.{is_quoted as is_in_quotes};
-ghost use Rattle.std.specs.List.{list_any};
-ghost use Rattle.yq_documents.specs.Decoded.{IsDecodedBy, made_head};
-ghost use Rattle.yq_documents.{specs.Reading.{content_is_fit, cut_of, mark_is_fit}, specs.RowReading.row_fits};
+ghost use Rattle.yq_documents.{specs.Decoded.{IsDecodedBy, owned_head}, specs.Reading.{content_is_fit, cut_of, mark_is_fit}};
+ghost use Rattle.yq_documents.specs.RowReading.{row_fits};
 ghost use Rattle.yq_row_table.{specs.View.slices, specs.WordRows.KnowsHead};
 ghost use Rattle.yq_outline.{specs.Names.is_reference, specs.View.head_flow};
-ghost use Rattle.yq_compose.{specs.Deciding.Decides, specs.Decoding.{IsCutInto, IsHeadRead, IsKeyDecoded, NamesNone, OfRow}, specs.Named.flow_names};
+ghost use Rattle.yq_compose.{specs.Deciding.Decides, specs.Decoding.{IsCutInto, IsHeadRead, IsKeyDecoded, NamesNone, OfRow}};
+ghost use Rattle.yq_compose.specs.Named.{flow_names};
 ghost use Rattle.yq_compose.specs.Checking as spec;
 
-use crate::borrowing::is_lent;
+use crate::borrowing::lends_head;
 use std::alloc::Global;
 use yq_core::fault_place::fault_at;
 use yq_core::{FaultKind, ReadError, Run, first_is, is_quoted, run_len};
@@ -121,19 +121,19 @@ fn decode_head<'t>(
     ensures fault { IfErr result IsOfText }
 {
     let i = other.row;
-    let lent = HeadRead {
+    let borrowed = HeadRead {
         head: None,
         refers: false,
     };
     if !rows.has_head(i) {
-        return Ok(lent);
+        return Ok(borrowed);
     }
     let head = rows.head(i);
     if begins_word(head.as_bytes()) && is_word_head(head, rows.from_head(i)) {
-        return Ok(lent);
+        return Ok(borrowed);
     }
     if borrows_head(head) {
-        return Ok(lent);
+        return Ok(borrowed);
     }
     if first_is(b'*', head.as_bytes()) {
         return Ok(HeadRead {
@@ -143,8 +143,8 @@ fn decode_head<'t>(
     }
     let (start, _) = head_place(rows, i);
     let after = text.split_at(start).1;
-    if is_lent(keys, other.depth, head, after) {
-        return Ok(lent);
+    if lends_head(keys, other.depth, head, after) {
+        return Ok(borrowed);
     }
     let parent = rows.parent_indent(i);
     match read_head(alloc, text, parent, head, after) {
@@ -161,7 +161,7 @@ fn decoded_row<'t>(i: usize, key: Option<String>, head: Option<Head<'t>>) -> Opt
     ensures row { IfSome result (λ m. m.row ≡ i) }
     ensures key { option_and_then (λ m. option_map string_bytes m.key) result ≡
         option_map string_bytes key }
-    ensures head { made_head result ≡ head.entry }
+    ensures head { owned_head result ≡ head.entry }
 {
     if key.is_none() && head.is_none() {
         return None;
@@ -173,7 +173,7 @@ fn decoded_row<'t>(i: usize, key: Option<String>, head: Option<Head<'t>>) -> Opt
 #[derive(Drop)]
 pub(crate) struct RowRead<'t> {
     /// What is made of it, where its text doesn't lend all it spells.
-    pub(crate) made: Option<Decoded<'t>>,
+    pub(crate) decoded: Option<Decoded<'t>>,
     /// Whether an alias may be in it.
     pub(crate) refers: bool,
 }
@@ -192,10 +192,10 @@ pub(crate) fn decoded_of<'t>(
     requires known { OfRow text.now other.row (λ r. KnowsHead other.depth (slices r).head) }
     ensures fits { OfRow text.now other.row (λ r. Decides result (row_fits r)) }
     ensures agrees { OfRow text.now other.row (λ r.
-        IfOk result (λ x. IsDecodedBy text.now (cut_of text.now) x.made other.row r)) }
+        IfOk result (λ x. IsDecodedBy text.now (cut_of text.now) x.decoded other.row r)) }
     ensures refers { OfRow text.now other.row (λ r.
         IfOk result (λ x. x.refers ≡ false → NamesNone text.now other.row r)) }
-    ensures row { IfOk result (λ x. IfSome x.made (λ m. m.row ≡ other.row)) }
+    ensures row { IfOk result (λ x. IfSome x.decoded (λ m. m.row ≡ other.row)) }
     ensures fault { IfErr result IsOfText }
 {
     let key = match decode_key(alloc, text, rows, other.row) {
@@ -206,7 +206,7 @@ pub(crate) fn decoded_of<'t>(
         Ok(found) => {
             let HeadRead { head, refers } = found;
             Ok(RowRead {
-                made: decoded_row(other.row, key, head),
+                decoded: decoded_row(other.row, key, head),
                 refers,
             })
         }

@@ -25,13 +25,13 @@ fn check_documents<'t>(
     documents: &[DocumentRows<'t>],
 ) -> Result<(), ReadError>
     requires cut { IsCutInto text.now rows.now }
-    requires decoded { AreDecoded text.now decoded.now.made.items }
+    requires decoded { AreDecoded text.now decoded.now.decoded.items }
     requires refers { decoded.now.refers ≡ false → AreAliasFree text.now }
     requires places { AreLocated text.now documents.now }
     ensures sound { Decides result (all_sound (document_parts (cut_of text.now))) }
     ensures fault { IfErr result IsOfText }
 {
-    let made = decoded.made.as_slice();
+    let of_rows = decoded.decoded.as_slice();
     let mut at = 0;
     'documents: while at < documents.len() {
         let document = Stretch {
@@ -41,7 +41,7 @@ fn check_documents<'t>(
         let x = Checked {
             text,
             rows,
-            decoded: made,
+            decoded: of_rows,
             document,
         };
         match check_document(alloc, x, decoded.refers) {
@@ -73,6 +73,6 @@ pub fn read_rows<'t>(
         Ok(()) => {}
         Err(e) => return Err(e),
     }
-    let DecodedRows { made, refers } = decoded;
-    Ok(Documents::new(text, rows, documents, made, refers))
+    let DecodedRows { decoded, refers } = decoded;
+    Ok(Documents::new(text, rows, documents, decoded, refers))
 }

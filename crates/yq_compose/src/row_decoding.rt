@@ -15,7 +15,7 @@ use yq_row_table::{Other, Rows};
 /// What is made of the rows of a text.
 #[derive(Drop)]
 pub(crate) struct DecodedRows<'t> {
-    pub(crate) made: Vec<Decoded<'t>>,
+    pub(crate) decoded: Vec<Decoded<'t>>,
     /// Whether an alias may be in them.
     pub(crate) refers: bool,
 }
@@ -47,7 +47,7 @@ fn decode_others<'t>(
     requires cut { IsCutInto text.now rows.now }
     requires others { AreOtherRows rows.now.rows 0 others.now }
     ensures fits { Decides result (have_fit_keys (rows_of (cut_of text.now))) }
-    ensures decoded { IfOk result (λ x. AreDecoded text.now x.made.items) }
+    ensures decoded { IfOk result (λ x. AreDecoded text.now x.decoded.items) }
     ensures refers { IfOk result (λ x. x.refers ≡ false → AreAliasFree text.now) }
     ensures fault { IfErr result IsOfText }
 {
@@ -61,18 +61,15 @@ fn decode_others<'t>(
             Err(e) => return Err(e),
         };
         let RowRead {
-            made,
+            decoded: row,
             refers: named,
         } = found;
         refers |= named;
-        push_decoded(&mut decoded, made)?;
+        push_decoded(&mut decoded, row)?;
         left = after;
     }
     decoded.shrink_to_fit();
-    Ok(DecodedRows {
-        made: decoded,
-        refers,
-    })
+    Ok(DecodedRows { decoded, refers })
 }
 
 /// What is made of the rows of a text, where the keys of each are fit.
@@ -83,7 +80,7 @@ fn decode_each<'t>(
 ) -> Result<DecodedRows<'t>, ReadError>
     requires cut { IsCutInto text.now rows.now }
     ensures fits { Decides result (have_fit_keys (rows_of (cut_of text.now))) }
-    ensures decoded { IfOk result (λ x. AreDecoded text.now x.made.items) }
+    ensures decoded { IfOk result (λ x. AreDecoded text.now x.decoded.items) }
     ensures refers { IfOk result (λ x. x.refers ≡ false → AreAliasFree text.now) }
     ensures fault { IfErr result IsOfText }
 {
@@ -97,16 +94,16 @@ fn decode_each<'t>(
             Ok(found) => found,
             Err(e) => return Err(e),
         };
-        let RowRead { made, refers: here } = found;
+        let RowRead {
+            decoded: row,
+            refers: here,
+        } = found;
         refers |= here;
-        push_decoded(&mut decoded, made)?;
+        push_decoded(&mut decoded, row)?;
         at += 1;
     }
     decoded.shrink_to_fit();
-    Ok(DecodedRows {
-        made: decoded,
-        refers,
-    })
+    Ok(DecodedRows { decoded, refers })
 }
 
 /// What is made of the rows of a text, where the keys of each are fit.
@@ -117,7 +114,7 @@ pub(crate) fn decode_rows<'t>(
 ) -> Result<DecodedRows<'t>, ReadError>
     requires cut { IsCutInto text.now rows.now }
     ensures fits { Decides result (have_fit_keys (rows_of (cut_of text.now))) }
-    ensures decoded { IfOk result (λ x. AreDecoded text.now x.made.items) }
+    ensures decoded { IfOk result (λ x. AreDecoded text.now x.decoded.items) }
     ensures refers { IfOk result (λ x. x.refers ≡ false → AreAliasFree text.now) }
     ensures fault { IfErr result IsOfText }
 {

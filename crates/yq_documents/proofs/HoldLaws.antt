@@ -1,13 +1,13 @@
 -- What is kept of a text that reads as documents tells it.
-use Rattle.std.proofs.Common.{rules, ◌≡◌, ℕ, ◌<◌, ◌≤◌, List, length, Option, Some, option_map, Bool, true, false, sym, ap, ◌∙◌, subst, arith}
-use Rattle.std.{proofs.lemmas.List.length-map, proofs.lemmas.Option.{same_Some, slice_get-map, slice_get_within}}
+use Rattle.std.proofs.Common.{rules, ◌≡◌, ℕ, ◌<◌, ◌≤◌, List, length, Option, Some, option_map, Bool, true, false, sym, ap, ◌∙◌, subst}
+use Rattle.std.{proofs.Common.arith, proofs.lemmas.List.length-map, proofs.lemmas.Option.{same_Some, slice_get-map, slice_get_within}}
 use Rattle.std.specs.List.{list_any, slice_get}
 use Rattle.yq_outline.{specs.Comments.head_comment, specs.Names.{is_reference, line_names}, specs.Extents.IsRowsView}
 use Rattle.yq_outline.specs.declared.line_position.Stretch.{Stretch}
 use Rattle.yq_row_table.{specs.Grammar.IsCut, specs.Rows.{Row, Part}, specs.View.{rows_of, RowsView, rows_view}}
 use Rattle.yq_text.specs.Limit.{text_limit}
 use Rattle.yq_documents.{specs.Documents.{Document, document_parts}, specs.Holding.Holds, specs.Located.document_at}
-use Rattle.yq_documents.specs.Decoded.{IsDecoded, IsGivenHead, IsHeadDecoded, IsKnownRow, decoded_at, made_head}
+use Rattle.yq_documents.specs.Decoded.{IsDecoded, IsKnownHead, IsHeadDecoded, IsKnownRow, decoded_at, owned_head}
 use Rattle.yq_documents.{specs.declared.decoded.DecodedHead.DecodedHead, specs.Reading.{all_documents, cut_of, part_document, documents_of}}
 use Rattle.yq_documents.{specs.Stretches.{HasText, document_lines}, specs.declared.decoded.Decoded.Decoded}
 use Rattle.yq_documents.{specs.declared.documents.DocumentRows.DocumentRows, proofs.PartRows.has_part}
@@ -56,7 +56,7 @@ module _ {t u : List ℕ} {s : RowsView} {ds : List DocumentRows} {ms : List Dec
       cut = cut_of t;
       rows = h.rows;
       rows_view = view_held;
-      agrees = λ r is. subst (λ (o : Option Decoded). IsGivenHead t (cut_of t) (made_head o) i r) (sym made) (h.agrees i r is).head;
+      agrees = λ r is. subst (λ (o : Option Decoded). IsKnownHead t (cut_of t) (owned_head o) i r) (sym made) (h.agrees i r is).head;
     }
 
     pub head_held : (x : Option DecodedHead) → ((k : IsKnownRow t s m i) (r : Row) → slice_get (rows_of k.cut) i ≡ Some r → IsHeadDecoded (length t) k.cut x i r) →

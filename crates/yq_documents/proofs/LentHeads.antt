@@ -1,16 +1,15 @@
 -- The heads that a text lends.
-use Rattle.std.proofs.Common.{◌≡◌, ℕ, zero, suc, ◌<◌, ◌||◌, true, false, List, [], ◌∷◌, drop, length, Option, Some, None, sym, ap, ◌∙◌, subst, refl, arith}
-use Rattle.std.{proofs.lemmas.List.length-map, proofs.lemmas.Option.slice_get-map, specs.List.slice_get, specs.Prelude.option_map}
-use Rattle.yq_outline.specs.declared.line.Head.{Head}
+use Rattle.std.proofs.Common.{◌≡◌, ℕ, zero, suc, ◌<◌, ◌||◌, true, false, List, [], ◌∷◌, drop, length, Option, Some, None, sym, ap, ◌∙◌}
+use Rattle.std.{proofs.Common.{subst, refl, arith}, proofs.lemmas.List.length-map, proofs.lemmas.Option.slice_get-map, specs.List.slice_get}
+use Rattle.std.specs.Prelude.{option_map}
+use Rattle.yq_outline.{specs.declared.line.Head.Head, specs.Extents.head_place, specs.Lines.head_of}
 use Rattle.yq_documents.specs.declared.decoded.Decoded.{Decoded}
+use Rattle.yq_documents.specs.Decoded.{IsKnownHead, IsHeadDecoded, IsKnownRow, IsBorrowedCollection, IsBorrowedRow, alias_from, begins_flow}
+use Rattle.yq_documents.{specs.Decoded.{borrowed_depth, owned_head, opens_collection}, specs.FlowReading.row_flow}
 use denote.Bor.{Bor}
 use Rattle.yq_core.{specs.Borrowed.leading_node, specs.Nodes.begins_with, specs.Trees.placed_tree}
 use Rattle.yq_core.specs.declared.borrowed.BorrowedNode.{BorrowedNode}
-use Rattle.yq_outline.{specs.Extents.head_place, specs.Lines.head_of}
 use Rattle.yq_row_table.{specs.Exchange.after_row, specs.Rows.Row, specs.View.{RowsView, rows_of, slices}}
-use Rattle.yq_documents.specs.Decoded.{IsGivenHead, IsHeadDecoded, IsKnownRow, IsLentCollection, IsLentRow, alias_from, begins_flow, borrowed_depth}
-use Rattle.yq_documents.specs.Decoded.{made_head, opens_collection}
-use Rattle.yq_documents.specs.FlowReading.{row_flow}
 use Rattle.yq_documents.specs.declared.decoded.DecodedHead as heads
 
 has_row : (rs : List Row) (i : ℕ) → i < length rs → (r : Row) × (slice_get rs i ≡ Some r)
@@ -18,7 +17,7 @@ has_row [] i h = absurd (omega (arith, h))
 has_row (r ∷ rs) zero h = (r, refl)
 has_row (r ∷ rs) (suc i) h = has_row rs i (omega (arith, h))
 
-module _ {t : List ℕ} {s : RowsView} {i : ℕ} (k : IsLentRow t s i) where
+module _ {t : List ℕ} {s : RowsView} {i : ℕ} (k : IsBorrowedRow t s i) where
   pub row_here : i < length s.rows → (r : Row) × (slice_get (rows_of k.cut) i ≡ Some r)
   row_here within = has_row (rows_of k.cut) i (omega (arith, within, ap (λ (y : RowsView). length y.rows) k.rows, length-map (rows_of k.cut) slices))
 
@@ -40,10 +39,10 @@ module _ {t : List ℕ} {s : RowsView} {i : ℕ} (k : IsLentRow t s i) where
               flow = (λ j. Some (alias_from (own j) (place j))) ∙ a.1;
             }
 
-        pub collection_here : begins_flow h ≡ true → begins_with 42 h ≡ false → IsLentCollection t start (head_of r.content) (row_flow (length t) r (after_row i k.cut))
+        pub collection_here : begins_flow h ≡ true → begins_with 42 h ≡ false → IsBorrowedCollection t start (head_of r.content) (row_flow (length t) r (after_row i k.cut))
         collection_here flow star =
             let opens : opens_collection h ≡ true = sym (ap (λ b. b || opens_collection h) star) ∙ flow in
-            subst (λ (n : ℕ). IsLentCollection t n (head_of r.content) (row_flow (length t) r (after_row i k.cut))) (sym place) ((k.agrees r is).collection (ap opens_collection (sym head) ∙ opens))
+            subst (λ (n : ℕ). IsBorrowedCollection t n (head_of r.content) (row_flow (length t) r (after_row i k.cut))) (sym place) ((k.agrees r is).collection (ap opens_collection (sym head) ∙ opens))
 
         pub collection_given : (b : BorrowedNode) → begins_flow h ≡ true → begins_with 42 h ≡ false → b.total ≡ length t → b.depth ≡ borrowed_depth → b.text.now ≡ drop start t →
             IsHeadDecoded (length t) k.cut (Some (heads.TheVariants.Borrowed b)) i r
@@ -55,10 +54,10 @@ module _ {t : List ℕ} {s : RowsView} {i : ℕ} (k : IsLentRow t s i) where
             }
 
 -- a row of which no head is made
-abbrev pub unmade_row : {t : List ℕ} {s : RowsView} {m : Option Decoded} {i : ℕ} → IsKnownRow t s m i → made_head m ≡ None → IsLentRow t s i
+abbrev pub unmade_row : {t : List ℕ} {s : RowsView} {m : Option Decoded} {i : ℕ} → IsKnownRow t s m i → owned_head m ≡ None → IsBorrowedRow t s i
 unmade_row {t} {s} {m} {i} k none = record {
   cut = k.cut;
   rows = k.rows;
   rows_view = k.rows_view;
-  agrees = λ r is. subst (λ (h : Option Head). IsGivenHead t k.cut h i r) none (k.agrees r is);
+  agrees = λ r is. subst (λ (h : Option Head). IsKnownHead t k.cut h i r) none (k.agrees r is);
 }

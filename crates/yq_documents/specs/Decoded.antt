@@ -1,9 +1,9 @@
 -- Reading (own; a reader may skip it): what rows spell, as it is borrowed, or made where the text doesn't lend it.
-use Rattle.std.specs.Prelude.{◌≡◌, ℕ, suc, ◌+◌, ◌≤◌, ◌==◌, Bool, true, false, ◌||◌, List, [], ◌∷◌, length, drop, Option, Some, None, slice_get}
-use Rattle.std.{specs.Prelude.{option_and_then, option_map, string_bytes, if◌then◌else◌, ⊤}, specs.Str.IsCharBoundary}
+use Rattle.std.specs.Prelude.{◌≡◌, ℕ, suc, ◌+◌, ◌≤◌, ◌==◌, Bool, true, false, ◌||◌, List, [], ◌∷◌, length, drop, Option, Some, None}
+use Rattle.std.{specs.Prelude.{slice_get, option_and_then, option_map, string_bytes, if◌then◌else◌, ⊤}, specs.Str.IsCharBoundary}
 use Rattle.yq_core.{specs.Borrowed.{borrowed_text, is_borrowed, leading_node}, specs.Nodes.begins_with, specs.Scalar.plain_of}
-use Rattle.yq_core.{specs.Places.{Placed, placed, name}, specs.Scalars.{is_quoted, scalar_content}, specs.Text.is_empty}
-use Rattle.yq_core.{specs.Tree.Node, specs.Trees.{placed_tree, scalar_node}, specs.View.borrowed_view}
+use Rattle.yq_core.{specs.Places.{Placed, placed, name}, specs.Scalars.{is_quoted, scalar_content}, specs.Text.is_empty, specs.Tree.Node}
+use Rattle.yq_core.{specs.Trees.{placed_tree, scalar_node}, specs.View.borrowed_view}
 use Rattle.yq_outline.{specs.Extents.{IsRowsView, head_place}, specs.View.{head_flow, head_view}, specs.Lines.head_of}
 use Rattle.yq_outline.specs.declared.line.Head.{Head}
 use Rattle.yq_row_table.{specs.Exchange.after_row, specs.Rows.{Row, Cut}, specs.View.{RowsView, rows_of, rows_view, slices}}
@@ -62,35 +62,35 @@ abbrev pub begins_flow : List ℕ → Bool
 begins_flow t = begins_with 42 t || opens_collection t
 
 -- The text lends the flow collection at a place, which is this node and this flow (own).
-pub record IsLentCollection (t : List ℕ) (start : ℕ) (n : Option Node) (f : Option Placed) : Type 0 where
+pub record IsBorrowedCollection (t : List ℕ) (start : ℕ) (n : Option Node) (f : Option Placed) : Type 0 where
   pub boundary : IsCharBoundary t start
   pub borrowed : is_borrowed borrowed_depth (drop start t) ≡ true
   pub view : Some (placed_tree (leading_node (length t) borrowed_depth (drop start t))) ≡ n
   pub flow : Some (leading_node (length t) borrowed_depth (drop start t)) ≡ f
 
 -- The text lends the head at a place, which is written so, and is this node and this flow (own).
-pub record IsLent (t head : List ℕ) (start : ℕ) (n : Option Node) (f : Option Placed) : Type 0 where
+pub record IsBorrowedAs (t head : List ℕ) (start : ℕ) (n : Option Node) (f : Option Placed) : Type 0 where
   pub alias : begins_with 42 head ≡ true → (Some (placed_tree (alias_from (drop 1 head) start)) ≡ n) × (Some (alias_from (drop 1 head) start) ≡ f)
-  pub collection : opens_collection head ≡ true → IsLentCollection t start n f
+  pub collection : opens_collection head ≡ true → IsBorrowedCollection t start n f
   pub other : begins_flow head ≡ false → (borrowed_head head ≡ n) × (None ≡ f)
 
 -- A head is what is made of it, or the text lends it (own).
-abbrev pub IsGiven : List ℕ → List ℕ → ℕ → Option Head → Option Node → Option Placed → Type 0
-IsGiven t head start (Some x) n f = (head_view x ≡ n) × (head_flow x ≡ f)
-IsGiven t head start None n f = IsLent t head start n f
+abbrev pub IsKnownAs : List ℕ → List ℕ → ℕ → Option Head → Option Node → Option Placed → Type 0
+IsKnownAs t head start (Some x) n f = (head_view x ≡ n) × (head_flow x ≡ f)
+IsKnownAs t head start None n f = IsBorrowedAs t head start n f
 
 -- the same of the head of row i of a cut (own)
-abbrev pub IsGivenHead : List ℕ → Cut → Option Head → ℕ → Row → Type 0
-IsGivenHead t c h i r = IsGiven t (slices r).head (head_place i c r).0 h (head_of r.content) (row_flow (length t) r (after_row i c))
+abbrev pub IsKnownHead : List ℕ → Cut → Option Head → ℕ → Row → Type 0
+IsKnownHead t c h i r = IsKnownAs t (slices r).head (head_place i c r).0 h (head_of r.content) (row_flow (length t) r (after_row i c))
 
 -- the head that is made of a row, if one is (own)
-abbrev pub made_head : Option Decoded → Option Head
-made_head m = option_and_then (λ x. x.head) m
+abbrev pub owned_head : Option Decoded → Option Head
+owned_head m = option_and_then (λ x. x.head) m
 
 -- What row i of a cut of a text spells is given by what is made of it and by its pieces (own).
 pub record IsDecodedBy (t : List ℕ) (c : Cut) (m : Option Decoded) (i : ℕ) (r : Row) : Type 0 where
   pub key : decoded_key m (slices r).key ≡ scalar_content (slices r).key
-  pub head : IsGivenHead t c (made_head m) i r
+  pub head : IsKnownHead t c (owned_head m) i r
 
 -- The same by what is made of rows (own).
 abbrev pub IsDecoded : List ℕ → Cut → List Decoded → ℕ → Row → Type 0
@@ -106,11 +106,11 @@ pub record IsKnownRow (t : List ℕ) (s : RowsView) (m : Option Decoded) (i : �
   pub cut : Cut
   pub rows : s ≡ rows_view cut
   pub rows_view : IsRowsView s
-  pub agrees : (r : Row) → slice_get (rows_of cut) i ≡ Some r → IsGivenHead t cut (made_head m) i r
+  pub agrees : (r : Row) → slice_get (rows_of cut) i ≡ Some r → IsKnownHead t cut (owned_head m) i r
 
 -- Row i is one of a cut, and its text lends its head (own).
-pub record IsLentRow (t : List ℕ) (s : RowsView) (i : ℕ) : Type 0 where
+pub record IsBorrowedRow (t : List ℕ) (s : RowsView) (i : ℕ) : Type 0 where
   pub cut : Cut
   pub rows : s ≡ rows_view cut
   pub rows_view : IsRowsView s
-  pub agrees : (r : Row) → slice_get (rows_of cut) i ≡ Some r → IsGivenHead t cut None i r
+  pub agrees : (r : Row) → slice_get (rows_of cut) i ≡ Some r → IsKnownHead t cut None i r

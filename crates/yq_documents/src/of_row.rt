@@ -26,9 +26,9 @@ pub fn decoded_at<'d, 't>(decoded: &'d [Decoded<'t>], row: usize) -> Option<&'d 
 }
 
 /// The head that is made of a row, if one is.
-fn made_head<'d, 't>(decoded: Option<&'d Decoded<'t>>) -> Option<&'d Head<'t>>
+fn owned_head<'d, 't>(decoded: Option<&'d Decoded<'t>>) -> Option<&'d Head<'t>>
     ensures { option_map (λ h. h.now) result ≡
-        spec.made_head (option_map (λ m. m.now) decoded.entry) }
+        spec.owned_head (option_map (λ m. m.now) decoded.entry) }
 {
     match &decoded?.head {
         Some(head) => Some(head),
@@ -44,9 +44,9 @@ fn begins_flow(head: &[u8]) -> bool
 }
 
 /// The head of row `i`, which its text lends, where it is an alias or a flow collection.
-fn lent_head<'d, 't>(text: &'t str, rows: &Rows<'t>, i: usize) -> Option<DecodedHead<'d, 't>>
-    requires { spec.IsLentRow text.now rows.now i }
-    ensures { (k : spec.IsLentRow text.now rows.now i) (r : RowOf) →
+fn borrowed_flow<'d, 't>(text: &'t str, rows: &Rows<'t>, i: usize) -> Option<DecodedHead<'d, 't>>
+    requires { spec.IsBorrowedRow text.now rows.now i }
+    ensures { (k : spec.IsBorrowedRow text.now rows.now i) (r : RowOf) →
         slice_get (rows_of k.cut) i ≡ Some r → spec.IsHeadDecoded (length text.now) k.cut result i r }
 {
     if i >= rows.len() {
@@ -79,8 +79,8 @@ pub fn known_head<'d, 't>(
         (r : RowOf) → slice_get (rows_of k.cut) i ≡ Some r →
         spec.IsHeadDecoded (length text.now) k.cut result i r }
 {
-    match made_head(decoded) {
+    match owned_head(decoded) {
         Some(head) => Some(DecodedHead::Owned(head)),
-        None => lent_head(text, rows, i),
+        None => borrowed_flow(text, rows, i),
     }
 }

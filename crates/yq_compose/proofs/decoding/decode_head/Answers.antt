@@ -1,8 +1,8 @@
 use Rattle.std.{proofs.Common.{rules, ℕ, List, ◌++◌, refl, sym, ap, ◌∙◌, SFits, w64}, proofs.lemmas.Bool.{false≢true, not-false}}
 use Rattle.std.{proofs.lemmas.Int.to_z-of_z, specs.List.list_any}
-use Rattle.yq_core.specs.{Nodes.begins_with, Text.is_empty}
+use Rattle.yq_core.{specs.Nodes.begins_with, specs.Text.is_empty}
 use Rattle.yq_outline.specs.Names.{is_reference}
-use Rattle.yq_row_table.{specs.View.{Slices, slices}}
+use Rattle.yq_row_table.specs.View.{Slices, slices}
 use Rattle.yq_documents.specs.Reading.{cut_of}
 use Rattle.yq_compose.{specs.Named.flow_names, proofs.DocumentsRead.cut_view}
 use Rattle.yq_compose.proofs.RowsRead.{alias_fit, alias_given, borrowed_fit, fit_agrees, head_quoted, head_read, lent_fit, lent_given}
@@ -127,8 +127,8 @@ returns-clause-fits c = λ r is.
 pub head_place-start-requires-clause-rows_view : goal.head_place-start-requires-clause-rows_view
 head_place-start-requires-clause-rows_view c = cut_view c.args.text.now c.args.rows.now c.requires.cut
 
-pub is_lent-requires : goal.is_lent-requires
-is_lent-requires c =
+pub lends_head-requires : goal.lends_head-requires
+lends_head-requires c =
     let k = c.requires.cut in
     let r = row_at c.args.text.now c.args.rows.now k c.args.other.row c.requires.within in
     let start = ap (λ (x : ℕ × ℕ). x.0) (c.head_place-start.ensures (cut_of c.args.text.now) k.rows r.0 r.1) in
@@ -149,20 +149,20 @@ returns-then-first_is-clause-agrees c = λ r is.
       names_none = λ e. absurd (false≢true (sym e));
     }
 
-pub returns-then-is_lent-clause-fits : goal.returns-then-is_lent-clause-fits
-returns-then-is_lent-clause-fits c = λ r is.
+pub returns-then-lends_head-clause-fits : goal.returns-then-lends_head-clause-fits
+returns-then-lends_head-clause-fits c = λ r is.
     let k = c.requires.cut in
     let head = c.head-head.ensures (slices r) (pieces_there c.args.text.now c.args.rows.now k c.args.other.row r is) in
     let start = ap (λ (x : ℕ × ℕ). x.0) (c.head_place-start.ensures (cut_of c.args.text.now) k.rows r is) in
-    lent_fit c.args.text.now c.args.rows.now k c.args.other.row r is c.split_at.result.1.now c.head_place-start.result.0 c.split_at.ensures.back start c.head-head.result.now head (c.if-is_lent.ensures refl)
+    lent_fit c.args.text.now c.args.rows.now k c.args.other.row r is c.split_at.result.1.now c.head_place-start.result.0 c.split_at.ensures.back start c.head-head.result.now head (c.if-lends_head.ensures refl)
 
-pub returns-then-is_lent-clause-agrees : goal.returns-then-is_lent-clause-agrees
-returns-then-is_lent-clause-agrees c = λ r is.
+pub returns-then-lends_head-clause-agrees : goal.returns-then-lends_head-clause-agrees
+returns-then-lends_head-clause-agrees c = λ r is.
     let k = c.requires.cut in
     let head = c.head-head.ensures (slices r) (pieces_there c.args.text.now c.args.rows.now k c.args.other.row r is) in
     let start = ap (λ (x : ℕ × ℕ). x.0) (c.head_place-start.ensures (cut_of c.args.text.now) k.rows r is) in
     let whole = place_whole c.args.text.now c.args.rows.now k c.args.other.row r is c.head-head.result.now _ head (sym c.borrows_head.ensures ∙ c.if-borrows_head.false) c.head-head.utf8 refl in
     record {
-      head = lent_given c.args.text.now c.args.rows.now k c.args.other.row r is c.split_at.result.1.now c.head_place-start.result.0 c.split_at.ensures.back start c.head-head.result.now head (c.if-is_lent.ensures refl) whole;
-      names_none = λ e. lent_named c.args.text.now c.args.rows.now k c.args.other.row r is c.split_at.result.1.now c.head_place-start.result.0 c.split_at.ensures.back start c.head-head.result.now head (c.if-is_lent.ensures refl);
+      head = lent_given c.args.text.now c.args.rows.now k c.args.other.row r is c.split_at.result.1.now c.head_place-start.result.0 c.split_at.ensures.back start c.head-head.result.now head (c.if-lends_head.ensures refl) whole;
+      names_none = λ e. lent_named c.args.text.now c.args.rows.now k c.args.other.row r is c.split_at.result.1.now c.head_place-start.result.0 c.split_at.ensures.back start c.head-head.result.now head (c.if-lends_head.ensures refl);
     }

@@ -1,7 +1,7 @@
 use Rattle.std.proofs.Common.{◌≡◌, ℕ, ◌+◌, ◌-◌, ◌++◌, drop, length, sym, ap, ◌∙◌, arith}
-use Rattle.yq_outline.{specs.Names.{line_names}, specs.Lines.{head_of, lines_of_rows}, specs.RowWalk.IsLine, proofs.WalkRows.rows_length}
+use Rattle.yq_outline.{specs.Names.line_names, specs.Lines.{head_of, lines_of_rows}, specs.RowWalk.IsLine, proofs.WalkRows.rows_length}
 use Rattle.yq_outline.proofs.WalkPositions.{located}
-use Rattle.yq_row_table.specs.{Exchange.after_row, View.slices}
+use Rattle.yq_row_table.{specs.Exchange.after_row, specs.View.slices}
 use Rattle.yq_documents.{specs.FlowReading.row_flow, specs.RowReading.name_in, proofs.RowLineLaws.anchor_is}
 use Rattle.yq_compose.{specs.Named.{all_named, flow_names}, proofs.HeadViewLaws.{means_named, row_means, row_of_cut}}
 use Rattle.yq_compose.{proofs.NameRows.{names_all, names_pass}, proofs.ReadyLaws.row_first_line}
@@ -35,7 +35,7 @@ rows-preserved c = record {
       let next : (c.rows.i - d.first) + 1 ≡ (c.rows.i + 1) - d.first = omega (arith, c.rows.auto.i) in
       names_pass (line_names (lines_of_rows k.document.rows)) _ _ _ _ _ k.document.rows (c.rows.i - d.first) ((c.rows.i + 1) - d.first) f.row f.there next (c.rows.invariant.names k) c.in_ok-push_anchor.ensures name c.in_ok-push_flow.ensures
       (ap flow_names (c.row_flow.ensures k f.row (row_of_cut x.text.now x.rows.now x.decoded.now d k (record { row = c.rows.i; line = 0 }) at))
-          ∙ sym (means_named (head_of f.row.content) (row_flow (length x.text.now) f.row (after_row c.rows.i k.cut)) (row_means x.text.now x.rows.now x.decoded.now d k (record { row = c.rows.i; line = 0 }) at)));
+      ∙ sym (means_named (head_of f.row.content) (row_flow (length x.text.now) f.row (after_row c.rows.i k.cut)) (row_means x.text.now x.rows.now x.decoded.now d k (record { row = c.rows.i; line = 0 }) at)));
 }
 
 pub returns : goal.returns

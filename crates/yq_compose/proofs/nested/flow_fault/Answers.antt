@@ -28,9 +28,9 @@ returns-in-Owned-clause-sound c = λ r l is.
     let found = c.row_flow.ensures r (located x.rows.now x.document r.document c.args.at.position c.requires.line).row (row_of_cut x.text.now x.rows.now x.decoded.now x.document r c.args.at.position c.requires.line) in
     let flow = sym found ∙ ap (option_map flow_view) (c.in-Some.is ∙ ap Some c.in-Owned.is) in
     decides_as c.node_fault.result _ _
-        (ap (head_is_sound c.args.depth)
-        (flow_line x.text.now x.rows.now x.decoded.now x.document r c.args.at.position c.requires.line l is _ flow
-        (c.if-not-has_head.ensures r.document l is))) c.node_fault.ensures.sound
+    (ap (head_is_sound c.args.depth)
+    (flow_line x.text.now x.rows.now x.decoded.now x.document r c.args.at.position c.requires.line l is _ flow
+    (c.if-not-has_head.ensures r.document l is))) c.node_fault.ensures.sound
 
 pub returns-in-Borrowed-clause-sound : goal.returns-in-Borrowed-clause-sound
 returns-in-Borrowed-clause-sound c = λ r l is.
@@ -38,9 +38,9 @@ returns-in-Borrowed-clause-sound c = λ r l is.
     let found = c.row_flow.ensures r (located x.rows.now x.document r.document c.args.at.position c.requires.line).row (row_of_cut x.text.now x.rows.now x.decoded.now x.document r c.args.at.position c.requires.line) in
     let flow = sym found ∙ ap (option_map flow_view) (c.in-Some.is ∙ ap Some c.in-Borrowed.is) in
     decides_as c.borrowed_fault.result _ _
-        (ap (head_is_sound c.args.depth)
-        (flow_line x.text.now x.rows.now x.decoded.now x.document r c.args.at.position c.requires.line l is _ flow
-        (c.if-not-has_head.ensures r.document l is))) c.borrowed_fault.ensures.sound
+    (ap (head_is_sound c.args.depth)
+    (flow_line x.text.now x.rows.now x.decoded.now x.document r c.args.at.position c.requires.line l is _ flow
+    (c.if-not-has_head.ensures r.document l is))) c.borrowed_fault.ensures.sound
 
 pub returns-in-Alias-clause-sound : goal.returns-in-Alias-clause-sound
 returns-in-Alias-clause-sound c = λ r l is.

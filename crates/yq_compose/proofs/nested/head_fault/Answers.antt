@@ -1,4 +1,4 @@
-use Rattle.std.{proofs.Common.{not, sym, ap, ◌∙◌, arith}}
+use Rattle.std.proofs.Common.{not, sym, ap, ◌∙◌, arith}
 use Rattle.yq_compose.proofs.HeadViewLaws.{none_of, unmade_sound}
 use Rattle.yq_compose.proofs.nested.head_fault.Goals as goal
 

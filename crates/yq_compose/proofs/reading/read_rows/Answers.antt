@@ -30,7 +30,7 @@ pub new-requires : goal.new-requires
 new-requires c =
     let t = c.args.text.now in
     let k = cut_into t c.args.rows c.requires.0 c.requires.1 c.requires.2 in
-    held t c.args.rows c.in-Ok.decoded.made.items c.in_ok-documents.documents.items k c.in-Ok.ensures.decoded (are_placed t c.args.rows c.in_ok-documents.documents.items k c.in_ok-documents.ensures) c.in-Ok.decoded.refers
+    held t c.args.rows c.in-Ok.decoded.decoded.items c.in_ok-documents.documents.items k c.in-Ok.ensures.decoded (are_placed t c.args.rows c.in_ok-documents.documents.items k c.in_ok-documents.ensures) c.in-Ok.decoded.refers
     c.in-Ok.ensures.refers (sym (all_split t (cut_of t) k.cut) ∙ (λ i. c.in-Ok.ensures.fits i && c.in-Ok-check_documents.ensures.sound i))
 
 pub returns-clause-documents : goal.returns-clause-documents

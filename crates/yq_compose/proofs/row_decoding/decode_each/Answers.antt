@@ -2,7 +2,8 @@ use Rattle.std.proofs.Common.{arith, refl}
 use Rattle.yq_row_table.specs.View.{rows_of}
 use Rattle.yq_documents.{specs.Reading.{cut_of, have_fit_keys}, specs.RowReading.row_fits}
 use Rattle.yq_compose.{proofs.AllOf.all_fails, proofs.DecidingLaws.denies_as}
-use Rattle.yq_compose.{proofs.DecodedRows.{are_alias_free, are_decoded, decoded_done, decoded_start, row_step}, proofs.RowsRead.{row_at, rows_count}}
+use Rattle.yq_compose.proofs.DecodedRows.{are_alias_free, are_decoded, decoded_done, decoded_start, row_step}
+use Rattle.yq_compose.proofs.RowsRead.{row_at, rows_count}
 use Rattle.yq_compose.proofs.row_decoding.decode_each.Goals as goal
 
 pub rows-init : goal.rows-init
@@ -21,7 +22,7 @@ rows-preserved c =
     let r = row_at c.args.text.now c.args.rows.now c.requires.cut c.rows.at (omega (arith, c.rows-test.true, c.len.ensures)) in
     record {
       within = omega (arith, c.rows-test.true, c.len.ensures);
-      so_far = row_step c.args.text.now c.rows.refers c.rows.at c.rows.decoded.items c.rows.invariant.so_far r.0 r.1 (c.in-Ok.ensures.fits r.0 r.1) c.in-Ok.found.made
+      so_far = row_step c.args.text.now c.rows.refers c.rows.at c.rows.decoded.items c.rows.invariant.so_far r.0 r.1 (c.in-Ok.ensures.fits r.0 r.1) c.in-Ok.found.decoded
           c.push_decoded.new.decoded.items c.in-Ok.ensures.row c.in_ok-push_decoded.ensures (c.in-Ok.ensures.agrees r.0 r.1) c.in-Ok.found.refers _ refl (c.in-Ok.ensures.refers r.0 r.1);
     }
 

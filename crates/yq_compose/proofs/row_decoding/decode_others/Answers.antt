@@ -23,7 +23,7 @@ decoded_of-requires-clause-within c = (next_other c.args.text.now c.args.rows.no
 pub decoded_of-requires-clause-known : goal.decoded_of-requires-clause-known
 decoded_of-requires-clause-known c = λ r is.
     (next_other c.args.text.now c.args.rows.now c.requires.cut c.rows.refers none c.rows.left.now c.rows.decoded.items c.in-len1-up.len_at_least
-        c.rows.invariant).2 (slices r) (pieces_there c.args.text.now c.args.rows.now c.requires.cut _ r is)
+    c.rows.invariant).2 (slices r) (pieces_there c.args.text.now c.args.rows.now c.requires.cut _ r is)
 
 pub returns-in-Err-clause-fits : goal.returns-in-Err-clause-fits
 returns-in-Err-clause-fits c =
@@ -41,7 +41,7 @@ rows-preserved c =
       at = suc (get_or c.rows.left.now 0 none).row;
       within = omega (arith, u.0);
       upto = subst (λ (n : ℕ). DecodedUpto c.args.text.now (c.rows.refers || c.in-Ok.found.refers) n c.push_decoded.new.decoded.items) (omega arith)
-          (row_step c.args.text.now c.rows.refers (get_or c.rows.left.now 0 none).row c.rows.decoded.items u.1 r.0 r.1 (c.in-Ok.ensures.fits r.0 r.1) c.in-Ok.found.made
+          (row_step c.args.text.now c.rows.refers (get_or c.rows.left.now 0 none).row c.rows.decoded.items u.1 r.0 r.1 (c.in-Ok.ensures.fits r.0 r.1) c.in-Ok.found.decoded
           c.push_decoded.new.decoded.items c.in-Ok.ensures.row c.in_ok-push_decoded.ensures (c.in-Ok.ensures.agrees r.0 r.1) c.in-Ok.found.refers _ refl (c.in-Ok.ensures.refers r.0 r.1));
       others = u.3;
     }

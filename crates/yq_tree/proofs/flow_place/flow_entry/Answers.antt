@@ -1,4 +1,5 @@
-use Rattle.std.{proofs.Common.{◌≡◌, eqb, List, ℕ, Option, map, sym, ap, ◌∙◌, subst}, specs.Prelude.option_and_then, proofs.lemmas.List.length-map}
+use Rattle.std.{proofs.Common.{◌≡◌, eqb, List, ℕ, Option, map, sym, ap, ◌∙◌, subst}, specs.Prelude.option_and_then}
+use Rattle.std.proofs.lemmas.List.{length-map}
 use Rattle.yq_core.{specs.Entries.tree_step, specs.Places.Placed}
 use Rattle.yq_outline.{specs.Ends.reached, specs.Lines.lines_of_rows}
 use Rattle.yq_documents.{specs.Located.steps_of, specs.Decoded.decoded_head_flow, specs.Reading.cut_of}

@@ -1,7 +1,7 @@
 use Rattle.std.{proofs.Common.{sym, ap, ◌∙◌, arith}, proofs.lemmas.Bool.leb-true}
 use Rattle.yq_documents.specs.Decoded.{borrowed_depth, opens_collection}
 use Rattle.yq_compose.proofs.BorrowedHeads.{deeper_head}
-use Rattle.yq_compose.proofs.borrowing.is_lent.Goals as goal
+use Rattle.yq_compose.proofs.borrowing.lends_head.Goals as goal
 
 pub returns-in-Some : goal.returns-in-Some
 returns-in-Some c = λ yes.

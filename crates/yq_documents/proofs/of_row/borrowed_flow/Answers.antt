@@ -1,10 +1,9 @@
-use Rattle.std.proofs.Common.{ℕ, length, refl, sym, ap, ◌∙◌, arith}
-use Rattle.std.proofs.lemmas.List.{length-drop}
-use Rattle.yq_core.{specs.Borrowed.is_borrowed}
+use Rattle.std.{proofs.Common.{ℕ, length, refl, sym, ap, ◌∙◌, arith}, proofs.lemmas.List.length-drop}
+use Rattle.yq_core.specs.Borrowed.{is_borrowed}
 use Rattle.yq_row_table.specs.View.{slices}
-use Rattle.yq_documents.{specs.Decoded.{begins_flow, borrowed_depth}, proofs.LentHeads.{alias_given, collection_given, collection_here}}
-use Rattle.yq_documents.proofs.LentHeads.{other_given, pieces, row_here}
-use Rattle.yq_documents.proofs.of_row.lent_head.Goals as goal
+use Rattle.yq_documents.specs.Decoded.{begins_flow, borrowed_depth}
+use Rattle.yq_documents.proofs.LentHeads.{alias_given, collection_given, collection_here, other_given, pieces, row_here}
+use Rattle.yq_documents.proofs.of_row.borrowed_flow.Goals as goal
 
 pub returns-then-not-begins_flow : goal.returns-then-not-begins_flow
 returns-then-not-begins_flow c = λ k r is.
