@@ -1,10 +1,10 @@
 -- What is borrowed as it is written is what it spells.
-use Rattle.std.proofs.Common.{◌≡◌, ℕ, ℤ, Bool, true, false, not, ◌||◌, ◌&&◌, List, [], ◌∷◌, Some, None, refl, sym, ap}
-use Rattle.std.proofs.lemmas.Bool.{and_parts, not-true, or_parts}
+use Rattle.std.proofs.Common.{◌≡◌, ℕ, ℤ, eqb, Bool, true, false, not, ◌||◌, ◌&&◌, List, [], ◌∷◌, Some, None, refl, sym, ap}
+use Rattle.std.proofs.lemmas.Bool.{and_parts, false≢true, not-true, or_parts}
 use Rattle.yq_core.{specs.Borrowed.{borrowed_text, borrows_text}, specs.ContentReading.quoted_content, specs.Nodes.begins_with}
 use Rattle.yq_core.{specs.Quoted.IsQuotedText, specs.Text.is_empty, specs.Scalars.{is_quoted, scalar_content}}
-use Rattle.yq_core.proofs.BorrowedTexts.{borrows_key, borrows_parts}
-use Rattle.yq_documents.{specs.Decoded.borrowed_head, specs.FlowReading.head_flow_at}
+use Rattle.yq_core.{proofs.BorrowedTexts.{borrows_key, borrows_parts}, proofs.Bools.at_byte}
+use Rattle.yq_documents.{specs.Decoded.{begins_flow, borrowed_head, opens_collection}, specs.FlowReading.head_flow_at}
 use Rattle.yq_documents.specs.RowReading.{is_block_head, read_head, is_short_plain, string_head}
 use Rattle.yq_compose.specs.Checking.{begins_tree, borrows_head}
 
@@ -43,3 +43,15 @@ borrowed_read whole n (b ∷ bs) t q e = go (is_quoted (b ∷ bs)) refl
     go false quoted =
         let short : is_short_plain h ≡ true = λ i. not (quoted i || trees.1 i) && not ((borrows_parts h parts.1).0 i) in
         borrowed_plain whole n h t refl trees.0 quoted short
+
+-- no alias and no collection begins with it
+pub no_flow : (h : List ℕ) → borrows_head h ≡ true → begins_flow h ≡ false
+no_flow [] e = refl
+no_flow (b ∷ bs) e =
+    let tree = not-true (begins_tree (b ∷ bs)) (and_parts (not (begins_tree (b ∷ bs))) (borrows_text (b ∷ bs)) e).0 in
+    (or_parts (is_block_head (b ∷ bs)) (begins_flow (b ∷ bs)) tree).1
+
+-- an alias is no collection
+pub star_closed : (h : List ℕ) → begins_with 42 h ≡ true → opens_collection h ≡ false
+star_closed [] e = absurd (false≢true e)
+star_closed (b ∷ bs) e = rw (at_byte (λ x. eqb x 42) b 91 e refl, at_byte (λ x. eqb x 42) b 123 e refl) refl

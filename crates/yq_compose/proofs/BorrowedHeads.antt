@@ -8,7 +8,7 @@ use Rattle.yq_core.{specs.Text.is_empty, specs.Trees.{node_head, placed_tree, tr
 use Rattle.yq_core.{proofs.NodeAgain.is_anchored, proofs.TreeLaws.node_tree}
 use Rattle.yq_documents.{specs.FlowReading.{alias_or_collection, head_flow_at, node_flow_at}, specs.KeyReading.EndsIn}
 use Rattle.yq_documents.{specs.RowReading.{is_block_head, is_short_plain, read_head, node_head_at}, proofs.HeadLaws.fitting}
-use Rattle.yq_compose.specs.Borrowing.{opens_collection}
+use Rattle.yq_documents.specs.Decoded.{opens_collection}
 use Rattle.yq_inline.{specs.Passed.{IsPassedHead, IsPassedNode}, proofs.PassedLaws.deeper_node}
 use Rattle.yq_documents.proofs.HeadLaws as heads
 use Rattle.yq_documents.proofs.RowFlowLaws as flows
@@ -78,3 +78,26 @@ module _ (whole t rest : List ℕ) (d : ℕ) (ends : EndsIn whole t) (le : d ≤
       sym (flows.by_node whole n h t o.0 o.1 o.2 o.3
       ∙ (ap (node_flow_at whole n) is_located
       ∙ (flows.node_again whole n node rest (ap is_empty_node p.collection.is) (subst (EndsIn whole) is_located ends) (valid n) ∙ (kept ∙ ap Some (sym located)))))
+
+-- more collections may be nested
+pub deeper_head : (d e : ℕ) (t rest : List ℕ) → d ≤ e → IsPassedHead d t rest → IsPassedHead e t rest
+deeper_head d e t rest le p =
+    let x = p.collection.passed in
+    record {
+      close = p.close;
+      after = p.after;
+      is_located = p.is_located;
+      collection = record {
+        passed = record {
+          node = x.node;
+          is_located = x.is_located;
+          valid = deeper_node x.node true (Some 0) d e rest le x.valid;
+          borrowed = x.borrowed;
+          unique = x.unique;
+          fit = x.fit;
+        };
+        gap = p.collection.gap;
+        items = p.collection.items;
+        is = p.collection.is;
+      };
+    }

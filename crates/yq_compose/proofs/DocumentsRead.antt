@@ -1,5 +1,5 @@
 -- A text reads as documents where the keys of its rows are fit and its documents are sound.
-use Rattle.std.proofs.Common.{rules, ◌≡◌, get_or, ℕ, zero, suc, ◌+◌, ◌<◌, ◌≤◌, ◌-◌, Bool, true, false, ◌||◌, ◌&&◌, not, List, [], ◌∷◌, ◌++◌}
+use Rattle.std.proofs.Common.{◌≡◌, get_or, ℕ, zero, suc, ◌+◌, ◌<◌, ◌≤◌, ◌-◌, Bool, true, false, ◌||◌, ◌&&◌, not, List, [], ◌∷◌, ◌++◌}
 use Rattle.std.{proofs.Common.{length, take, drop, Option, Some, None, refl, sym, ap, ◌∙◌, subst, arith}, proofs.lemmas.Bool.false≢true}
 use Rattle.std.{proofs.lemmas.List.Folds.list_all-append, proofs.lemmas.Option.{slice_get-get_or, slice_get_within}}
 use Rattle.std.specs.List.{list_all, list_any, slice_get}
@@ -13,7 +13,7 @@ use Rattle.yq_documents.specs.Holding.{Holds, IsLocated}
 use Rattle.yq_documents.{specs.Reading.{all_documents, cut_of, has_short_root, have_fit_keys, is_document}, specs.RowReading.row_fits}
 use Rattle.yq_documents.{specs.Stretches.{document_lines, part_rows}, specs.declared.decoded.Decoded.Decoded}
 use Rattle.yq_documents.{specs.declared.documents.DocumentRows.DocumentRows, proofs.PartRows.{has_part, rows_located}}
-use Rattle.yq_compose.{specs.Checking.{IsCheckable, some_refer}, specs.Decoding.{AreDecoded, IsCutInto}}
+use Rattle.yq_compose.{specs.Checking.IsCheckable, specs.Decoding.{AreAliasFree, AreDecoded, IsCutInto}}
 use Rattle.yq_compose.{specs.Places.{AreLocated, all_sound, part_is_sound}, proofs.DecodedRows.each_fits}
 use Rattle.yq_compose.proofs.NoReferenceLaws.{ready_refers_not}
 
@@ -95,7 +95,7 @@ module _ (t : List ℕ) (s : RowsView) (ms : List Decoded) (ds : List DocumentRo
     pub ready_sound : (has_short_root ready.document.rows && lines_are_sound (lines_of_rows ready.document.rows)) ≡ part_is_sound p
     ready_sound = ap (λ (rs : List Row). has_short_root rs && lines_are_sound (lines_of_rows rs)) are_there.1.0
 
-    part_refers_not : some_refer ms ≡ false → list_any is_reference (line_names (lines_of_rows p.rows)) ≡ false
+    part_refers_not : AreAliasFree t → list_any is_reference (line_names (lines_of_rows p.rows)) ≡ false
     part_refers_not none = ap (λ (rs : List Row). list_any is_reference (line_names (lines_of_rows rs))) (sym are_there.1.0) ∙ ready_refers_not t s ms x ready none
 
   -- the document at an index
@@ -115,7 +115,7 @@ module _ (t : List ℕ) (s : RowsView) (ms : List Decoded) (ds : List DocumentRo
   has_document (x ∷ xs) zero h = (x, refl)
   has_document (x ∷ xs) (suc n) h = has_document xs n (omega (arith, h))
 
-  alias_free : some_refer ms ≡ false → (n : ℕ) → list_any is_reference (line_names (document_lines n t)) ≡ false
+  alias_free : AreAliasFree t → (n : ℕ) → list_any is_reference (line_names (document_lines n t)) ≡ false
   alias_free none n = go (slice_get (document_parts (cut_of t)) n) refl
     where
       go : (o : Option Part) → slice_get (document_parts (cut_of t)) n ≡ o → list_any is_reference (line_names (lines_of_rows (part_rows o))) ≡ false
@@ -125,8 +125,17 @@ module _ (t : List ℕ) (s : RowsView) (ms : List Decoded) (ds : List DocumentRo
           part_refers_not n d.0 (record { first = d.0.first; end = d.0.end }) p d.1 e refl refl none
 
   -- what is kept of the text
-  pub held : (refers : Bool) → refers ≡ some_refer ms → all_documents (cut_of t) ≡ true → Holds t s ds ms refers
-  held refers flag sound = search (rules, alias_free)
+  pub held : (refers : Bool) → (refers ≡ false → AreAliasFree t) → all_documents (cut_of t) ≡ true → Holds t s ds ms refers
+  held refers free sound = record {
+    cut = k.cut;
+    rows = k.rows;
+    sound = sound;
+    count = a.count;
+    places = a.each;
+    rise = m.rise;
+    agrees = m.agrees;
+    alias_free = λ e. alias_free (free e);
+  }
 
 -- rows of a text that is cut
 pub cut_view : (t : List ℕ) (s : RowsView) → IsCutInto t s → IsRowsView s

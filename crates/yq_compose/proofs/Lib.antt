@@ -9,6 +9,7 @@ pub mod LineLevelLaws
 pub mod ReadyLaws
 pub mod GivesLaws
 pub mod ReachedLaws
+pub mod BorrowedDepths
 pub mod HeadViewLaws
 pub mod FitLaws
 pub mod AnchorRows
@@ -17,6 +18,7 @@ pub mod RowContents
 pub mod NameRows
 pub mod NoReferenceLaws
 pub mod HeadsApart
+pub mod BorrowedHeads
 pub mod BorrowLaws
 pub mod RowBegins
 pub mod RowsRead
@@ -25,7 +27,5 @@ pub mod DecodedRows
 pub mod PartLaws
 pub mod DocumentsRead
 pub mod FlowSound
-pub mod BorrowedHeads
-pub mod BorrowedDepths
 pub mod WordHeads
 pub mod WordRowLaws

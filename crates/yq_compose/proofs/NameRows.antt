@@ -1,14 +1,11 @@
 -- The anchors and aliases of lines, row by row.
-use Rattle.std.proofs.Common.{rules, ◌≡◌, ℕ, ◌+◌, ◌≤◌, List, [], ◌++◌, drop, length, Option, Some, None, refl, sym, ap, ◌∙◌, append_assoc}
-use Rattle.std.{proofs.Common.append-nil, proofs.lemmas.List.drop_all, specs.List.slice_get, specs.Prelude.{option_and_then, option_map}}
+use Rattle.std.proofs.Common.{◌≡◌, ℕ, ◌+◌, ◌≤◌, List, [], ◌++◌, drop, length, Option, Some, None, refl, sym, ap, ◌∙◌, append_assoc}
+use Rattle.std.{proofs.Common.append-nil, proofs.lemmas.List.drop_all, specs.List.slice_get}
 use Rattle.yq_core.specs.Anchors.{Name, anchor_names}
 use Rattle.yq_outline.{specs.Names.{head_names, line_names}, specs.Outline.Line, specs.Lines.{content_anchor, head_of, lines_of_rows}}
 use Rattle.yq_outline.proofs.WalkLevels.{names_row}
 use Rattle.yq_row_table.specs.Rows.{Row}
-use Rattle.yq_documents.specs.Decoded.{borrowed_head, decoded_or, decoded_flow, decoded_head, decoded_view, decoded_head_flow}
-use Rattle.yq_documents.specs.declared.decoded.Decoded.{Decoded}
-use Rattle.yq_compose.{specs.Named.flow_names, proofs.RowContents.lines_at}
-use Rattle.yq_documents.specs.declared.decoded.DecodedHead as kept
+use Rattle.yq_compose.proofs.RowContents.{lines_at}
 
 with-append : (a : Option (List ℕ)) (xs ys : List Name) → anchor_names a (xs ++ ys) ≡ anchor_names a xs ++ ys
 with-append None xs ys = refl
@@ -37,14 +34,3 @@ names_pass all before middle after f a rs i j r is next so_far anchor named head
 
 pub names_all : (all names : List Name) (rs : List Row) (i : ℕ) → length rs ≤ i → names ++ line_names (lines_of_rows (drop i rs)) ≡ all → names ≡ all
 names_all all names rs i past so_far = sym (append-nil names) ∙ (ap (λ (x : List Row). names ++ line_names (lines_of_rows x)) (sym (drop_all i rs past)) ∙ so_far)
-
--- the names in a head are those in what is made of it
-borrowed_named : (h : List ℕ) → head_names (borrowed_head h) ≡ []
-borrowed_named h = search rules
-
-decoded_named : (o : Option kept.DecodedHead) (h : List ℕ) → head_names (decoded_or (option_map decoded_view o) (borrowed_head h)) ≡ flow_names (option_and_then decoded_head_flow o)
-decoded_named o h = search (rules, borrowed_named)
-
-pub flow_named : (m : Option Decoded) (h : List ℕ) → head_names (decoded_head m h) ≡ flow_names (decoded_flow m)
-flow_named None h = borrowed_named h
-flow_named (Some x) h = decoded_named x.head h

@@ -12,7 +12,7 @@ row_within t s ms d q ready at = omega (arith, at.upto, ready.document.within)
 
 -- what is known of a row of the cut, by its pieces
 pub row_known : (t : List ℕ) (s : RowsView) (ms : List Decoded) (d : Stretch) (ready : IsCheckable t s ms d) (i : ℕ) (x : Slices) → slice_get s.rows i ≡ Some x →
-    (r : Row) × (slices r ≡ x) × IsDecodedBy (length t) ready.cut (decoded_at i ms) i r
+    (r : Row) × (slices r ≡ x) × IsDecodedBy t ready.cut (decoded_at i ms) i r
 row_known t s ms d ready i x there =
     let r = row_there (rows_of ready.cut) i x (ap (λ (y : RowsView). slice_get y.rows i) (sym ready.rows) ∙ there) in
     (r.0, r.2, ready.agrees i r.0 r.1)

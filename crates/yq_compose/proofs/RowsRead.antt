@@ -1,25 +1,27 @@
 -- What the rows of a text spell is given by reading their heads again.
 use Rattle.std.proofs.Common.{rules, ◌≡◌, ℕ, ℤ, zero, suc, ◌<◌, Bool, true, false, List, [], ◌∷◌, ◌++◌, length, drop, Option, Some, None}
 use Rattle.std.proofs.Common.{refl, sym, ap, ◌∙◌, subst, arith, append_assoc, length-append}
-use Rattle.std.{proofs.Math.Seq.{drop-append_seam, get_or-append_seam}, proofs.lemmas.Bool.{cond-false, false≢true}}
+use Rattle.std.{proofs.Math.Seq.{drop-append_seam, get_or-append_seam}, proofs.lemmas.Bool.{cond-false, false≢true, or_parts}}
 use Rattle.std.{proofs.lemmas.List.length-map, proofs.lemmas.Option.{cond_some, slice_get-map}, proofs.lemmas.Str.IsCharBoundary-start}
-use Rattle.std.{specs.List.slice_get, specs.Prelude.option_map, specs.Str.{IsCharBoundary, IsUtf8}}
+use Rattle.std.{specs.List.{list_any, slice_get}, specs.Prelude.option_map, specs.Str.{IsCharBoundary, IsUtf8}}
 use Rattle.yq_core.{specs.Answers.{ReadFails, ReadError}, specs.Quoted.IsQuotedText, specs.Nodes.begins_with, specs.Text.is_empty}
-use Rattle.yq_core.{specs.Scalars.{scalar_content, is_quoted}, specs.Borrowed.{borrows_text, borrowed_text}, proofs.OneLine.kept}
-use Rattle.yq_core.{specs.FitKeys.key_fits, proofs.BorrowedTexts.borrows_key}
-use Rattle.yq_outline.{specs.Lines.head_of, proofs.RowLaws.{colon_some, mark_quoted}}
+use Rattle.yq_core.{specs.Scalars.{scalar_content, is_quoted}, proofs.OneLine.kept, specs.Places.Placed, specs.Trees.placed_tree}
+use Rattle.yq_core.{specs.Borrowed.{borrows_text, borrowed_text, is_borrowed, leading_node}, specs.FitKeys.key_fits}
+use Rattle.yq_core.{proofs.BorrowedNames.front_names, proofs.BorrowedTexts.borrows_key}
+use Rattle.yq_outline.{specs.Lines.head_of, specs.Names.is_reference, specs.View.{head_flow, head_view}, specs.declared.line.Head.Head}
+use Rattle.yq_outline.proofs.RowLaws.{colon_some, mark_quoted}
 use Rattle.yq_row_table.{specs.Exchange.{before_content, after_row, following_rows}, specs.Grammar.IsMark}
 use Rattle.yq_row_table.{specs.Rows.{Row, Cut, parent_indent}, specs.View.{Slices, colon_of, key_of_mark, slices, rows_of, RowsView}}
 use Rattle.yq_row_table.{proofs.PlaceLaws.{RowIn, place, row_in}, proofs.SliceLaws.content_slices, specs.WordRows.KnowsHead}
 use Rattle.yq_documents.{specs.FlowReading.{head_flow_at, row_flow}, specs.KeyReading.EndsIn}
-use Rattle.yq_documents.specs.Decoded.{alias_from, borrowed_head, decoded_view, decoded_head_flow}
-use Rattle.yq_documents.{specs.declared.decoded.DecodedHead.DecodedHead, specs.Reading.{content_is_fit, cut_of, mark_is_fit}}
-use Rattle.yq_documents.{specs.RowReading.read_head, proofs.HeadLaws.{fitting, head_is, head_text}, proofs.RowFlowLaws.flow_is}
-use Rattle.yq_documents.proofs.RowLineLaws.{content_quoted}
+use Rattle.yq_documents.specs.Decoded.{IsKnownHead, borrowed_depth, borrowed_head, opens_collection}
+use Rattle.yq_documents.{specs.Reading.{content_is_fit, cut_of, mark_is_fit}, specs.RowReading.read_head}
+use Rattle.yq_documents.{proofs.HeadLaws.{fitting, head_is, head_text}, proofs.RowFlowLaws.flow_is, proofs.RowLineLaws.content_quoted}
 use Rattle.yq_inline.proofs.WholeCollections.{whole_passed}
-use Rattle.yq_compose.{specs.Borrowing.PassesHead, specs.Checking.borrows_head, specs.Deciding.Denies}
-use Rattle.yq_compose.{specs.Decoding.{IsCutInto, IsHeadDecoded, IsKeyDecoded}, proofs.RowBegins.mark_plain}
-use Rattle.yq_compose.{proofs.AliasHeads.{MeansAlias, means_alias}, proofs.BorrowLaws.borrowed_read}
+use Rattle.yq_compose.{specs.Borrowing.{LendsHead, PassesHead}, specs.Checking.borrows_head, specs.Deciding.Denies}
+use Rattle.yq_compose.{specs.Decoding.{IsCutInto, IsKeyDecoded, NamesNone}, specs.Named.flow_names, proofs.RowBegins.mark_plain}
+use Rattle.yq_compose.{proofs.AliasHeads.{MeansAlias, means_alias}, proofs.BorrowLaws.{borrowed_read, no_flow, star_closed}}
+use Rattle.yq_compose.proofs.BorrowedHeads.{head_flow_is, head_lent, head_view_is}
 use Rattle.yq_core.specs.Tree as trees
 use Rattle.yq_failure.specs.declared.failure.Failure.TheVariants as errors
 use Rattle.yq_row_table.specs.Rows as rows
@@ -135,25 +137,35 @@ module _ (t : List ℕ) (s : RowsView) (k : IsCutInto t s) (i : ℕ) (r : Row) (
     pub borrowed_fit : content_is_fit r.content ≡ true
     borrowed_fit = (cond_some (content_is_fit r.content) _ _ borrowed_so.0).0
 
-    pub none_decoded : IsHeadDecoded t i None r
-    none_decoded = record { head = sym (cond_some (content_is_fit r.content) _ _ borrowed_so.0).1; flow = borrowed_so.1 }
+    pub none_given : IsKnownHead t c None i r
+    none_given =
+        let apart = or_parts (begins_with 42 (slices r).head) (opens_collection (slices r).head) (no_flow (slices r).head (ap borrows_head (sym head) ∙ borrows)) in
+        record {
+          alias = λ star. absurd (false≢true (sym apart.0 ∙ star));
+          collection = λ opens. absurd (false≢true (sym apart.1 ∙ opens));
+          other = λ closed. (sym (cond_some (content_is_fit r.content) _ _ borrowed_so.0).1, borrowed_so.1);
+        }
+
+    pub none_named : NamesNone t i r
+    none_named = ap (λ o. list_any is_reference (flow_names o)) (sym borrowed_so.1)
 
   -- the head is an alias
-  module _ (h m : List ℕ) (head : h ≡ (slices r).head) (star : begins_with 42 h ≡ true) (rest : m ≡ drop 1 h) where
-    means : MeansAlias (after_row i c) r.content
-    means = means_alias (parent_indent r) r.content (after_row i c) row_here.row.content (ap (begins_with 42) (sym head) ∙ star)
+  module _ (h : List ℕ) (head : h ≡ (slices r).head) (star : begins_with 42 h ≡ true) where
+    own_star : begins_with 42 (slices r).head ≡ true
+    own_star = ap (begins_with 42) (sym head) ∙ star
 
-    name_is : m ≡ drop 1 (slices r).head
-    name_is = rest ∙ ap (drop 1) head
+    means : MeansAlias (after_row i c) r.content
+    means = means_alias (parent_indent r) r.content (after_row i c) row_here.row.content own_star
 
     pub alias_fit : content_is_fit r.content ≡ true
     alias_fit = means.fit
 
-    pub alias_view : Some (trees.alias m) ≡ head_of r.content
-    alias_view = ap (λ x. Some (trees.alias x)) name_is ∙ means.head
-
-    pub alias_flow : (at : ℕ) → at ≡ length before → Some (alias_from m at) ≡ row_flow (length t) r (after_row i c)
-    alias_flow at place_is = ap (λ x. Some (alias_from x at)) name_is ∙ means.flow (length t) at (omega (arith, place_is, ap length text_there, length-append before after))
+    pub alias_given : IsKnownHead t c None i r
+    alias_given = record {
+      alias = λ e. (means.head, means.flow (length t) (length before) (omega (arith, ap length text_there, length-append before after)));
+      collection = λ opens. absurd (false≢true (sym (star_closed (slices r).head own_star) ∙ opens));
+      other = λ closed. absurd (false≢true (sym (or_parts (begins_with 42 (slices r).head) (opens_collection (slices r).head) closed).0 ∙ own_star));
+    }
 
   pub place_whole : (h : List ℕ) (n : ℕ) → h ≡ (slices r).head → borrows_head h ≡ false → IsUtf8 h → n ≡ length before → IsCharBoundary t n
   place_whole h n e unlent u at =
@@ -184,8 +196,44 @@ module _ (t : List ℕ) (s : RowsView) (k : IsCutInto t s) (i : ℕ) (r : Row) (
       flow_read : head_flow_at t p h text ≡ row_flow (length t) r (after_row i c)
       flow_read = (λ j. head_flow_at t (parent j) (head j) (from_there j)) ∙ flow_again
 
-      pub read_decoded : (x : DecodedHead) → read_head t p h text ≡ Some (decoded_view x) → decoded_head_flow x ≡ head_flow_at t p h text → IsHeadDecoded t i (Some x) r
-      read_decoded x view flow = record {
-        head = sym (cond_some (content_is_fit r.content) _ _ (sym head_read ∙ view)).1;
-        flow = flow ∙ flow_read;
+      pub read_given : (x : Head) → read_head t p h text ≡ Some (head_view x) → head_flow x ≡ head_flow_at t p h text → IsKnownHead t c (Some x) i r
+      read_given x view flow = (sym (cond_some (content_is_fit r.content) _ _ (sym head_read ∙ view)).1, flow ∙ flow_read)
+
+    -- the text lends the collection that the head is
+    module _ (h : List ℕ) (head : h ≡ (slices r).head) (lends : LendsHead h text) where
+      abbrev node : Placed
+      node = leading_node (length t) borrowed_depth text
+
+      lent_read : read_head t (parent_indent r) h text ≡ Some (Some (placed_tree node))
+      lent_read = head_view_is t text lends.passes.1.0 borrowed_depth text_ends lends.passes.0 lends.passes.1.1 h (parent_indent r) lends.opens
+
+      pub lent_fit : content_is_fit r.content ≡ true
+      lent_fit = fit_agrees _ _ _ _ (head_read (parent_indent r) h refl head) lent_read
+
+      lent_flow : Some node ≡ row_flow (length t) r (after_row i c)
+      lent_flow = head_flow_is t text lends.passes.1.0 borrowed_depth text_ends lends.passes.0 lends.passes.1.1 h (parent_indent r) lends.opens ∙ flow_read (parent_indent r) h refl head
+
+      lent_is : is_borrowed borrowed_depth text ≡ true
+      lent_is = head_lent t text lends.passes.1.0 borrowed_depth text_ends lends.passes.0 lends.passes.1.1
+
+      own_opens : opens_collection (slices r).head ≡ true
+      own_opens = ap opens_collection (sym head) ∙ lends.opens
+
+      here : drop (length before) t ≡ text
+      here = ap (λ (n : ℕ). drop n t) (sym place_is) ∙ sym from
+
+      pub lent_given : IsCharBoundary t (length before) → IsKnownHead t c None i r
+      lent_given boundary = record {
+        alias = λ star. absurd (false≢true (sym (star_closed (slices r).head star) ∙ own_opens));
+        collection = λ opens. record {
+          boundary = boundary;
+          borrowed = ap (is_borrowed borrowed_depth) here ∙ lent_is;
+          view = ap (λ (x : List ℕ). Some (placed_tree (leading_node (length t) borrowed_depth x))) here
+              ∙ sym (cond_some (content_is_fit r.content) _ _ (sym (head_read (parent_indent r) h refl head) ∙ lent_read)).1;
+          flow = ap (λ (x : List ℕ). Some (leading_node (length t) borrowed_depth x)) here ∙ lent_flow;
+        };
+        other = λ closed. absurd (false≢true (sym (or_parts (begins_with 42 (slices r).head) (opens_collection (slices r).head) closed).1 ∙ own_opens));
       }
+
+      pub lent_named : NamesNone t i r
+      lent_named = ap (λ o. list_any is_reference (flow_names o)) (sym lent_flow) ∙ ap (list_any is_reference) (front_names (length t) borrowed_depth text lent_is)

@@ -1,16 +1,12 @@
 -- Reading (own; a reader may skip it): a document of a text whose rows are cut, with what is made of these.
-use Rattle.std.specs.Prelude.{◌≡◌, ℕ, ◌<◌, nat_lt, List, length, slice_get, Some, Bool, false, ◌&&◌, ◌||◌, ◌-◌, not, take, drop}
-use Rattle.std.specs.List.{list_any}
+use Rattle.std.specs.Prelude.{◌≡◌, ℕ, ◌<◌, nat_lt, List, slice_get, Some, Bool, false, ◌&&◌, ◌||◌, ◌-◌, not, take, drop}
 use Rattle.yq_core.{specs.Borrowed.borrows_text, specs.Nodes.begins_with}
 use Rattle.yq_outline.{specs.Ends.{IsEndOf, has_no_lines, part}, specs.Extents.IsRowsView, specs.Outline.{Line, level}}
 use Rattle.yq_outline.{specs.Lines.lines_of_rows, specs.RowWalk.{HasRows, IsPosition, OfLine, OfLines, line_number, lines_stop}}
 use Rattle.yq_outline.{specs.declared.line_position.Position.Position, specs.declared.line_position.Stretch.Stretch}
-use Rattle.yq_outline.specs.Names.{is_reference}
 use Rattle.yq_row_table.{specs.Grammar.IsCut, specs.Rows.{Row, Cut}, specs.View.{rows_of, RowsView, rows_view}}
-use Rattle.yq_documents.{specs.Decoded.{IsDecoded, Rise, decoded_flow}, specs.RowReading.is_block_head}
-use Rattle.yq_documents.specs.declared.decoded.Decoded.{Decoded}
-use Rattle.yq_compose.{specs.Named.flow_names, specs.Ahead.IsAhead, specs.declared.checked.Checked.Checked}
-use Rattle.yq_compose.specs.declared.reached.Reached.{Reached}
+use Rattle.yq_documents.{specs.Decoded.{IsDecoded, Rise}, specs.RowReading.is_block_head, specs.declared.decoded.Decoded.Decoded}
+use Rattle.yq_compose.{specs.Ahead.IsAhead, specs.declared.checked.Checked.Checked, specs.declared.reached.Reached.Reached}
 
 -- an alias, a flow collection or a block scalar begins so (own)
 abbrev pub begins_tree : List ℕ → Bool
@@ -29,15 +25,7 @@ pub record IsCheckable (t : List ℕ) (s : RowsView) (ms : List Decoded) (d : St
   pub document : HasRows s d
   pub there : document.rows ≡ take (d.end - d.first) (drop d.first (rows_of cut))
   pub rise : Rise 0 ms
-  pub agrees : (i : ℕ) (r : Row) → slice_get (rows_of cut) i ≡ Some r → IsDecoded (length t) cut ms i r
-
--- an alias is in what is made of a row (own)
-abbrev pub decoded_refers : Decoded → Bool
-decoded_refers m = list_any is_reference (flow_names (decoded_flow (Some m)))
-
--- an alias is in what is made of rows (own)
-abbrev pub some_refer : List Decoded → Bool
-some_refer ms = list_any decoded_refers ms
+  pub agrees : (i : ℕ) (r : Row) → slice_get (rows_of cut) i ≡ Some r → IsDecoded t cut ms i r
 
 -- The document that is checked is such a one (own).
 abbrev pub IsChecked : Checked → Type 0

@@ -1,14 +1,14 @@
 //! Heads that the text lends.
-ghost use Rattle.std.specs.Prelude.{◌≡◌, ◌<◌, IfSome};
-ghost use Rattle.yq_documents.specs.KeyReading.{EndsIn};
+ghost use Rattle.std.specs.Prelude.{◌≡◌, ◌<◌, IfSome, IsTrue};
+ghost use Rattle.yq_documents.specs.Decoded.{opens_collection};
 ghost use Rattle.yq_compose.specs.Borrowing as spec;
 
-use yq_core::BorrowedNode;
+use yq_documents::BORROWED_DEPTH;
 use yq_inline::{Keys, pass_head};
 
 /// Whether a sequence or mapping in flow style begins so.
 fn opens_collection(head: &[u8]) -> bool
-    ensures { result ≡ spec.opens_collection head.now }
+    ensures { result ≡ opens_collection head.now }
 {
     matches!(head, [b'[' | b'{', ..])
 }
@@ -26,27 +26,17 @@ fn head_depth<'t>(keys: &mut Keys<'t>, depth: usize, text: &'t str) -> Option<us
     Some(passed.nested)
 }
 
-/// The flow collection that a head is which is written so and with which the text begins, where the text
-/// lends all of it, and its keys are fit and differ; its depth is 0 where nothing is known of it. The text ends
-/// where the whole one does.
-pub(crate) fn borrow_head<'t>(
-    keys: &mut Keys<'t>,
-    depth: usize,
-    whole: &str,
-    head: &str,
-    text: &'t str,
-) -> Option<BorrowedNode<'t>>
+/// Whether a head which is written so and with which the text begins is a flow collection that the text lends, and
+/// whose keys are fit and differ; its depth is 0 where nothing is known of it.
+pub(crate) fn lends_head<'t>(keys: &mut Keys<'t>, depth: usize, head: &str, text: &'t str) -> bool
     requires known { 0 < depth → spec.PassesHead depth text.now }
-    requires ends { EndsIn whole.now text.now }
-    ensures { IfSome result (spec.IsBorrowedHead whole.now head.now text.now) }
+    ensures { IsTrue result → spec.LendsHead head.now text.now }
 {
     if !opens_collection(head.as_bytes()) {
-        return None;
+        return false;
     }
-    let depth = head_depth(keys, depth, text)?;
-    Some(BorrowedNode {
-        total: whole.len(),
-        depth,
-        text,
-    })
+    match head_depth(keys, depth, text) {
+        Some(depth) => depth <= BORROWED_DEPTH,
+        None => false,
+    }
 }

@@ -1,22 +1,24 @@
 //! What rows spell, made where their text doesn't lend it.
-ghost use Rattle.std.specs.Prelude.{◌≡◌, ◌<◌, ◌++◌, length, option_and_then, option_map, string_bytes, true, IfErr, IfOk, IfSome, IsTrue};
-ghost use Rattle.std.specs.Prelude.{List, ℕ};
+ghost use Rattle.std.specs.Prelude.{◌≡◌, ◌<◌, ◌++◌, false, length, option_and_then, option_map, string_bytes, true, IfErr, IfOk, IfSome};
+ghost use Rattle.std.{specs.Prelude.{IsTrue, List, ℕ}, specs.List.list_any};
 ghost use Rattle.yq_core.{specs.Answers.IsOfText, specs.Text.front, specs.Quoted.IsQuotedText, specs.Runs.is_word_byte};
 ghost use Rattle.yq_core.specs.Scalars.{is_quoted as is_in_quotes};
-ghost use Rattle.yq_documents.specs.Decoded.{IsDecodedBy, decoded_view, decoded_head_flow};
-ghost use Rattle.yq_documents.{specs.Reading.{content_is_fit, cut_of, mark_is_fit}, specs.RowReading.row_fits};
+ghost use Rattle.yq_documents.{specs.Decoded.{IsDecodedBy, owned_head}, specs.Reading.{content_is_fit, cut_of, mark_is_fit}};
+ghost use Rattle.yq_documents.specs.RowReading.{row_fits};
 ghost use Rattle.yq_row_table.{specs.View.slices, specs.WordRows.KnowsHead};
-ghost use Rattle.yq_compose.{specs.Deciding.Decides, specs.Decoding.{IsCutInto, IsHeadDecoded, IsKeyDecoded, OfRow}};
+ghost use Rattle.yq_outline.{specs.Names.is_reference, specs.View.head_flow};
+ghost use Rattle.yq_compose.{specs.Deciding.Decides, specs.Decoding.{IsCutInto, IsHeadRead, IsKeyDecoded, NamesNone, OfRow}};
+ghost use Rattle.yq_compose.specs.Named.{flow_names};
 ghost use Rattle.yq_compose.specs.Checking as spec;
 
-use crate::borrowing::borrow_head;
-use crate::nested::{Flow, flow_decoded};
+use crate::borrowing::lends_head;
 use std::alloc::Global;
 use yq_core::fault_place::fault_at;
-use yq_core::{FaultKind, ReadError, Run, is_quoted, run_len, strip};
-use yq_documents::{Decoded, DecodedHead, node_refers};
+use yq_core::{FaultKind, ReadError, Run, first_is, is_quoted, run_len};
+use yq_documents::{Decoded, node_refers};
 use yq_inline::Keys;
 use yq_inline::borrows::{borrows_text, key_fits};
+use yq_outline::Head;
 use yq_row_heads::read_head;
 use yq_row_table::{Other, Rows};
 use yq_row_walk::head_place;
@@ -84,60 +86,82 @@ fn decode_key<'t>(
     Ok(Some(quoted_content(alloc, key)?))
 }
 
-/// The head of another row that its text doesn't lend, where its keys are fit.
+/// Whether an alias is in a head that is made.
+fn head_refers(head: &Head<'_>) -> bool
+    ensures { result ≡ list_any is_reference (flow_names (head_flow head.now)) }
+{
+    match head {
+        Head::Inline(node) => node_refers(node),
+        Head::Scalar(..) | Head::Nothing => false,
+    }
+}
+
+/// What is read of a row's head.
+#[derive(Drop)]
+struct HeadRead<'t> {
+    /// What is made of it, where its text doesn't lend it.
+    head: Option<Head<'t>>,
+    /// Whether an alias may be in it.
+    refers: bool,
+}
+
+/// The head of another row, where its keys are fit.
 fn decode_head<'t>(
     alloc: Global,
     keys: &mut Keys<'t>,
     text: &'t str,
     rows: &Rows<'t>,
     other: Other,
-) -> Result<Option<DecodedHead<'t>>, ReadError>
+) -> Result<HeadRead<'t>, ReadError>
     requires cut { IsCutInto text.now rows.now }
     requires within { other.row < length rows.now.rows }
     requires known { OfRow text.now other.row (λ r. KnowsHead other.depth (slices r).head) }
     ensures fits { OfRow text.now other.row (λ r. Decides result (content_is_fit r.content)) }
-    ensures agrees { OfRow text.now other.row (λ r. IfOk result (λ h. IsHeadDecoded text.now other.row h r)) }
+    ensures agrees { OfRow text.now other.row (λ r. IfOk result (λ h. IsHeadRead text.now other.row h r)) }
     ensures fault { IfErr result IsOfText }
 {
     let i = other.row;
+    let borrowed = HeadRead {
+        head: None,
+        refers: false,
+    };
     if !rows.has_head(i) {
-        return Ok(None);
+        return Ok(borrowed);
     }
     let head = rows.head(i);
     if begins_word(head.as_bytes()) && is_word_head(head, rows.from_head(i)) {
-        return Ok(None);
+        return Ok(borrowed);
     }
     if borrows_head(head) {
-        return Ok(None);
+        return Ok(borrowed);
+    }
+    if first_is(b'*', head.as_bytes()) {
+        return Ok(HeadRead {
+            head: None,
+            refers: true,
+        });
     }
     let (start, _) = head_place(rows, i);
-    if let Some(name) = strip(b'*', head) {
-        return Ok(Some(DecodedHead::Alias(name, start)));
-    }
     let after = text.split_at(start).1;
-    if let Some(node) = borrow_head(keys, other.depth, text, head, after) {
-        return Ok(Some(DecodedHead::Borrowed(node)));
+    if lends_head(keys, other.depth, head, after) {
+        return Ok(borrowed);
     }
     let parent = rows.parent_indent(i);
     match read_head(alloc, text, parent, head, after) {
-        Ok(head) => Ok(Some(DecodedHead::Owned(head))),
+        Ok(head) => Ok(HeadRead {
+            refers: head_refers(&head),
+            head: Some(head),
+        }),
         Err(e) => Err(e),
     }
 }
 
 /// What is made of row `i`, by what is made of its key and of its head, if anything is.
-fn decoded_row<'t>(
-    i: usize,
-    key: Option<String>,
-    head: Option<DecodedHead<'t>>,
-) -> Option<Decoded<'t>>
+fn decoded_row<'t>(i: usize, key: Option<String>, head: Option<Head<'t>>) -> Option<Decoded<'t>>
     ensures row { IfSome result (λ m. m.row ≡ i) }
     ensures key { option_and_then (λ m. option_map string_bytes m.key) result ≡
         option_map string_bytes key }
-    ensures head { option_and_then (λ m. option_map decoded_view m.head) result ≡
-        option_map decoded_view head.entry }
-    ensures flow { option_and_then (λ m. option_and_then decoded_head_flow m.head) result ≡
-        option_and_then decoded_head_flow head.entry }
+    ensures head { owned_head result ≡ head.entry }
 {
     if key.is_none() && head.is_none() {
         return None;
@@ -145,7 +169,16 @@ fn decoded_row<'t>(
     Some(Decoded { row: i, key, head })
 }
 
-/// What is made of a row, where its keys are fit; nothing where its text lends all it spells.
+/// What is read of a row.
+#[derive(Drop)]
+pub(crate) struct RowRead<'t> {
+    /// What is made of it, where its text doesn't lend all it spells.
+    pub(crate) decoded: Option<Decoded<'t>>,
+    /// Whether an alias may be in it.
+    pub(crate) refers: bool,
+}
+
+/// What is read of a row, where its keys are fit.
 #[inline(always)]
 pub(crate) fn decoded_of<'t>(
     alloc: Global,
@@ -153,14 +186,16 @@ pub(crate) fn decoded_of<'t>(
     text: &'t str,
     rows: &Rows<'t>,
     other: Other,
-) -> Result<Option<Decoded<'t>>, ReadError>
+) -> Result<RowRead<'t>, ReadError>
     requires cut { IsCutInto text.now rows.now }
     requires within { other.row < length rows.now.rows }
     requires known { OfRow text.now other.row (λ r. KnowsHead other.depth (slices r).head) }
     ensures fits { OfRow text.now other.row (λ r. Decides result (row_fits r)) }
     ensures agrees { OfRow text.now other.row (λ r.
-        IfOk result (λ m. IsDecodedBy (length text.now) (cut_of text.now) m other.row r)) }
-    ensures row { IfOk result (λ m. IfSome m (λ x. x.row ≡ other.row)) }
+        IfOk result (λ x. IsDecodedBy text.now (cut_of text.now) x.decoded other.row r)) }
+    ensures refers { OfRow text.now other.row (λ r.
+        IfOk result (λ x. x.refers ≡ false → NamesNone text.now other.row r)) }
+    ensures row { IfOk result (λ x. IfSome x.decoded (λ m. m.row ≡ other.row)) }
     ensures fault { IfErr result IsOfText }
 {
     let key = match decode_key(alloc, text, rows, other.row) {
@@ -168,26 +203,13 @@ pub(crate) fn decoded_of<'t>(
         Err(e) => return Err(e),
     };
     match decode_head(alloc, keys, text, rows, other) {
-        Ok(head) => Ok(decoded_row(other.row, key, head)),
+        Ok(found) => {
+            let HeadRead { head, refers } = found;
+            Ok(RowRead {
+                decoded: decoded_row(other.row, key, head),
+                refers,
+            })
+        }
         Err(e) => Err(e),
     }
-}
-
-/// Whether an alias is in what is made of a row.
-fn row_refers(row: &Decoded<'_>) -> bool
-    ensures { result ≡ spec.decoded_refers row.now }
-{
-    match flow_decoded(Some(row)) {
-        Some(Flow::Owned(node)) => node_refers(node),
-        Some(Flow::Borrowed(_)) => false,
-        Some(Flow::Alias(..)) => true,
-        None => false,
-    }
-}
-
-/// Whether an alias is in what is made of rows.
-pub(crate) fn some_refer(decoded: &[Decoded<'_>]) -> bool
-    ensures { result ≡ spec.some_refer decoded.now }
-{
-    decoded.iter().any(|row| row_refers(row))
 }

@@ -1,9 +1,9 @@
 //! A document, checked by its rows.
-ghost use Rattle.std.specs.Prelude.{◌≡◌, ◌&&◌, [], IfErr};
+ghost use Rattle.std.specs.Prelude.{◌≡◌, ◌&&◌, [], false, IfErr};
 ghost use Rattle.yq_core.specs.Answers.{IsOfText};
 ghost use Rattle.yq_outline.{specs.Names.line_names, specs.Lines.lines_of_rows};
 ghost use Rattle.yq_documents.specs.Reading.{has_short_root};
-ghost use Rattle.yq_compose.{specs.Checking.{IsChecked, OfChecked, some_refer}, specs.Deciding.Decides};
+ghost use Rattle.yq_compose.{specs.Checking.{IsChecked, OfChecked}, specs.Deciding.Decides, specs.Decoding.AreAliasFree};
 ghost use Rattle.yq_outline.specs.LinesReading as lines;
 
 use crate::ahead::ahead_from;
@@ -20,10 +20,10 @@ use yq_core::{DEPTH_LIMIT, FaultKind, ReadError};
 use yq_inline::Keys;
 use yq_outline::Position;
 
-/// The aliases of a document: an earlier anchor of its name for each. Whether there are some is known.
+/// The aliases of a document: an earlier anchor of its name for each. Whether there may be some is known.
 fn check_aliases(alloc: Global, x: Checked<'_, '_>, refers: bool) -> Result<(), ReadError>
     requires ready { IsChecked x }
-    requires refers { refers ≡ some_refer x.decoded.now }
+    requires refers { refers ≡ false → AreAliasFree x.text.now }
     ensures sound { OfChecked x.entry (λ ls n. Decides result (lines.are_bound [] (line_names ls))) }
     ensures fault { IfErr result IsOfText }
 {
@@ -45,7 +45,7 @@ fn check_aliases(alloc: Global, x: Checked<'_, '_>, refers: bool) -> Result<(), 
 /// earlier anchor of its name for each alias.
 fn check_names(alloc: Global, x: Checked<'_, '_>, refers: bool) -> Result<(), ReadError>
     requires ready { IsChecked x }
-    requires refers { refers ≡ some_refer x.decoded.now }
+    requires refers { refers ≡ false → AreAliasFree x.text.now }
     ensures sound { OfChecked x.entry (λ ls n. Decides result (lines.names_are_sound ls)) }
     ensures fault { IfErr result IsOfText }
 {
@@ -63,7 +63,7 @@ pub(crate) fn check_document(
     refers: bool,
 ) -> Result<(), ReadError>
     requires ready { IsChecked x }
-    requires refers { refers ≡ some_refer x.decoded.now }
+    requires refers { refers ≡ false → AreAliasFree x.text.now }
     ensures sound { (k : IsChecked x.entry) → Decides result
         (has_short_root k.document.rows && lines.lines_are_sound (lines_of_rows k.document.rows)) }
     ensures fault { IfErr result IsOfText }

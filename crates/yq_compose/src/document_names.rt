@@ -38,7 +38,7 @@ pub(crate) fn names_of<'t>(alloc: Global, x: Checked<'_, 't>) -> Result<Vec<Name
     'rows: for i in x.document.first..x.document.end {
         push_anchor(&mut names, anchor_name(x.rows.anchor(i)))?;
         decoded = ahead_of(decoded, i);
-        push_flow(&mut names, row_flow(decoded, i))?;
+        push_flow(&mut names, row_flow(x, i, decoded))?;
     }
     Ok(names)
 }

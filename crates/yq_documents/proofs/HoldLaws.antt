@@ -1,13 +1,14 @@
 -- What is kept of a text that reads as documents tells it.
-use Rattle.std.proofs.Common.{rules, ◌≡◌, ℕ, ◌<◌, ◌≤◌, List, length, Some, option_map, Bool, true, false, sym, ap, ◌∙◌, subst, arith}
-use Rattle.std.{proofs.lemmas.List.length-map, proofs.lemmas.Option.{same_Some, slice_get-map, slice_get_within}}
+use Rattle.std.proofs.Common.{rules, ◌≡◌, ℕ, ◌<◌, ◌≤◌, List, length, Option, Some, option_map, Bool, true, false, sym, ap, ◌∙◌, subst}
+use Rattle.std.{proofs.Common.arith, proofs.lemmas.List.length-map, proofs.lemmas.Option.{same_Some, slice_get-map, slice_get_within}}
 use Rattle.std.specs.List.{list_any, slice_get}
 use Rattle.yq_outline.{specs.Comments.head_comment, specs.Names.{is_reference, line_names}, specs.Extents.IsRowsView}
 use Rattle.yq_outline.specs.declared.line_position.Stretch.{Stretch}
 use Rattle.yq_row_table.{specs.Grammar.IsCut, specs.Rows.{Row, Part}, specs.View.{rows_of, RowsView, rows_view}}
 use Rattle.yq_text.specs.Limit.{text_limit}
 use Rattle.yq_documents.{specs.Documents.{Document, document_parts}, specs.Holding.Holds, specs.Located.document_at}
-use Rattle.yq_documents.{specs.Decoded.IsDecoded, specs.Reading.{all_documents, cut_of, part_document, documents_of}}
+use Rattle.yq_documents.specs.Decoded.{IsDecoded, IsKnownHead, IsHeadDecoded, IsKnownRow, decoded_at, owned_head}
+use Rattle.yq_documents.{specs.declared.decoded.DecodedHead.DecodedHead, specs.Reading.{all_documents, cut_of, part_document, documents_of}}
 use Rattle.yq_documents.{specs.Stretches.{HasText, document_lines}, specs.declared.decoded.Decoded.Decoded}
 use Rattle.yq_documents.{specs.declared.documents.DocumentRows.DocumentRows, proofs.PartRows.has_part}
 
@@ -45,8 +46,22 @@ module _ {t u : List ℕ} {s : RowsView} {ds : List DocumentRows} {ms : List Dec
         let p = h.places n d part.0 there part.1 in
         search (rules, part, cut_held, sound_held, rows_held, view_held, same_stretch)
 
-  pub agrees_held : (i : ℕ) (r : Row) → slice_get (rows_of (cut_of u)) i ≡ Some r → IsDecoded (length u) (cut_of u) ms i r
-  agrees_held = subst (λ (x : List ℕ). (i : ℕ) (r : Row) → slice_get (rows_of (cut_of x)) i ≡ Some r → IsDecoded (length x) (cut_of x) ms i r) e h.agrees
+  pub agrees_held : (i : ℕ) (r : Row) → slice_get (rows_of (cut_of u)) i ≡ Some r → IsDecoded u (cut_of u) ms i r
+  agrees_held = subst (λ (x : List ℕ). (i : ℕ) (r : Row) → slice_get (rows_of (cut_of x)) i ≡ Some r → IsDecoded x (cut_of x) ms i r) e h.agrees
+
+  -- what is made of a row tells its head
+  module _ (m : Option Decoded) (i : ℕ) (made : m ≡ decoded_at i ms) where
+    abbrev pub known_held : IsKnownRow t s m i
+    known_held = record {
+      cut = cut_of t;
+      rows = h.rows;
+      rows_view = view_held;
+      agrees = λ r is. subst (λ (o : Option Decoded). IsKnownHead t (cut_of t) (owned_head o) i r) (sym made) (h.agrees i r is).head;
+    }
+
+    pub head_held : (x : Option DecodedHead) → ((k : IsKnownRow t s m i) (r : Row) → slice_get (rows_of k.cut) i ≡ Some r → IsHeadDecoded (length t) k.cut x i r) →
+        (r : Row) → slice_get (rows_of (cut_of u)) i ≡ Some r → IsHeadDecoded (length u) (cut_of u) x i r
+    head_held x f = subst (λ (y : List ℕ). (r : Row) → slice_get (rows_of (cut_of y)) i ≡ Some r → IsHeadDecoded (length y) (cut_of y) x i r) e (λ r is. f known_held r is)
 
   pub alias_free_held : refers ≡ false → (n : ℕ) → list_any is_reference (line_names (document_lines n u)) ≡ false
   alias_free_held = subst (λ (x : List ℕ). refers ≡ false → (n : ℕ) → list_any is_reference (line_names (document_lines n x)) ≡ false) e h.alias_free

@@ -6,6 +6,7 @@ pub mod FlowKeyLaws
 pub mod FlowLaws
 pub mod HeadLaws
 pub mod HoldLaws
+pub mod LentHeads
 pub mod LineWritten
 pub mod DecodedLaws
 pub mod NodeLines

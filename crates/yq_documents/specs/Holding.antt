@@ -20,5 +20,5 @@ pub record Holds (t : List ℕ) (s : RowsView) (ds : List DocumentRows) (ms : Li
   pub count : length ds ≡ length (document_parts (cut_of t))
   pub places : (n : ℕ) (d : DocumentRows) (p : Part) → slice_get ds n ≡ Some d → slice_get (document_parts (cut_of t)) n ≡ Some p → IsLocated t n p d
   pub rise : Rise 0 ms
-  pub agrees : (i : ℕ) (r : Row) → slice_get (rows_of (cut_of t)) i ≡ Some r → IsDecoded (length t) (cut_of t) ms i r
+  pub agrees : (i : ℕ) (r : Row) → slice_get (rows_of (cut_of t)) i ≡ Some r → IsDecoded t (cut_of t) ms i r
   pub alias_free : refers ≡ false → (n : ℕ) → list_any is_reference (line_names (document_lines n t)) ≡ false

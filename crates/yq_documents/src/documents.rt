@@ -2,13 +2,13 @@
 ghost use Rattle.std.{specs.Prelude.{◌≡◌, ◌<◌, ℕ, List, length, slice_get, Some, false, option_map, true}, specs.List.list_any};
 ghost use Rattle.yq_outline.{specs.Names.{is_reference, line_names}, specs.Extents.IsRowsView};
 ghost use Rattle.yq_row_table.{specs.Grammar.IsCut, specs.Rows.Row as RowOf, specs.View.{rows_of, rows_view}};
-ghost use Rattle.yq_documents.{specs.Documents.Document, specs.Decoded.IsDecodedBy, specs.Located.document_at};
+ghost use Rattle.yq_documents.{specs.Documents.Document, specs.Decoded.{IsDecodedBy, IsHeadDecoded}, specs.Located.document_at};
 ghost use Rattle.yq_documents.{specs.Reading.{all_documents, cut_of, documents_of}, specs.Ready.TextIsReady};
 ghost use Rattle.yq_documents.{specs.Stretches.{HasText, document_lines}, specs.Texts.texts_left};
 
 use crate::comment::Comments;
-use crate::decoded::Decoded;
-use crate::of_row::decoded_at;
+use crate::decoded::{Decoded, DecodedHead};
+use crate::of_row::{decoded_at, known_head};
 use std::marker::Model;
 use yq_outline::{Stretch, lines_shaped};
 use yq_row_table::Rows;
@@ -133,9 +133,18 @@ impl<'t> Documents<'t> {
     /// What is made of row `i`, counted from 0, if anything is.
     pub fn decoded(&self, i: usize) -> Option<&Decoded<'t>>
         ensures { (r : RowOf) → slice_get (rows_of (cut_of self.now)) i ≡ Some r →
-            IsDecodedBy (length self.now) (cut_of self.now) (option_map (λ m. m.now) result) i r }
+            IsDecodedBy self.now (cut_of self.now) (option_map (λ m. m.now) result) i r }
     {
         decoded_at(self.decoded.as_slice(), i)
+    }
+
+    /// What the head of row `i`, counted from 0, spells, where it is made, an alias or a flow collection.
+    pub fn known_head(&self, i: usize) -> Option<DecodedHead<'_, 't>>
+        ensures { (r : RowOf) → slice_get (rows_of (cut_of self.now)) i ≡ Some r →
+            IsHeadDecoded (length self.now) (cut_of self.now) result i r }
+    {
+        let decoded = decoded_at(self.decoded.as_slice(), i);
+        known_head(self.text, &self.rows, i, decoded)
     }
 
     /// Whether an alias may be in it.

@@ -1,13 +1,13 @@
 //! Where items and entries are in flow collections, and their contents.
-ghost use Rattle.std.specs.Prelude.{◌≡◌, ◌<◌, length, map, option_map};
+ghost use Rattle.std.specs.Prelude.{◌≡◌, ◌<◌, length, map, option_and_then, option_map};
 ghost use Rattle.yq_core.specs.Entries.{content_place, entry_place, tree_step};
 ghost use Rattle.yq_outline.specs.View.{head_flow};
-ghost use Rattle.yq_documents.{specs.Decoded.{decoded_flow, decoded_head_flow as flow}, specs.Pieces.span, specs.Reading.cut_of};
+ghost use Rattle.yq_documents.{specs.Decoded.decoded_head_flow as flow, specs.Pieces.span, specs.Reading.cut_of};
 ghost use Rattle.yq_tree.specs.FlowPlaces.{flow_entry_view as view};
 ghost use Rattle.yq_places.specs.EntryReading as spec;
 
 use yq_core::{Entry, Step};
-use yq_documents::{Decoded, DecodedHead, Documents, Path, Span};
+use yq_documents::{DecodedHead, Documents, Path, Span};
 use yq_inline::{BorrowedEntry, entry_in};
 use yq_lookup::CutText;
 use yq_outline::Head;
@@ -36,16 +36,16 @@ fn head_entry<'d, 't>(head: &'d Head<'t>, steps: &[Step]) -> Option<FlowEntry<'d
 
 /// The item or entry to which steps lead in a head that is decoded.
 fn decoded_head_entry<'d, 't>(
-    head: &'d DecodedHead<'t>,
+    head: DecodedHead<'d, 't>,
     steps: &[Step],
 ) -> Option<FlowEntry<'d, 't>>
     requires some { 0 < length steps.now }
     ensures { option_map view result ≡
-        spec.entry_within (map tree_step steps.now) (flow head.now) }
+        spec.entry_within (map tree_step steps.now) (flow head.entry) }
 {
     match head {
         DecodedHead::Owned(head) => head_entry(head, steps),
-        DecodedHead::Borrowed(node) => Some(FlowEntry::Borrowed(entry_in(*node, steps)?)),
+        DecodedHead::Borrowed(node) => Some(FlowEntry::Borrowed(entry_in(node, steps)?)),
         DecodedHead::Alias(..) => None,
     }
 }
@@ -72,17 +72,16 @@ pub(crate) fn content_span(entry: &FlowEntry<'_, '_>) -> Option<Span>
     Some(Span { start, end })
 }
 
-/// The item or entry to which steps lead in what is made of a row.
+/// The item or entry to which steps lead in a head that may be decoded.
 fn decoded_entry<'d, 't>(
-    decoded: Option<&'d Decoded<'t>>,
+    head: Option<DecodedHead<'d, 't>>,
     steps: &[Step],
 ) -> Option<FlowEntry<'d, 't>>
     requires some { 0 < length steps.now }
     ensures { option_map view result ≡
-        spec.entry_within (map tree_step steps.now)
-        (decoded_flow (option_map (λ m. m.now) decoded.entry)) }
+        spec.entry_within (map tree_step steps.now) (option_and_then flow head.entry) }
 {
-    match &decoded?.head {
+    match head {
         Some(head) => decoded_head_entry(head, steps),
         None => None,
     }
@@ -102,5 +101,5 @@ pub(crate) fn flow_entry<'d, 't>(
     if left.is_empty() {
         return None;
     }
-    decoded_entry(documents.decoded(at.row), left)
+    decoded_entry(documents.known_head(at.row), left)
 }

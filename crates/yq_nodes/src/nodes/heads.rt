@@ -10,7 +10,7 @@ ghost use Rattle.yq_documents.specs.Decoded as spec;
 use crate::nodes::body::Body;
 use crate::nodes::node::WrittenLabel;
 use yq_core::{Kind, between_quotes, is_quoted};
-use yq_documents::{DecodedHead, Documents, anchor_name, decoded_key, head_decoded};
+use yq_documents::{DecodedHead, Documents, anchor_name, decoded_key};
 use yq_inline::plain_kind;
 use yq_outline::{Head, Position};
 use yq_row_walk::{has_head, lines_before_mark, rank_at};
@@ -42,12 +42,12 @@ fn head_body<'d, 't>(head: &'d Head<'t>) -> Option<Body<'d, 't>>
 }
 
 /// What a head spells that is decoded, if it is anything.
-fn decoded_body<'d, 't>(head: &'d DecodedHead<'t>) -> Option<Body<'d, 't>>
-    ensures { option_map body_node result ≡ spec.decoded_view head.now }
+fn decoded_body<'d, 't>(head: DecodedHead<'d, 't>) -> Option<Body<'d, 't>>
+    ensures { option_map body_node result ≡ spec.decoded_view head.entry }
 {
     match head {
         DecodedHead::Owned(head) => head_body(head),
-        DecodedHead::Borrowed(node) => Some(Body::Borrowed(*node)),
+        DecodedHead::Borrowed(node) => Some(Body::Borrowed(node)),
         DecodedHead::Alias(name, _) => Some(Body::Alias(name)),
     }
 }
@@ -66,7 +66,7 @@ pub(crate) fn line_head<'d, 't>(
     if !has_head(rows, stretch, at) {
         return None;
     }
-    match head_decoded(text.decoded(at.row)) {
+    match text.known_head(at.row) {
         Some(head) => decoded_body(head),
         None => borrowed_head(rows.head(at.row)),
     }

@@ -5,7 +5,7 @@ use Rattle.yq_compose.proofs.document.check_aliases.Goals as goal
 
 pub returns-then-not-refers-clause-sound : goal.returns-then-not-refers-clause-sound
 returns-then-not-refers-clause-sound c = λ k.
-    bound_alone [] (line_names (lines_of_rows k.document.rows)) (ready_refers_not c.args.x.text.now c.args.x.rows.now c.args.x.decoded.now c.args.x.document k (sym c.requires.refers ∙ c.if-not-refers.true))
+    bound_alone [] (line_names (lines_of_rows k.document.rows)) (ready_refers_not c.args.x.text.now c.args.x.rows.now c.args.x.decoded.now c.args.x.document k (c.requires.refers c.if-not-refers.true))
 
 pub returns-in-Some-clause-sound : goal.returns-in-Some-clause-sound
 returns-in-Some-clause-sound c = λ k.

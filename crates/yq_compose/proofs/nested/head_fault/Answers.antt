@@ -1,50 +1,9 @@
-use Rattle.std.{proofs.Common.{Some, refl, sym, ap, ◌∙◌, []}, specs.Prelude.option_map}
-use Rattle.yq_outline.{specs.Sound.head_is_sound, proofs.WalkPositions.located}
-use Rattle.yq_row_table.specs.View.{slices}
-use Rattle.yq_documents.specs.Decoded.{decoded_at}
-use Rattle.yq_compose.{specs.Flows.flow_view, proofs.DecidingLaws.decides_as}
-use Rattle.yq_compose.proofs.HeadViewLaws.{head_free, head_line, head_some, head_sound, headless, alias_sound}
+use Rattle.std.proofs.Common.{not, sym, ap, ◌∙◌, arith}
+use Rattle.yq_compose.proofs.HeadViewLaws.{none_of, unmade_sound}
 use Rattle.yq_compose.proofs.nested.head_fault.Goals as goal
 
-pub returns-in-None-clause-sound : goal.returns-in-None-clause-sound
-returns-in-None-clause-sound c = λ r l is.
+pub returns-then-is_none-clause-sound : goal.returns-then-is_none-clause-sound
+returns-then-is_none-clause-sound c = λ k l is.
     let x = c.args.x in
-    head_free x.text.now x.rows.now x.decoded.now x.document r c.args.at.position c.requires.line l is c.args.depth (sym (c.row_flow.ensures x.decoded.now c.requires.at.decoded) ∙ ap (option_map flow_view) c.in-None.is)
-
-pub returns-then-is_shallow-clause-sound : goal.returns-then-is_shallow-clause-sound
-returns-then-is_shallow-clause-sound c = λ r l is.
-    let x = c.args.x in
-    let flow = sym (c.row_flow.ensures x.decoded.now c.requires.at.decoded) ∙ ap (option_map flow_view) c.in-Some.is in
-    head_sound x.text.now x.rows.now x.decoded.now x.document r c.args.at.position c.requires.line l is c.args.depth _ flow (c.if-is_shallow.ensures refl)
-
-pub returns-then-not-has_head-clause-sound : goal.returns-then-not-has_head-clause-sound
-returns-then-not-has_head-clause-sound c = λ r l is. headless c.args.depth l.head (c.if-not-has_head.ensures r.document l is)
-
-pub returns-in-Owned-clause-sound : goal.returns-in-Owned-clause-sound
-returns-in-Owned-clause-sound c = λ r l is.
-    let x = c.args.x in
-    let k = located x.rows.now x.document r.document c.args.at.position c.requires.line in
-    let flow = sym (c.row_flow.ensures x.decoded.now c.requires.at.decoded) ∙ ap (option_map flow_view) (c.in-Some.is ∙ ap Some c.in-Owned.is) in
-    decides_as c.node_fault.result _ _
-    (ap (head_is_sound c.args.depth)
-    (head_some (decoded_at c.args.at.position.row x.decoded.now) (slices k.row).head _ flow ∙ head_line x.text.now x.rows.now x.decoded.now x.document r c.args.at.position c.requires.line l is (c.if-not-has_head.ensures r.document l is)))
-    c.node_fault.ensures.sound
-
-pub returns-in-Borrowed-clause-sound : goal.returns-in-Borrowed-clause-sound
-returns-in-Borrowed-clause-sound c = λ r l is.
-    let x = c.args.x in
-    let k = located x.rows.now x.document r.document c.args.at.position c.requires.line in
-    let flow = sym (c.row_flow.ensures x.decoded.now c.requires.at.decoded) ∙ ap (option_map flow_view) (c.in-Some.is ∙ ap Some c.in-Borrowed.is) in
-    decides_as c.borrowed_fault.result _ _
-    (ap (head_is_sound c.args.depth)
-    (head_some (decoded_at c.args.at.position.row x.decoded.now) (slices k.row).head _ flow ∙ head_line x.text.now x.rows.now x.decoded.now x.document r c.args.at.position c.requires.line l is (c.if-not-has_head.ensures r.document l is)))
-    c.borrowed_fault.ensures.sound
-
-pub returns-in-Alias-clause-sound : goal.returns-in-Alias-clause-sound
-returns-in-Alias-clause-sound c = λ r l is.
-    let x = c.args.x in
-    let k = located x.rows.now x.document r.document c.args.at.position c.requires.line in
-    let flow = sym (c.row_flow.ensures x.decoded.now c.requires.at.decoded) ∙ ap (option_map flow_view) (c.in-Some.is ∙ ap Some c.in-Alias.is) in
-    sym (ap (head_is_sound c.args.depth)
-    (head_some (decoded_at c.args.at.position.row x.decoded.now) (slices k.row).head _ flow ∙ head_line x.text.now x.rows.now x.decoded.now x.document r c.args.at.position c.requires.line l is (c.if-not-has_head.ensures r.document l is)))
-    ∙ alias_sound c.args.depth []
+    unmade_sound x.text.now x.rows.now x.decoded.now x.document k c.args.at.position c.requires.line l is c.args.depth (omega (arith, c.if-depth-ge-BORROWED_DEPTH.true))
+    (sym (c.decoded_here.ensures x.decoded.now c.requires.at.decoded) ∙ none_of c.decoded_here.result (c.is_none.ensures ∙ ap not c.if-is_none.true))

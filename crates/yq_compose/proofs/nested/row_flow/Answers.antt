@@ -1,6 +1,13 @@
-use Rattle.std.proofs.Common.{ap, ◌∙◌}
-use Rattle.yq_documents.specs.Decoded.{decoded_flow}
+use Rattle.std.proofs.Common.{◌∙◌}
+use Rattle.yq_compose.proofs.HeadViewLaws.{known_row}
 use Rattle.yq_compose.proofs.nested.row_flow.Goals as goal
 
+pub known_head-requires : goal.known_head-requires
+known_head-requires c =
+    let x = c.args.x in
+    known_row x.text.now x.rows.now x.decoded.now x.document c.requires.ready c.args.i _ (c.decoded_here.ensures x.decoded.now c.requires.decoded)
+
 pub returns : goal.returns
-returns c = λ all a. c.flow_decoded.ensures ∙ ap decoded_flow (c.decoded_here.ensures all a)
+returns c = λ k r is.
+    let x = c.args.x in
+    c.flow_of.ensures ∙ (c.known_head.ensures (known_row x.text.now x.rows.now x.decoded.now x.document k c.args.i _ (c.decoded_here.ensures x.decoded.now c.requires.decoded)) r is).flow

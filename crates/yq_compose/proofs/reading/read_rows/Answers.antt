@@ -1,8 +1,8 @@
 use Rattle.std.proofs.Common.{◌&&◌, sym, ap, ◌∙◌, subst}
 use Rattle.yq_row_table.specs.View.{rows_of}
 use Rattle.yq_documents.{specs.Documents.document_parts, specs.Reading.{all_documents, cut_of, have_fit_keys}}
-use Rattle.yq_compose.{specs.Checking.some_refer, specs.Places.{AreLocated, all_sound}, proofs.DecidingLaws.denies_as}
-use Rattle.yq_compose.{proofs.DocumentsRead.{all_split, cut_into, held}, proofs.PartLaws.are_placed, specs.Decoding.AreDecoded}
+use Rattle.yq_compose.{specs.Places.{AreLocated, all_sound}, proofs.DecidingLaws.denies_as}
+use Rattle.yq_compose.{proofs.DocumentsRead.{all_split, cut_into, held}, proofs.PartLaws.are_placed}
 use Rattle.yq_compose.proofs.reading.read_rows.Goals as goal
 
 pub decode_rows-requires : goal.decode_rows-requires
@@ -19,7 +19,7 @@ check_documents-requires-clause-cut c = cut_into c.args.text.now c.args.rows c.r
 pub check_documents-requires-clause-places : goal.check_documents-requires-clause-places
 check_documents-requires-clause-places c =
     let t = c.args.text.now in
-    subst (AreLocated t) (sym c.deref-2.ensures.value) (are_placed t c.args.rows c.in_ok-documents.documents.items (cut_into t c.args.rows c.requires.0 c.requires.1 c.requires.2) c.in_ok-documents.ensures)
+    subst (AreLocated t) (sym c.deref.ensures.value) (are_placed t c.args.rows c.in_ok-documents.documents.items (cut_into t c.args.rows c.requires.0 c.requires.1 c.requires.2) c.in_ok-documents.ensures)
 
 pub returns-in-Err-check_documents-clause-documents : goal.returns-in-Err-check_documents-clause-documents
 returns-in-Err-check_documents-clause-documents c = λ d h.
@@ -30,11 +30,8 @@ pub new-requires : goal.new-requires
 new-requires c =
     let t = c.args.text.now in
     let k = cut_into t c.args.rows c.requires.0 c.requires.1 c.requires.2 in
-    held t c.args.rows c.in-Ok.decoded.items c.in_ok-documents.documents.items k c.in-Ok.ensures.decoded (are_placed t c.args.rows c.in_ok-documents.documents.items k c.in_ok-documents.ensures) c.in-Ok-check_documents.refers
-    (c.in-Ok-check_documents.ensures.refers ∙ ap some_refer c.deref.ensures.value) (sym (all_split t (cut_of t) k.cut) ∙ (λ i. c.in-Ok.ensures.fits i && c.in-Ok-check_documents.ensures.sound i))
+    held t c.args.rows c.in-Ok.decoded.decoded.items c.in_ok-documents.documents.items k c.in-Ok.ensures.decoded (are_placed t c.args.rows c.in_ok-documents.documents.items k c.in_ok-documents.ensures) c.in-Ok.decoded.refers
+    c.in-Ok.ensures.refers (sym (all_split t (cut_of t) k.cut) ∙ (λ i. c.in-Ok.ensures.fits i && c.in-Ok-check_documents.ensures.sound i))
 
 pub returns-clause-documents : goal.returns-clause-documents
 returns-clause-documents c = λ d h. sym (all_split c.args.text.now d h) ∙ (λ i. c.in-Ok.ensures.fits i && c.in-Ok-check_documents.ensures.sound i)
-
-pub check_documents-requires-clause-decoded : goal.check_documents-requires-clause-decoded
-check_documents-requires-clause-decoded c = subst (AreDecoded c.args.text.now) (sym c.deref.ensures.value) c.in-Ok.ensures.decoded

@@ -6,4 +6,4 @@ abbrev pub decreases-rows : goal.decreases-rows
 decreases-rows l = length l.rows.rows - l.at
 
 abbrev pub invariant-rows : goal.invariant-rows
-invariant-rows l = record { within : l.at ≤ length l.rows.rows; so_far : DecodedUpto l.text l.at l.decoded.items }
+invariant-rows l = record { within : l.at ≤ length l.rows.rows; so_far : DecodedUpto l.text l.refers l.at l.decoded.items }

@@ -6,4 +6,4 @@ abbrev pub decreases-rows : goal.decreases-rows
 decreases-rows l = length l.left
 
 abbrev pub invariant-rows : goal.invariant-rows
-invariant-rows l = OthersDecoded l.text l.rows.rows l.left l.decoded.items
+invariant-rows l = OthersDecoded l.text l.refers l.rows.rows l.left l.decoded.items

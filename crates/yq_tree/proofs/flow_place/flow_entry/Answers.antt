@@ -1,7 +1,8 @@
-use Rattle.std.{proofs.Common.{◌≡◌, eqb, List, ℕ, Option, map, option_map, sym, ap, ◌∙◌, subst}, proofs.lemmas.List.length-map}
+use Rattle.std.{proofs.Common.{◌≡◌, eqb, List, ℕ, Option, map, sym, ap, ◌∙◌, subst}, specs.Prelude.option_and_then}
+use Rattle.std.proofs.lemmas.List.{length-map}
 use Rattle.yq_core.{specs.Entries.tree_step, specs.Places.Placed}
 use Rattle.yq_outline.{specs.Ends.reached, specs.Lines.lines_of_rows}
-use Rattle.yq_documents.{specs.Located.steps_of, specs.Decoded.decoded_flow, specs.Reading.cut_of}
+use Rattle.yq_documents.{specs.Located.steps_of, specs.Decoded.decoded_head_flow, specs.Reading.cut_of}
 use Rattle.yq_places.{specs.EntryReading.{flow_entry_at, flow_entry_of}, specs.RowWalk.{HasCut, document_row_range}}
 use Rattle.yq_places.{proofs.EntryPlaceLaws.{no_flow, no_flow_left}, proofs.WalkDocuments.no_place_found}
 use Rattle.yq_lookup.proofs.CutRows.{walk_place}
@@ -36,11 +37,11 @@ pub returns : goal.returns
 returns c =
     let v : List ℕ = c.args.documents.now in
     let same : c.of-cut.result ≡ v = c.of-cut.ensures in
-    let flow : Option Placed = decoded_flow (option_map (λ m. m.now) c.decoded.result) in
+    let flow : Option Placed = option_and_then decoded_head_flow c.known_head.result in
     let w = c.in_ok-walk.walk in
     let cut : HasCut v w.rows.now = subst (λ x. HasCut x w.rows.now) same c.in_ok-walk.ensures.cut in
     flow_found v w.rows.now c.args.path.now.doc w.document c.in_ok-at.at (steps_of c.args.path.now) (map tree_step c.in_ok-at.left.now) flow _
     cut.cut cut.rows (c.in_ok-walk.ensures.place ∙ ap (λ x. document_row_range c.args.path.now.doc (cut_of x)) same) cut.sound
     c.in_ok-at.ensures.within
-    (λ h. c.in_ok-at.ensures.found h ∙ ap (λ xs. reached (map tree_step xs) (lines_of_rows h.are_there.rows)) c.deref.ensures.value) (λ r is. (c.decoded.ensures r is).flow) c.decoded_entry.ensures
+    (λ h. c.in_ok-at.ensures.found h ∙ ap (λ xs. reached (map tree_step xs) (lines_of_rows h.are_there.rows)) c.deref.ensures.value) (λ r is. (c.known_head.ensures r is).flow) c.decoded_entry.ensures
     (c.if-is_empty.ensures ∙ sym (ap (λ n. eqb n 0) (length-map c.in_ok-at.left.now tree_step)))
