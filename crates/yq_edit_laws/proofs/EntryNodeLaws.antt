@@ -1,8 +1,7 @@
 -- The node of an item or entry is what its row spells after the key or dash, with the lines under that.
-use Rattle.std.proofs.Common.{◌≡◌, ℕ, List, [], ◌∷◌, length, Option, Some, option_map, refl, sym, ap, ◌∙◌}
-use Rattle.std.proofs.lemmas.Option.{slice_get-map}
+use Rattle.std.{proofs.Common.{◌≡◌, ℕ, List, ◌∷◌, length, Option, Some, option_map, sym, ap, ◌∙◌}, proofs.lemmas.Option.slice_get-map}
 use Rattle.yq_core.{specs.Answers.◌>>=◌, specs.Paths.{Step, node_at}}
-use Rattle.yq_outline.{specs.Group.{group, level_or}, specs.Lines.lines_of_rows, specs.Outline.flatten, specs.Places.content_under}
+use Rattle.yq_outline.{specs.Group.{group, level_or}, specs.Lines.lines_of_rows, specs.Places.content_under}
 use Rattle.yq_outline.{proofs.Finding.{FoundNode, path_node}, proofs.Unique.group_even}
 use Rattle.yq_row_table.specs.Rows.{Cut}
 use Rattle.yq_documents.{specs.Documents.{Document, document_parts}, specs.Reading.{part_document, part_outline}}

@@ -1,6 +1,6 @@
 -- What operations exchange that change one row.
-use Rattle.std.proofs.Common.{rules, ◌≡◌, Bool, true, false, cond, eq-eqb, ℕ, List, [], ◌∷◌, ◌++◌, length, Option, Some, None, option_map}
-use Rattle.std.{proofs.Common.{ap, ◌∙◌, subst}, proofs.lemmas.Bool.false≢true, specs.Option.option_or}
+use Rattle.std.proofs.Common.{rules, ◌≡◌, Bool, true, false, cond, eq-eqb, ℕ, List, [], ◌∷◌, length, Option, Some, None, option_map, ap}
+use Rattle.std.{proofs.Common.{◌∙◌, subst}, proofs.lemmas.Bool.false≢true, specs.Option.option_or}
 use Rattle.yq_core.{specs.Answers.◌>>=◌, specs.Paths.Step, specs.declared.style.Place.TheVariants.Block as InBlock}
 use Rattle.yq_core.{specs.BlockWritten.break_text, specs.Text.is_empty, specs.Tree.Node}
 use Rattle.yq_row_table.specs.Rows.{Cut, cut_text}
