@@ -318,7 +318,7 @@ module _ (t : List ℕ) (n : ℕ) (stem path : List Step) (x : FlowHead) (r : Re
       (subst (λ (b : ℕ). CanExchange (remove n path) own_cut n stem before (x.before + h.place.start) b r.new.now r.known) (sym h.finish)
       (subst (λ (l : List ℕ). CanExchange (remove n path) own_cut n stem before (x.before + h.place.start) (x.before + h.place.end) l r.known) (sym h.new)
       (subst (CanExchange (remove n path) own_cut n stem before (x.before + h.place.start) (x.before + h.place.end) []) (sym h.known_is)
-      (can_take own_cut n stem own_left path h.step last x gone.node found_in before known run h.index gone.left.count gone.left.after gone.left.following h.place h.leads h.goes first h.known h.steps_are h.count h.after h.after))))
+      (can_take own_cut n stem own_left path h.step last x gone.node found_in before known run h.index gone.left.count gone.left.after gone.left.following h.place h.leads h.goes first h.known h.steps_are h.count h.after h.following))))
 
   sole_out : SoleGoes x gone.node gone.left before r → Can
   sole_out h =
