@@ -140,14 +140,16 @@ fn update_on<'a, 't>(
 {
     places_in(alloc, document, left(update))?;
     // The same places, of which the call promises more.
-    let places = find(
+    let places = match find(
         alloc,
         document.bump,
         document.doc,
         left(update),
         document.root,
-    );
-    let places = at_place(None, places)?;
+    ) {
+        Ok(places) => places,
+        Err(why) => return at_place(None, Err(why)),
+    };
     if places.is_empty() {
         return Ok(());
     }
