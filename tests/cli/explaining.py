@@ -78,49 +78,6 @@ def check_the_place_of_a_fault_of_a_text_is_reported(folder):
     equal((status, out, err.decode().splitlines()[:2]), (1, b"", ["Error: Y14 line 2: unknown alias", "/dev/stdin, line 2"]))
 
 
-def check_the_value_at_which_an_expression_is_refused_is_named(folder):
-    """Its path, what it is, and the line of its key or dash; nothing where an update after the first one is refused."""
-    text = "a: 1\nb: {c: [x, {d: true}]}\n\"k k\": &n 1.5\ne: *n\n---\nf:\n- - 2\n  - y\n"
-    folder.write("f", text.encode())
-    for expr, line in (
-        (".a.b", ".a is a number, line 1"),
-        (".b.c[1].d.e = 1", ".b.c[1].d is true or false, line 2"),
-        (".b.c[-1][0] = 1", ".b.c[1] is a mapping, line 2"),
-        (".b.c[4] = 1", ".b.c is a sequence of 2 items, line 2"),
-        (".b.c[1].l[0] = 1", ".b.c[1] is a mapping, line 2"),
-        ('."k k".x = 1', '."k k" is a number, line 3'),
-        (".e.x", ".e is an alias, line 4"),
-        (".b.c[].d.e = 1", ".b.c[0] is a text, line 2"),
-        (".b.c[].d", ".b.c[0] is a text, line 2"),
-        ("del(.f[0][1].x)", ".f[0][1] is a text, line 8"),
-        ("(select(di == 0) | .a.x) = 1", ".a is a number, line 1"),
-        ("(select(di == 1) | .f[0].x) = 1", ".f[0] is a sequence of 2 items, line 7"),
-        ("(.b.c[1] | select(.d.e == 1)) = 2", ".b.c[1].d is true or false, line 2"),
-        (".z = .b.c.d", ".b.c is a sequence of 2 items, line 2"),
-        (".b.c[0] |= .k", ".b.c[0] is a text, line 2"),
-        (".a.x = 1 | .z = 1", ".a is a number, line 1"),
-        (".z = 1 | .a.x = 1", None),
-        (".a += [1]", ".a is a number, line 1"),
-        ('."k k" += 1', '."k k" is a number, line 3'),
-        ('del(."k k")', '."k k" is a number, line 3'),
-        ('.b.c[0] line_comment = "x"', None),
-        (".z = .a + [1]", None),
-        (".[] += [1]", None),
-    ):
-        _, _, err = folder.run("--explain", expr, "f")
-        lines = err.decode().splitlines()
-        equal(lines[1], "FILE: f", (expr, lines))
-        equal(lines[2] if line else lines[2].startswith("Cause: "), line or True, (expr, lines))
-    for text, expr, line in (
-        (b"- 1\n", ".a", ". is a sequence of 1 item, line 1"),
-        (b"a: [[1]]\n", ".a[0][5] = 1", ".a[0] is a sequence of 1 item, line 1"),
-        (b"a: [[1]]\n", ".a[0][-5]", ".a[0] is a sequence of 1 item, line 1"),
-        (b"a: [1]\n", '.a[0] line_comment = "x"', ".a[0] is a number, line 1"),
-    ):
-        folder.write("g", text)
-        equal(folder.run("--explain", expr, "g")[2].decode().splitlines()[2], line, expr)
-
-
 def piped(folder, text, *words):
     done = subprocess.run([folder.yq, *words], cwd=folder.path, input=text, capture_output=True, timeout=SECONDS)
     return done.returncode, done.stdout, done.stderr

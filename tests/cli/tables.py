@@ -5,6 +5,8 @@ A table is `{"about": .., "source": .., "rows": [..]}`, and a row one of
 - `{"text": T, "edit": EXPR, "gives": T2, "splices"?: [[AT, OLD, NEW], ..]}`: `yq -i EXPR f` makes T2 of the file `f`
   and prints nothing, and `yq undo f` gives T back. An edit to T itself writes nothing.
 - `{"text": T, "edit": EXPR, "refused": LINE}`: the edit is refused with the line `Error: LINE`.
+- `{"text": T, "edit" | "read": EXPR, "refused": LINE, "at": PLACE}`: with `--explain` the line about the value is PLACE,
+  or there is none where that is null. In the place of EXPR a row may have the `words`.
 - `{"text": T, "words": [WORD, ..], "prints": OUT, "no_match"?: true}`, or with `refused`; `behind` is the lines between
   `U1 usage` and the ways to call the program.
 - `{"files": {NAME: T, ..}, "steps": [STEP, ..]}`, where a step is `{"set": {NAME: T}}` or `{"words": [..],
@@ -119,6 +121,18 @@ def is_edited(folder, row):
         equal(folder.read(FILE), old, "undone")
 
 
+def is_explained(folder, row):
+    """The value at which an expression is refused is named, or none is."""
+    known(row, ["name", "text", "edit", "read", "words", "refused", "at"])
+    words = ["-i", row["edit"], FILE] if "edit" in row else row.get("words") or [row["read"], FILE]
+    before = stands(folder)
+    status, out, err = folder.run("--explain", *words)
+    lines = err.decode().splitlines()
+    equal((status, out, lines[:2]), (1, b"", [f"Error: {row['refused']}", f"FILE: {FILE}"]), words)
+    equal(None if lines[2].startswith("Cause: ") else lines[2], row["at"], words)
+    stays(before, stands(folder), True)
+
+
 def is_so(folder, row):
     put(folder, row.get("files", {}))
     if "text" in row:
@@ -127,6 +141,8 @@ def is_so(folder, row):
         known(row, ["name", "text", "files", "steps"])
         for step in row["steps"]:
             take(folder, step)
+    elif "at" in row:
+        is_explained(folder, row)
     elif "gives" in row:
         is_edited(folder, row)
     elif "edit" in row:
@@ -145,7 +161,7 @@ def known(row, keys):
 
 def title(row):
     """What names a row, as short as may be."""
-    named = [row[key] for key in ("name", "edit", "words") if key in row][:1]
+    named = [row[key] for key in ("name", "edit", "read", "words") if key in row][:1]
     text = json.dumps([*named, row.get("text", "")], ensure_ascii=False)
     return text if len(text) < 120 else text[:118] + ".."
 

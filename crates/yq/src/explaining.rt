@@ -1,14 +1,16 @@
 //! Why a command is refused and where, in lines for a person.
 
+use crate::later_updates::text_then;
 use std::fs::metadata;
 use std::io::IsTerminal;
 use std::path::Path;
 use std::{fs, io};
 use yq_args::Command;
 use yq_explain::{
-    asked_code, asks_lines, code_of, expression_lines, names_value, place_lines, push_name,
-    push_rows, push_value_line,
+    RefusingText, asked_code, asks_lines, code_of, expression_lines, names_value, place_lines,
+    push_name, push_rows, push_value_line,
 };
+use yq_expr_parser::parse_expr;
 use yq_fault::Fault;
 use yq_run::{Out, as_slices, asked_command, own_words, purpose_of};
 use yq_semantics::Refusal;
@@ -35,10 +37,20 @@ fn push_value(
     if !names_value(why) {
         return Ok(());
     }
-    match bytes_of(rt, file) {
-        Some(bytes) => Ok(push_value_line(rt.alloc(), text, &bytes, expr, why)?),
-        None => Ok(()),
-    }
+    let alloc = rt.alloc();
+    let Some(bytes) = bytes_of(rt, file) else {
+        return Ok(());
+    };
+    let Ok(program) = parse_expr(alloc, expr) else {
+        return Ok(());
+    };
+    let (then, updates) = text_then(alloc, &bytes, expr, program.updates());
+    let bytes = match &then {
+        Some(text) => text.as_bytes(),
+        None => bytes.as_slice(),
+    };
+    let refusing = RefusingText { bytes, updates };
+    Ok(push_value_line(alloc, text, refusing, &program, why)?)
 }
 
 /// The lines about a command that is refused for this fault, whose code it is.

@@ -6,6 +6,7 @@ mod counted_out;
 mod explaining;
 mod folder;
 mod hint;
+mod later_updates;
 mod program;
 
 use crate::explaining::report_cause;

@@ -2,8 +2,10 @@
 #![tactic(auto)]
 
 mod advice;
+mod aliases;
 mod asking;
 mod caret;
+mod changes;
 mod codes;
 mod expected;
 mod expression;
@@ -11,9 +13,11 @@ mod first_words;
 mod marks;
 mod misread;
 mod parts;
+mod right_side;
 mod rows;
 mod steps;
 mod text_place;
+mod update_parts;
 mod updates;
 mod value_line;
 mod value_place;
@@ -23,4 +27,5 @@ pub use caret::push_name;
 pub use expression::expression_lines;
 pub use rows::{code_of, push_rows};
 pub use text_place::place_lines;
-pub use value_line::{names_value, push_value_line};
+pub use update_parts::first_updates;
+pub use value_line::{RefusingText, names_value, push_value_line};

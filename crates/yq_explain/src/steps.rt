@@ -4,29 +4,40 @@
 use bumpalo::Bump;
 use std::alloc::Global;
 use std::slice;
+use yq_documents::Documents;
 use yq_eval::{FoundPlace, pipe_on, step_each};
 use yq_failure::Failure;
-use yq_semantics::{Condition, ExprError, Operand, PathStep, Refusal, Stage, Term};
+use yq_nodes::Node;
+use yq_semantics::{Condition, ExprError, Operand, PathStep, Refusal, Stage};
 
-/// The place from which a step leads no further, and why.
+/// A document by its number, with its root, and where what its places share is kept.
 #[derive(Clone, Copy)]
-pub(crate) struct RefusedStep<'a, 't> {
-    pub(crate) place: FoundPlace<'a, 't>,
+pub(crate) struct Document<'a, 't> {
+    pub(crate) documents: &'a Documents<'t>,
+    pub(crate) bump: &'a Bump,
+    pub(crate) doc: usize,
+    pub(crate) root: Node<'a, 't>,
+}
+
+/// Why something is refused, and the place at which it is, if it has one.
+#[derive(Clone, Copy)]
+pub(crate) struct RefusedAt<'a, 't> {
+    pub(crate) place: Option<FoundPlace<'a, 't>>,
     pub(crate) why: Refusal,
 }
 
-/// The places to which steps lead, or where they stop.
-pub(crate) type StepsTaken<'a, 't> = Result<Vec<FoundPlace<'a, 't>>, Failure<RefusedStep<'a, 't>>>;
+/// What comes of something, or where it is refused.
+pub(crate) type Tried<'a, 't, T> = Result<T, Failure<RefusedAt<'a, 't>>>;
 
-/// What comes of a step or a stage that was taken from one place.
-fn from_place<'a, 't>(
-    place: &FoundPlace<'a, 't>,
-    found: Result<Vec<FoundPlace<'a, 't>>, ExprError>,
-) -> StepsTaken<'a, 't> {
+/// What comes of something that is done at a place.
+pub(crate) fn at_place<'a, 't, T: Drop>(
+    place: Option<FoundPlace<'a, 't>>,
+    found: Result<T, ExprError>,
+) -> Tried<'a, 't, T> {
     match found {
-        Ok(places) => Ok(places),
+        Ok(found) => Ok(found),
         Err(ExprError::Memory) => Err(Failure::Memory),
-        Err(ExprError::Fault(why)) => Err(Failure::Fault(RefusedStep { place: *place, why })),
+        Err(ExprError::Fault(why)) => Err(Failure::Fault(RefusedAt { place, why })),
     }
 }
 
@@ -36,11 +47,11 @@ fn step_on<'a, 't>(
     bump: &'a Bump,
     step: &'a PathStep,
     places: &[FoundPlace<'a, 't>],
-) -> StepsTaken<'a, 't> {
+) -> Tried<'a, 't, Vec<FoundPlace<'a, 't>>> {
     let mut next = Vec::new(alloc);
     'places: for place in places {
-        let mut found = from_place(place, step_each(alloc, bump, step, slice::from_ref(place)))?;
-        next.append(&mut found)?;
+        let found = step_each(alloc, bump, step, slice::from_ref(place));
+        next.append(&mut at_place(Some(*place), found)?)?;
     }
     Ok(next)
 }
@@ -51,7 +62,7 @@ fn steps_on<'a, 't>(
     bump: &'a Bump,
     steps: &'a [PathStep],
     start: Vec<FoundPlace<'a, 't>>,
-) -> StepsTaken<'a, 't> {
+) -> Tried<'a, 't, Vec<FoundPlace<'a, 't>>> {
     let mut places = start;
     'steps: for step in steps {
         places = step_on(alloc, bump, step, &places)?;
@@ -59,72 +70,54 @@ fn steps_on<'a, 't>(
     Ok(places)
 }
 
-/// The steps that a stage compares with a value.
-fn compared_steps(stage: &Stage) -> Option<&[PathStep]> {
+/// The place of what a stage compares with a scalar, where it is one; else that at which the stage is.
+fn compared_place<'a, 't>(
+    alloc: Global,
+    bump: &'a Bump,
+    stage: &'a Stage,
+    place: &FoundPlace<'a, 't>,
+) -> Tried<'a, 't, FoundPlace<'a, 't>> {
     let Stage::Select(Condition::Compare(comparison)) = stage else {
-        return None;
+        return Ok(*place);
     };
-    match &comparison.operand {
-        Operand::Path(steps) => Some(steps),
-        _ => None,
-    }
+    let Operand::Path(steps) = &comparison.operand else {
+        return Ok(*place);
+    };
+    let found = steps_on(alloc, bump, steps, place.alone(alloc)?)?;
+    Ok(*found.first().unwrap_or(place))
 }
 
 /// The places for which the condition of a stage holds.
 fn kept_of<'a, 't>(
     alloc: Global,
-    bump: &'a Bump,
-    doc: usize,
+    document: &Document<'a, 't>,
     stage: &'a Stage,
     places: &[FoundPlace<'a, 't>],
-) -> StepsTaken<'a, 't> {
+) -> Tried<'a, 't, Vec<FoundPlace<'a, 't>>> {
     let mut kept = Vec::new(alloc);
     'places: for place in places {
-        if let Some(steps) = compared_steps(stage) {
-            steps_on(alloc, bump, steps, place.alone(alloc)?)?;
-        }
-        let found = pipe_on(
-            alloc,
-            bump,
-            doc,
-            slice::from_ref(stage),
-            place.alone(alloc)?,
-        );
-        kept.append(&mut from_place(place, found)?)?;
+        let compared = compared_place(alloc, document.bump, stage, place)?;
+        let start = place.alone(alloc)?;
+        let stage = slice::from_ref(stage);
+        let found = pipe_on(alloc, document.bump, document.doc, stage, start);
+        kept.append(&mut at_place(Some(compared), found)?)?;
     }
     Ok(kept)
 }
 
-/// Where a pipe leads from places in document `doc`.
+/// Where a pipe leads from places in a document.
 pub(crate) fn stages_on<'a, 't>(
     alloc: Global,
-    bump: &'a Bump,
-    doc: usize,
+    document: &Document<'a, 't>,
     pipe: &'a [Stage],
     start: Vec<FoundPlace<'a, 't>>,
-) -> StepsTaken<'a, 't> {
+) -> Tried<'a, 't, Vec<FoundPlace<'a, 't>>> {
     let mut places = start;
     'stages: for stage in pipe {
         places = match stage {
-            Stage::Path(steps) => steps_on(alloc, bump, steps, places)?,
-            Stage::Select(_) => kept_of(alloc, bump, doc, stage, &places)?,
+            Stage::Path(steps) => steps_on(alloc, document.bump, steps, places)?,
+            Stage::Select(_) => kept_of(alloc, document, stage, &places)?,
         };
     }
     Ok(places)
-}
-
-/// Takes the steps of a sum's terms from a place in document `doc`.
-pub(crate) fn terms_on<'a, 't>(
-    alloc: Global,
-    bump: &'a Bump,
-    doc: usize,
-    terms: &'a [Term],
-    place: &FoundPlace<'a, 't>,
-) -> Result<(), Failure<RefusedStep<'a, 't>>> {
-    'terms: for term in terms {
-        if let Term::Pipe(pipe) = term {
-            stages_on(alloc, bump, doc, pipe, place.alone(alloc)?)?;
-        }
-    }
-    Ok(())
 }

@@ -6,9 +6,8 @@ use memchr::memchr_iter;
 use std::alloc::{AllocError, Global};
 use yq_core::{Kind, Step};
 use yq_documents::{Documents, Part, Path};
-use yq_expr_parser::parse_expr;
 use yq_nodes::{Node, NodeKind};
-use yq_semantics::Refusal;
+use yq_semantics::{Program, Refusal};
 use yq_tree::{extent, locate, read};
 
 /// Whether a key is a step of a path without quotes.
@@ -82,13 +81,20 @@ fn line_of(documents: &Documents<'_>, path: &Path, bytes: &[u8]) -> Option<usize
     Some(memchr_iter(b'\n', before).count().saturating_add(1))
 }
 
+/// A text on which an update of a program is refused, and how many updates before it made that of the file's.
+#[derive(Clone, Copy)]
+pub struct RefusingText<'b> {
+    pub bytes: &'b [u8],
+    pub updates: usize,
+}
+
 /// Adds the line about the value at a path.
 fn push_value(
     alloc: Global,
     out: &mut String,
     documents: &Documents<'_>,
     path: &Path,
-    bytes: &[u8],
+    text: RefusingText<'_>,
 ) -> Result<(), AllocError> {
     let Some(node) = locate(documents, path) else {
         return Ok(());
@@ -96,46 +102,39 @@ fn push_value(
     push_path(alloc, out, &path.steps)?;
     out.push_str(" is ")?;
     push_kind(alloc, out, &node)?;
-    if let Some(line) = line_of(documents, path, bytes) {
+    if let Some(line) = line_of(documents, path, text.bytes) {
         let line = format!(in alloc; ", line {line}")?;
         out.push_str(line.as_str())?;
+    }
+    if text.updates > 0 {
+        let updates = text.updates;
+        let words = format!(in alloc; " of the text after update {updates}")?;
+        out.push_str(words.as_str())?;
     }
     out.push('\n')
 }
 
-/// Adds at which value of a file with these bytes an expression is refused for this reason, and on which line
-/// it is, counted from 1. Nothing where a later update is refused, on the text after the first one.
+/// Adds at which value a program is refused for this reason, and on which line of the text it is, counted from 1.
 pub fn push_value_line(
     alloc: Global,
     out: &mut String,
-    bytes: &[u8],
-    expr: &str,
+    text: RefusingText<'_>,
+    program: &Program,
     why: Refusal,
 ) -> Result<(), AllocError> {
-    let Ok(documents) = read(alloc, bytes) else {
+    let Ok(documents) = read(alloc, text.bytes) else {
         return Ok(());
     };
-    let Ok(program) = parse_expr(alloc, expr) else {
-        return Ok(());
-    };
-    match refusing(alloc, &documents, &program, why)? {
-        Some(path) => push_value(alloc, out, &documents, &path, bytes),
+    match refusing(alloc, &documents, program, text.updates, why)? {
+        Some(path) => push_value(alloc, out, &documents, &path, text),
         None => Ok(()),
     }
 }
 
-/// Whether a value is named for such a refusal.
+/// Whether a value may be named for such a refusal.
 pub fn names_value(why: Refusal) -> bool {
-    matches!(
+    !matches!(
         why,
-        Refusal::NotAMap
-            | Refusal::NotASequence
-            | Refusal::IndexOutOfRange
-            | Refusal::ThroughAlias
-            | Refusal::AnchorInUse
-            | Refusal::KindMismatch
-            | Refusal::IntegerRange
-            | Refusal::FloatArithmetic
-            | Refusal::NoPlaceForComment
+        Refusal::BadCommentText | Refusal::TooLarge | Refusal::NotAnUpdate
     )
 }

@@ -1,167 +1,217 @@
-//! The value at which an expression goes no further.
+//! The value at which an expression goes no further: each place is judged alone, by the calls that judge the whole.
+ghost use Rattle.yq_nodes.specs.Nodes.{node_of};
+ghost use Rattle.yq_eval.{specs.PlaceView.places_of, specs.TreeScalars.{HasScalars, HaveScalars}};
 
-use crate::steps::{RefusedStep, StepsTaken, stages_on, terms_on};
+use crate::aliases::check_copy;
+use crate::changes::{check_add, check_comment, check_put, check_removal, owned_path};
+use crate::right_side::{right_value, smaller};
+use crate::steps::{Document, RefusedAt, Tried, at_place, stages_on};
 use bumpalo::Bump;
 use std::alloc::{AllocError, Global};
 use yq_documents::{Documents, Path};
-use yq_eval::{FoundPlace, Missing, NodePath, owned};
+use yq_eval::{FoundPlace, find};
 use yq_failure::Failure;
+use yq_lookup::CutText;
 use yq_nodes::Node;
-use yq_semantics::{Assignment, Operator, PathStep, Program, Refusal, Syntax, Update};
+use yq_planner::{Aliases, aliases_of};
+use yq_semantics::{Assignment, Comment, Operator, Program, Refusal, Stage, Syntax, Term, Update};
 
-/// Whether an item is among what is missing.
-fn misses_item(missing: Missing<'_>) -> bool {
-    let mut rest = missing;
-    'steps: while let Missing::Further(front, step) = rest {
-        if let PathStep::Index(_) = step {
-            return true;
-        }
-        rest = *front;
-    }
-    false
+/// Where a pipe leads from the root of a document.
+fn places_in<'a, 't>(
+    alloc: Global,
+    document: &Document<'a, 't>,
+    pipe: &'a [Stage],
+) -> Tried<'a, 't, Vec<FoundPlace<'a, 't>>> {
+    let start = FoundPlace::of_root(&document.root).alone(alloc)?;
+    stages_on(alloc, document, pipe, start)
 }
 
-/// Takes the steps of an assignment's sum from one of its places. No item is made there.
-fn put_at<'a, 't>(
+/// Judges the copies of what a read finds.
+fn copy_each<'a, 't>(
     alloc: Global,
-    bump: &'a Bump,
-    doc: usize,
-    it: &'a Assignment,
-    place: &FoundPlace<'a, 't>,
-) -> Result<(), Failure<RefusedStep<'a, 't>>> {
-    if it.operator == Operator::Modify {
-        terms_on(alloc, bump, doc, &it.right, place)?;
-    }
-    if misses_item(place.missing) {
-        return Err(Failure::Fault(RefusedStep {
-            place: *place,
-            why: Refusal::IndexOutOfRange,
-        }));
+    document: &Document<'a, 't>,
+    places: &[FoundPlace<'a, 't>],
+) -> Tried<'a, 't, ()> {
+    'places: for place in places {
+        check_copy(alloc, document.bump, place)?;
     }
     Ok(())
 }
 
-/// Takes the steps of an assignment from the root of document `doc`.
-fn assign_on<'a, 't>(
+/// Judges the sums that are found from each of some places, and put there. Where no value was found, a refusal is at
+/// the place.
+fn modify_each<'a, 't>(
     alloc: Global,
-    bump: &'a Bump,
-    doc: usize,
-    it: &'a Assignment,
-    root: &FoundPlace<'a, 't>,
-) -> StepsTaken<'a, 't> {
-    let places = stages_on(alloc, bump, doc, &it.left, root.alone(alloc)?)?;
-    if it.operator != Operator::Modify && !places.is_empty() {
-        terms_on(alloc, bump, doc, &it.right, root)?;
+    document: &Document<'a, 't>,
+    aliases: &Aliases<'_>,
+    right: &'a [Term],
+    places: &[FoundPlace<'a, 't>],
+) -> Tried<'a, 't, ()>
+    requires { HaveScalars (places_of places.now) }
+{
+    'places: for place in places {
+        let value = match right_value(alloc, document, right, place) {
+            Err(Failure::Fault(refused)) => {
+                let place = Some(refused.place.unwrap_or(*place));
+                let why = refused.why;
+                return Err(Failure::Fault(RefusedAt { place, why }));
+            }
+            value => value?,
+        };
+        at_place(Some(*place), check_put(alloc, aliases, place, &value))?;
     }
-    'places: for place in &places {
-        put_at(alloc, bump, doc, it, place)?;
-    }
-    Ok(places)
+    Ok(())
 }
 
-/// The places to which a read, or the first update, leads from the root of document `doc`.
+/// Judges what an assignment does at each of some places.
+fn assign_each<'a, 't>(
+    alloc: Global,
+    document: &Document<'a, 't>,
+    aliases: &Aliases<'_>,
+    it: &'a Assignment,
+    places: &[FoundPlace<'a, 't>],
+) -> Tried<'a, 't, ()>
+    requires root { HasScalars (node_of document.now.root) }
+    requires places { HaveScalars (places_of places.now) }
+{
+    if it.operator == Operator::Modify {
+        return modify_each(alloc, document, aliases, &it.right, places);
+    }
+    let root = FoundPlace::of_root(&document.root);
+    let mut value = right_value(alloc, document, &it.right, &root)?;
+    let adds = it.operator == Operator::Add;
+    if !adds || aliases.is_empty() {
+        value = smaller(alloc, value)?;
+    }
+    'places: for place in places {
+        let judged = if adds {
+            check_add(alloc, aliases, place, &value)
+        } else {
+            check_put(alloc, aliases, place, &value)
+        };
+        at_place(Some(*place), judged)?;
+    }
+    Ok(())
+}
+
+/// Judges that what is at each of some places goes.
+fn remove_each<'a, 't>(
+    alloc: Global,
+    aliases: &Aliases<'_>,
+    places: &[FoundPlace<'a, 't>],
+) -> Tried<'a, 't, ()> {
+    'places: for place in places {
+        at_place(Some(*place), check_removal(alloc, aliases, place))?;
+    }
+    Ok(())
+}
+
+/// Judges a comment that is set at each of some places.
+fn comment_each<'a, 't>(
+    alloc: Global,
+    document: &Document<'a, 't>,
+    comment: &Comment,
+    places: &[FoundPlace<'a, 't>],
+) -> Tried<'a, 't, ()> {
+    let mut cut = CutText::of(document.documents);
+    'places: for place in places {
+        let judged = check_comment(alloc, &mut cut, document.doc, comment.place, place);
+        at_place(Some(*place), judged)?;
+    }
+    Ok(())
+}
+
+/// The pipe of an update's left side.
+fn left(update: &Update) -> &[Stage] {
+    match update {
+        Update::Assign(it) => &it.left,
+        Update::Delete(pipe) => pipe,
+        Update::Comment(it) => &it.left,
+    }
+}
+
+/// Judges an update in a document.
+fn update_on<'a, 't>(
+    alloc: Global,
+    document: &Document<'a, 't>,
+    update: &'a Update,
+) -> Tried<'a, 't, ()>
+    requires { HasScalars (node_of document.now.root) }
+{
+    places_in(alloc, document, left(update))?;
+    // The same places, of which the call promises more.
+    let places = match find(
+        alloc,
+        document.bump,
+        document.doc,
+        left(update),
+        document.root,
+    ) {
+        Ok(places) => places,
+        Err(why) => return at_place(None, Err(why)),
+    };
+    if places.is_empty() {
+        return Ok(());
+    }
+    let aliases = aliases_of(alloc, &document.root)?;
+    match update {
+        Update::Assign(it) => assign_each(alloc, document, &aliases, it, &places),
+        Update::Delete(_) => remove_each(alloc, &aliases, &places),
+        Update::Comment(it) => comment_each(alloc, document, it, &places),
+    }
+}
+
+/// Judges a read, or update `nth` of a program, in a document.
 fn program_on<'a, 't>(
     alloc: Global,
-    bump: &'a Bump,
-    doc: usize,
+    document: &Document<'a, 't>,
     program: &'a Program,
-    root: &FoundPlace<'a, 't>,
-) -> StepsTaken<'a, 't> {
-    let pipe = match program.syntax() {
-        Syntax::Read(pipe) => pipe,
-        Syntax::Updates(updates) => match updates.first() {
-            Some(Update::Assign(it)) => return assign_on(alloc, bump, doc, it, root),
-            Some(Update::Delete(pipe)) => pipe,
-            Some(Update::Comment(it)) => &it.left,
-            None => return Ok(Vec::new(alloc)),
-        },
-    };
-    stages_on(alloc, bump, doc, pipe, root.alone(alloc)?)
-}
-
-/// Whether a program is one update, which is refused for this reason at one of its places alone.
-fn is_refused_there(program: &Program, why: Refusal) -> bool {
-    let Syntax::Updates(updates) = program.syntax() else {
-        return false;
-    };
-    match (updates.as_slice(), why) {
-        (
-            [Update::Assign(it)],
-            Refusal::KindMismatch | Refusal::FloatArithmetic | Refusal::IntegerRange,
-        ) => it.operator == Operator::Add && it.right.len() == 1,
-        ([Update::Assign(_) | Update::Delete(_)], Refusal::AnchorInUse) => true,
-        ([Update::Comment(_)], Refusal::NoPlaceForComment) => true,
-        _ => false,
-    }
-}
-
-/// The path to a node of document `doc`, with steps of its own.
-fn owned_path(alloc: Global, doc: usize, path: NodePath<'_>) -> Result<Path, AllocError> {
-    let mut steps = Vec::new(alloc);
-    let mut rest = path;
-    'steps: while let NodePath::Below(front, last) = rest {
-        steps.push(owned(alloc, last)?)?;
-        rest = *front;
-    }
-    steps.reverse();
-    Ok(Path { doc, steps })
-}
-
-/// How many places there are at which an update can be refused, and the path to the first one.
-#[derive(Drop)]
-struct Refusable {
-    count: usize,
-    first: Option<Path>,
-}
-
-impl Refusable {
-    /// Adds places of document `doc`: those where a value is; a comment may be refused elsewhere too.
-    fn push(
-        &mut self,
-        alloc: Global,
-        doc: usize,
-        places: &[FoundPlace<'_, '_>],
-        why: Refusal,
-    ) -> Result<(), AllocError> {
-        'places: for place in places {
-            if place.found().is_none() && why != Refusal::NoPlaceForComment {
-                continue 'places;
-            }
-            self.count = self.count.saturating_add(1);
-            if self.count == 1 {
-                self.first = Some(owned_path(alloc, doc, place.path)?);
-            }
+    nth: usize,
+) -> Tried<'a, 't, ()>
+    requires { HasScalars (node_of document.now.root) }
+{
+    match program.syntax() {
+        Syntax::Read(pipe) => {
+            let places = places_in(alloc, document, pipe)?;
+            copy_each(alloc, document, &places)
         }
-        Ok(())
+        Syntax::Updates(updates) => match updates.get(nth) {
+            Some(update) => update_on(alloc, document, update),
+            None => Ok(()),
+        },
     }
 }
 
-/// The path to the value at which a read, or the first update of a program, is refused for this reason;
-/// none where it isn't, or where an update has more places than one and its steps aren't refused.
+/// The path to the value at which a read, or update `nth` of a program, counted from 0, is refused for this reason:
+/// the first one in the order of the plan. None where no value is, or it isn't refused so.
 pub fn refusing(
     alloc: Global,
     documents: &Documents<'_>,
     program: &Program,
+    nth: usize,
     why: Refusal,
 ) -> Result<Option<Path>, AllocError> {
-    let mut places = Refusable {
-        count: 0,
-        first: None,
-    };
     'documents: for doc in 0..documents.count() {
         let bump = Bump::new(alloc);
-        let root = FoundPlace::of_root(&Node::root(documents, doc));
-        match program_on(alloc, &bump, doc, program, &root) {
-            Ok(found) => places.push(alloc, doc, &found, why)?,
+        let root = Node::root(documents, doc);
+        let document = Document {
+            documents,
+            bump: &bump,
+            doc,
+            root,
+        };
+        match program_on(alloc, &document, program, nth) {
+            Ok(()) => {}
             Err(Failure::Memory) => return Err(AllocError),
-            Err(Failure::Fault(stop)) if stop.why == why => {
-                return owned_path(alloc, doc, stop.place.path).map(Some);
+            Err(Failure::Fault(refused)) => {
+                return match refused.place {
+                    Some(place) if refused.why == why => {
+                        owned_path(alloc, doc, place.path).map(Some)
+                    }
+                    _ => Ok(None),
+                };
             }
-            Err(Failure::Fault(_)) => return Ok(None),
         }
-    }
-    if places.count == 1 && is_refused_there(program, why) {
-        return Ok(places.first);
     }
     Ok(None)
 }
