@@ -1,11 +1,7 @@
 //! The program: commands over a store of files.
 #![tactic(auto)]
 
-mod colours;
-mod counted_out;
 mod explaining;
-mod folder;
-mod hint;
 mod later_updates;
 mod program;
 

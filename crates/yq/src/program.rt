@@ -1,16 +1,14 @@
 //! The program's words, carried out over real files and standard output.
 
-use crate::colours::has_colours;
-use crate::counted_out::CountedOut;
 use crate::explaining::put_code;
-use crate::folder::WithFolder;
-use crate::hint::Hint;
 use std::io::IsTerminal;
 use std::slice;
 use yq_args::Command;
 use yq_fault::Fault;
-use yq_run::{Answer, asked_command, purpose_of, put_help, run_list};
-use yq_store::{DiskStore, JournalHint};
+use yq_run::{
+    Answer, CountedOut, Hint, asked_command, has_colours, purpose_of, put_help, run_list,
+};
+use yq_store::{DiskStore, JournalHint, WithFolder};
 
 /// What is reported next to the answer to a command: what its store reports, or how many records it listed.
 fn hint_for(journal: Option<JournalHint>, command: &Command, listed: Option<u64>) -> Option<Hint> {

@@ -2,6 +2,8 @@
 ghost use Rattle.std.specs.Prelude.{◌≡◌, ◌++◌, ℕ, List, Bool, IsTrue, OnOk};
 ghost use Rattle.yq_store.specs.Count.{after_put};
 
+pub mod colours;
+pub mod counted;
 pub mod memory;
 pub mod standard;
 

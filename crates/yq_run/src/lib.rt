@@ -9,6 +9,6 @@ mod run;
 pub use executing::execute;
 pub use run::run_list;
 pub use yq_commands::{
-    Answer, MemoryOut, Out, StandardOut, as_slices, asked_command, command_of, own_words,
-    purpose_of, put_help, report_usage,
+    Answer, CountedOut, Hint, MemoryOut, Out, StandardOut, as_slices, asked_command, command_of,
+    has_colours, own_words, purpose_of, put_help, report_usage,
 };

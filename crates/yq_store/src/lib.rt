@@ -2,11 +2,13 @@
 #![tactic(auto)]
 
 mod disk;
+mod folder;
 mod memory;
 mod store;
 
 pub use disk::DiskStore;
 pub use disk::hint::JournalHint;
 pub use disk::purpose::Purpose;
+pub use folder::WithFolder;
 pub use memory::{Left, MemoryStore};
 pub use store::Store;

@@ -1,11 +1,12 @@
 //! Standard output, and how many lines it took, where that is asked.
 ghost use Rattle.std.specs.Prelude.{[], false};
 
-use crate::colours::coloured;
+use crate::output::Out;
+use crate::output::colours::coloured;
+use crate::output::standard::StandardOut;
 use memchr::memchr_iter;
 use std::alloc::Global;
 use std::fmt;
-use yq_run::{Out, StandardOut};
 
 /// Standard output, and how many lines it took, where that is asked.
 #[derive(Drop)]

@@ -1,12 +1,12 @@
 //! The folder of journals, which is made where it isn't there.
 ghost use Rattle.std.specs.Prelude.{◌≡◌};
 
+use crate::store::Store;
 use std::alloc::Global;
 use std::fs::DirBuilder;
 use std::os::unix::fs::DirBuilderExt;
 use std::rt::Files;
 use yq_fault::Fault;
-use yq_store::Store;
 
 /// The mode of a folder of journals: its owner alone may look into it.
 const PRIVATE: u32 = 0o700;
