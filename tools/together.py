@@ -1,4 +1,4 @@
-"""Clauses that come together: more than three functions of a crate that ensure the same two, word for word, ensure one record of them.
+"""Clauses that come together: more than two functions of a crate that ensure the same two, word for word, ensure one record of them.
 
 usage: together.py [--write]      with --write it writes tools/repeated_clauses.txt anew, where there are no more than it counts in all
 
@@ -12,7 +12,7 @@ from itertools import combinations, groupby
 from clauses import clauses_of
 from counted import Counted, by_crate
 
-MOST = 3
+MOST = 2
 COUNTED = Counted(f"pairs of clauses that more than {MOST} functions repeat", "repeated_clauses.txt")
 
 
