@@ -4,9 +4,9 @@ use Rattle.std.proofs.Common.{cond, refl, sym, ap, ◌∙◌, subst, arith, appe
 use Rattle.std.{proofs.Math.Seq.{take-append_seam, drop-append_seam}, proofs.lemmas.Bool.eq-eqb, proofs.lemmas.Option.slice_get-map}
 use Rattle.std.{specs.List.slice_get, specs.Str.{IsUtf8, IsCharBoundary}}
 use Rattle.yq_core.{specs.Answers.◌>>=◌, specs.Text.{joined, text_lines}, proofs.LineLaws.joined_lines}
-use Rattle.yq_row_table.{specs.Exchange.row_front, specs.Gap.IsGap, specs.Rows.{Row, following_gap, print_row, Cut}}
-use Rattle.yq_row_table.{specs.View.{Slices, slices, rows_of, RowsView}, proofs.NodePieces.{BeginsAscii, before_ascii}}
-use Rattle.yq_row_table.{proofs.PlaceLaws.{row_front-append, row_in}, proofs.SliceLaws.content_slices}
+use Rattle.yq_row_table.{specs.Gap.IsGap, specs.Rows.{Row, following_gap, print_row, Cut}, specs.View.{Slices, slices, rows_of, RowsView}}
+use Rattle.yq_row_table.{proofs.NodePieces.{BeginsAscii, before_ascii}, proofs.PlaceLaws.{row_front-append, row_in}}
+use Rattle.yq_row_table.proofs.SliceLaws.{content_slices}
 use Rattle.yq_documents.{specs.declared.path.Path.Path, specs.Located.steps_of, specs.Pieces.{TextPiece, before_run, last_run}}
 use Rattle.yq_documents.{specs.Reading.cut_of, specs.LinesInRows.{row_line_at, document_row}, proofs.RunLaws.run_split}
 use Rattle.yq_outline.{specs.declared.line_position.Position.Position, specs.Extents.row_start}
@@ -17,10 +17,7 @@ use Rattle.yq_places.{proofs.SeamLaws.{IsSeam, seam_boundary, seam_then, gap_sea
 
 -- a row up to the end of the line of its mark, and after that
 pub row_text_parts : (r : Row) (rest : List ℕ) → print_row r rest ≡ text_to_line_end r ++ ((slices r).tail ++ ((slices r).raw ++ rest))
-row_text_parts r rest =
-    let s : Slices = slices r in
-    row_front-append r rest ∙ (ap (λ l. row_front r ++ l) (sym (content_slices r.content rest))
-    ∙ (let parts : row_front r ++ (s.space ++ (s.anchor ++ (s.apart ++ (s.head ++ (s.tail ++ (s.raw ++ rest)))))) ≡ text_to_line_end r ++ (s.tail ++ (s.raw ++ rest)) = simp append_assoc refl in parts))
+row_text_parts r rest = search (rules, row_front-append, content_slices, r.content, append_assoc)
 
 pub no_lines_above : (path : Path) (c : Cut) (k : ℕ) → None ≡ option_map (position_in k) (row_line_at path c) → None ≡ lines_above path.doc (steps_of path) c
 no_lines_above path c k e = sym (ap (λ (o : Option PlacedRow). o >>= λ w. cond (eqb w.line 0) (Some (above_row w)) None) (no_row_line_placed path c k e))
@@ -70,9 +67,7 @@ module _ (t : List ℕ) (start : ℕ) (gap run : List ℕ) (h : GapIsThere t sta
   size = omega (arith, h.start_is, ap length gap_is, length-append kept run, length-append h.before kept)
 
   pub above_boundary : (front : List ℕ) → front ≡ take (start + length gap) t → IsCharBoundary front (start + length gap - length run)
-  above_boundary front e =
-      subst (λ n. IsCharBoundary front n) (sym size) (subst (λ x. IsCharBoundary x (length (h.before ++ kept))) (sym (e ∙ parts))
-      (before_ascii (h.before ++ kept) run (subst BeginsAscii (sym run_is) (run_ascii (text_lines gap)))))
+  above_boundary front e = search (rules, size, e, parts, before_ascii, run_is, run_ascii)
 
   pub above_is : (front before after : List ℕ) → front ≡ take (start + length gap) t → after ≡ drop (start + length gap) t → before ≡ take (start + length gap - length run) front →
       (k : GapIsThere t start gap) → ◌≡◌ {A = TextPiece} (record { before = before; text = run; after = after }) (gap_above k.before gap k.rest)

@@ -1,22 +1,70 @@
 -- The comments that are known of entries and items are those in the pieces there.
 use Rattle.std.proofs.Common.{◌≡◌, ℕ, List, [], ◌∷◌, map, Option, Some, None, option_map, option_and_then, true, refl, sym, ap, ◌∙◌, subst}
-use Rattle.std.{proofs.Common.rules, proofs.lemmas.Option.slice_get-map, specs.List.slice_get, specs.Str.is_utf8}
+use Rattle.std.{proofs.Common.{rules, Bool, cond, drop, false, length, ◌++◌, ◌<◌, arith}, proofs.lemmas.Option.slice_get-map}
+use Rattle.std.{specs.List.slice_get, specs.Str.is_utf8, proofs.lemmas.Bool.{cond-false, cond-true, eqb-true}}
 use Rattle.yq_core.{specs.Answers.◌>>=◌, specs.Paths.Step, specs.Tree.plain_label, proofs.Bools.guard_then}
+use Rattle.yq_core.{specs.Text.{cut, ends_line, upto, is_empty, joined, text_lines, line_len}, proofs.LineLaws.{joined_lines, line_step}}
 use Rattle.yq_row_table.{specs.Grammar.IsCut, specs.Rows.{Content, Cut}}
 use Rattle.yq_documents.{specs.declared.path.Path.Path, specs.Documents.document_parts, specs.Located.{steps_of, labelled_located}}
-use Rattle.yq_documents.{specs.Pieces.{TextPiece, content_comment}, specs.Reading.{all_documents, part_document, read_at}}
-use Rattle.yq_documents.{proofs.RowLineLaws.tail_is, proofs.PartRows.each, proofs.ReadLaws.{cut_is, text_takes}}
+use Rattle.yq_documents.specs.Pieces.{TextPiece, content_comment, last_run, before_run, tail_comment, gap_comment}
+use Rattle.yq_documents.{specs.Reading.{all_documents, part_document, read_at}, proofs.RowLineLaws.tail_is, proofs.PartRows.each}
+use Rattle.yq_documents.{proofs.ReadLaws.{cut_is, text_takes}, specs.Texts.texts, proofs.RunLaws.run_texts}
 use Rattle.yq_places.specs.CommentLaws.{comment_of, comments_of, head_comment_of, CommentsAreThere}
 use Rattle.yq_places.specs.PathPieces.{BlockEntry, PrintedDocument, printed_document, found_entry, piece_in_entry, piece_in}
 use Rattle.yq_places.{specs.PrintedLines.line_in, proofs.FlowPieces.head_there, proofs.PieceHolds.no_part}
 use Rattle.yq_places.{proofs.PrintedLaws.{ArePrinted, lines_are, document_is}, proofs.FoundEntries.{IsFound, entry_there, entry_found}}
 use Rattle.yq_places.proofs.UncommentedLaws.{HasNone, Uncommented, uncommented_content, uncommented_reach}
-use Rattle.yq_places.{proofs.CommentTextLaws.{tail_view, gap_agrees}, proofs.RowPathLaws.document_fine}
+use Rattle.yq_places.proofs.RowPathLaws.{document_fine}
 use Rattle.yq_outline.{specs.Group.{group, is_fine}, specs.Labelled.{Labelled, labelled_from}, specs.Lines.{tail_of, lines_of_rows}}
 use Rattle.yq_outline.{specs.Outline.{Line, anchored, head_or, value}, specs.Places.{FoundLine, find}, proofs.Finding.entry_of}
 use Rattle.yq_outline.{proofs.LabelPaths.{reach, FoundEntry, path_entry}, proofs.Values.If}
+use Rattle.yq_outline.specs.Comments.{comment_text, are_comments, head_comment}
+use mathlib.Core.List.{tail-eq_of_cons-eq}
 use Rattle.yq_outline.specs.Comments as comments
 use Rattle.yq_documents.specs.declared.path.Part.TheVariants as parts
+
+-- ---- the texts of comments, by where they are
+
+-- the comment in a tail
+cut_mark : (bs : List ℕ) → drop 1 (cut ends_line (35 ∷ bs)).0 ≡ (cut ends_line bs).0
+unfolding upto
+cut_mark bs = refl
+
+pub tail_view : (before tail after : List ℕ) → option_map comment_of (tail_comment before tail after) ≡ comment_text tail
+tail_view before tail after = search (rules, cut_mark, eqb-true)
+
+-- the run in a gap is the lines of a text
+abbrev RunIs : List (List ℕ) → Type 0
+RunIs ls = (u : List ℕ) × (text_lines u ≡ last_run ls)
+
+no_lines : (b : ℕ) (bs : List ℕ) → 0 < length (b ∷ bs)
+no_lines b bs = omega arith
+
+run_is : (ls : List (List ℕ)) (t : List ℕ) → text_lines t ≡ ls → RunIs ls
+unfolding text_lines
+run_is [] t e = ([], refl)
+run_is (l ∷ ls) [] e = absurd (cc)
+run_is (l ∷ ls) (b ∷ bs) e = go (are_comments (l ∷ ls)) refl (run_is ls (drop (line_len (b ∷ bs)) (b ∷ bs)) (tail-eq_of_cons-eq (sym (line_step (b ∷ bs) (no_lines b bs)) ∙ e)))
+  where
+    go : (c : Bool) → are_comments (l ∷ ls) ≡ c → RunIs ls → RunIs (l ∷ ls)
+    go true h again = (b ∷ bs, e ∙ sym (cond-true _ _ _ h))
+    go false h again = (again.0, again.1 ∙ sym (cond-false _ _ _ h))
+
+lines_none : text_lines [] ≡ []
+unfolding text_lines
+lines_none = refl
+
+pub gap_agrees : (before gap after : List ℕ) → comments_of (gap_comment before gap after) ≡ head_comment gap
+gap_agrees before gap after =
+    let run = run_is (text_lines gap) gap refl in
+    let same : joined (last_run (text_lines gap)) ≡ run.0 = ap joined (sym run.1) ∙ joined_lines run.0 in
+    ap (λ x. comments_of (cond (is_empty x) None (Some (record { before = before ++ joined (before_run (text_lines gap)); text = x; after = after })))) same
+    ∙ (go run.0 ∙ (ap texts run.1 ∙ run_texts (text_lines gap)))
+  where
+    go : (u : List ℕ) → comments_of (cond (is_empty u) None (Some (record { before = before ++ joined (before_run (text_lines gap)); text = u; after = after }))) ≡ texts (text_lines u)
+    go u = search (rules, lines_none)
+
+-- ---- the comments that are known of entries and items are those in the pieces there
 
 content_agrees : (before : List ℕ) (c : Content) (after : List ℕ) → comments.line_comment (tail_of c) ≡ option_map comment_of (content_comment before c after)
 content_agrees before c after = simp (tail_is, tail_view)

@@ -4,7 +4,7 @@ use Rattle.std.proofs.Common.{option_and_then, Bool, true, false, cond, refl, sy
 use Rattle.std.{proofs.lemmas.Bool.{eqb-true, eqb-false}, specs.List.slice_get}
 use Rattle.yq_core.{specs.Answers.◌>>=◌, specs.Paths.Step}
 use Rattle.yq_outline.{specs.Ends.{found_line, line_at_steps}, specs.Group.group, specs.Places.{lines_before, FoundLine, find}}
-use Rattle.yq_row_table.{specs.Exchange.{before_content, after_row}, specs.Rows.{dashes_text, following_gap, Row, Part, Cut}}
+use Rattle.yq_row_table.{specs.Exchange.after_row, specs.Rows.{dashes_text, following_gap, Row, Part, Cut}}
 use Rattle.yq_row_table.specs.View.{content_cut, slices, rows_of}
 use Rattle.yq_documents.{specs.declared.path.Path.Path, specs.Documents.document_parts, specs.Located.steps_of}
 use Rattle.yq_documents.specs.Pieces.{piece_span, tail_comment, content_comment, gap_comment}
@@ -12,7 +12,7 @@ use Rattle.yq_documents.{specs.LinesInRows.{RowLine, row_line, row_line_of, row_
 use Rattle.yq_places.specs.CommentReading.{before_row, before_tail, line_comment_in, head_comment_in}
 use Rattle.yq_places.specs.PathPieces.{PrintedDocument, printed_document, found_entry, piece_in_entry, piece_in, path_piece}
 use Rattle.yq_places.specs.PrintedLines.{PrintedLine, line_front, print_lines, printed_lines, line_in}
-use Rattle.yq_places.{proofs.CommentHolds.{no_gap, no_comment}, proofs.CommentPlaceLaws.{tail_view, gap_agrees}, proofs.PieceHolds.no_part}
+use Rattle.yq_places.{proofs.PieceHolds.{no_comment, no_gap, no_part}, proofs.CommentPlaceLaws.{gap_agrees, tail_view}}
 use Rattle.yq_places.{specs.PlacedRows.placed_document, proofs.PlacedPartLaws.part_is_there, proofs.PrintedLaws.lines_are}
 use Rattle.yq_places.{proofs.FoundEntries.{line_there, entry_is}, proofs.PrintedTexts.{map_some, lines_then}}
 use Rattle.yq_places.proofs.RunSpans.{begin_is, content_size, row_line_at as row_line_there}
@@ -55,11 +55,7 @@ module _ (c : Cut) (p : Part) (more : List Row) (k : ℕ) (start end : List ℕ)
             content_size c p more k document there placed refl n q d is at,
             ap (λ (y : PrintedLine). length (line_front y)) line,
             ap (λ (y : PrintedLine). length y.mark) line,
-            length-append (before n) (line_front l ++ l.mark),
-            length-append start (print_lines (take n (printed_lines p.rows)) []),
-            length-append (line_front l) l.mark,
-            length-append front (x.0 ++ (x.1 ++ (x.2 ++ x.3))),
-            length-append (before_content (k + q.before) c) (x.0 ++ (x.1 ++ (x.2 ++ x.3))),
+            length-append {A = ℕ},
           ) in
           search (rules, tail_same, x, content, front)
       go q is d line false e = search (rules, eqb-false, no_comment)

@@ -3,12 +3,12 @@ use Rattle.std.proofs.Common.{rules, ◌≡◌, inr, ℕ, suc, ◌+◌, ◌-◌,
 use Rattle.std.{proofs.Common.{option_map, true, refl, sym, ap, ◌∙◌, subst, arith, append_assoc}, proofs.Math.Seq.take-append_seam}
 use Rattle.std.{proofs.lemmas.Option.{slice_get-map, slice_get_within}, specs.List.slice_get, specs.Str.{IsUtf8, IsCharBoundary}}
 use Rattle.yq_text.specs.Limit.{text_limit}
-use Rattle.yq_row_table.{specs.Exchange.{before_content, after_row, row_front, following_rows}, specs.Offsets.row_length}
+use Rattle.yq_row_table.{specs.Exchange.following_rows, specs.Offsets.row_length}
 use Rattle.yq_row_table.specs.Rows.{Row, parent_indent, print_row, rows_text, part_text, Cut}
 use Rattle.yq_row_table.{specs.View.{Slices, slices, rows_of, RowsView, rows_view}, proofs.PlaceLaws.{RowIn, row_in}}
 use Rattle.yq_row_table.{proofs.seams.SeamLaws.rows_text-append, proofs.splices.SpliceTexts.first_text}
 use Rattle.yq_documents.{specs.Reading.cut_of, specs.LinesInRows.document_row}
-use Rattle.yq_places.{specs.CommentPlaces.text_to_line_end, specs.CommentReading.before_row, specs.RemovalPlaces.{OwnRows, rows_out}}
+use Rattle.yq_places.{specs.CommentPlaces.text_to_line_end, specs.RemovalPlaces.{OwnRows, rows_out}}
 use Rattle.yq_places.{specs.Placements.{RowsOfEntry, before_entry, after_entry}, specs.PlacementReading.AreRowsOf}
 use Rattle.yq_places.{proofs.CommentEndLaws.row_text_parts, proofs.CommentPieceLaws.{Ended, content_end, row_place}}
 use Rattle.yq_places.{proofs.PlacedRowLaws.{IsAt, part_at}, proofs.RemovalLines.{LineSeam, lies_in, rows_seam, seam_join}}
@@ -38,11 +38,7 @@ module _ (t : List ℕ) (s : RowsView) (e : RowsOfEntry) (row end : ℕ) (h : Ar
       let before : h.part.before ++ rows_text (take j h.part.part.rows) [] ≡ before_entry e = (λ i. sym h.start_is i ++ rows_text (front i) []) in
       let after : rows_text (drop (suc j) h.part.part.rows) (h.part.part.end ++ h.part.after) ≡ rows_text e.under (after_entry e) =
       (λ i. rows_text (rest i) (sym h.end_is i ++ sym h.following_is i)) ∙ rows_text-append e.under e.back (e.end ++ e.after) in
-      record {
-        there = ap (slice_get (rows_of c)) h.row_is ∙ at.there;
-        before_is = ap (λ (k : ℕ). before_row k c) h.row_is ∙ (at.before_is ∙ before);
-        following_is = ap (λ (k : ℕ). after_row k c) h.row_is ∙ (at.following_is ∙ after);
-      }
+      search (rules, h.row_is, at.there, at.before_is, before, at.following_is, after)
 
   pub pieces_at : slice_get s.rows row ≡ Some (slices e.row)
   pieces_at = ap (λ (y : RowsView). slice_get y.rows row) h.rows_view_is ∙ (slice_get-map slices (rows_of c) row ∙ ap (option_map slices) first_at.there)
@@ -92,17 +88,7 @@ module _ (t : List ℕ) (s : RowsView) (e : RowsOfEntry) (row end : ℕ) (h : Ar
       let x : OwnRows = record { front = e.front; own = e.row ∷ e.under; back = e.back } in
       let out = rows_out h.part x in
       let rest : after_entry e ≡ out.gap ++ out.after = (λ i. rows_text e.back (h.end_is i ++ h.following_is i)) ∙ first_text e.back h.part.part.end h.part.after in
-      omega (
-        arith,
-        agrees own.final own.final_is,
-        own.stop,
-        ap length own.text,
-        ap length cut_in_two,
-        ap length rest,
-        length-append through (after_entry e),
-        length-append out.before (out.gone ++ (out.gap ++ out.after)),
-        length-append out.gone (out.gap ++ out.after),
-      )
+      omega (arith, agrees own.final own.final_is, own.stop, ap length own.text, ap length cut_in_two, ap length rest, length-append {A = ℕ})
 
   stop_seam : LineSeam through (after_entry e)
   stop_seam =
@@ -127,20 +113,7 @@ module _ (t : List ℕ) (s : RowsView) (e : RowsOfEntry) (row end : ℕ) (h : Ar
   head_ends place agrees =
       let x : Slices = slices e.row in
       let at : place.1 ≡ (head_place row c e.row).1 = ap (λ (p : ℕ × ℕ). p.1) (agrees c h.rows_view_is e.row first_at.there) in
-      omega (
-        arith,
-        at,
-        length-append (before_content row c) (x.space ++ (x.anchor ++ x.apart)),
-        length-append x.space (x.anchor ++ x.apart),
-        length-append x.anchor x.apart,
-        front_in row c e.row first_at.there,
-        ap length first_at.before_is,
-        length-append (before_entry e) (text_to_line_end e.row),
-        length-append (row_front e.row) (x.space ++ (x.anchor ++ (x.apart ++ x.head))),
-        length-append x.space (x.anchor ++ (x.apart ++ x.head)),
-        length-append x.anchor (x.apart ++ x.head),
-        length-append x.apart x.head,
-      )
+      omega (arith, at, length-append {A = ℕ}, front_in row c e.row first_at.there, ap length first_at.before_is)
 
   -- the text up to the end of that line, with what is below it, up to the end of the rows
   abbrev line : List ℕ
@@ -158,10 +131,7 @@ module _ (t : List ℕ) (s : RowsView) (e : RowsOfEntry) (row end : ℕ) (h : Ar
       ∙ (ap (λ (u : List ℕ). before_entry e ++ u) (row_text_parts e.row (rows_text e.under [] ++ after_entry e)) ∙ parts))
 
   pub through_is : through ≡ line ++ lower
-  through_is =
-      let x : Slices = slices e.row in
-      let parts : before_entry e ++ (text_to_line_end e.row ++ (x.tail ++ (x.raw ++ rows_text e.under []))) ≡ line ++ lower = simp append_assoc refl in
-      ap (λ (u : List ℕ). before_entry e ++ u) (row_text_parts e.row (rows_text e.under [])) ∙ parts
+  through_is = simp (append_assoc, row_text_parts) refl
 
   pub line_boundary_at : IsUtf8 t → IsCharBoundary t (length line)
   line_boundary_at u =

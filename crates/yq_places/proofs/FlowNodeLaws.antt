@@ -4,9 +4,9 @@ use Rattle.std.{proofs.Common.{option_and_then, option_map, refl, sym, ap, ◌�
 use Rattle.yq_core.{specs.Answers.◌>>=◌, specs.Paths.{Step, further}, specs.Piece.deeper, specs.declared.style.Place.TheVariants.Block}
 use Rattle.yq_core.specs.Collections.{CollAt, CollPieces, IsCollAt, coll_along, coll_in}
 use Rattle.yq_core.specs.Entries.{EntryPieces, path_inside, item_at, tree_step}
-use Rattle.yq_core.specs.Nodes.{Items, none, item, Key, FlowNode, empty, alias, scalar, coll, anchored, node_text, is_empty_node}
-use Rattle.yq_core.{specs.Nodes.{IsFlowNode, without_anchor}, specs.Inline.depth_limit}
-use Rattle.yq_core.{specs.Places.{Placed, placed, nothing, name, text, sequence, mapping, anchored_node, locate}, specs.View.inline_view}
+use Rattle.yq_core.specs.Nodes.{Items, none, item, Key, FlowNode, empty, coll, anchored, node_text, is_empty_node, IsFlowNode}
+use Rattle.yq_core.{specs.Nodes.without_anchor, specs.Inline.depth_limit}
+use Rattle.yq_core.{specs.Places.{Placed, placed, nothing, text, anchored_node, locate}, specs.View.inline_view}
 use Rattle.yq_core.proofs.NodesWrittenLaws.{items_append, node_then, sep_append}
 use Rattle.yq_row_table.{specs.Exchange.after_row, specs.Grammar.{IsContent, IsCut}}
 use Rattle.yq_row_table.specs.Rows.{Content, Nothing, Inline, Row, Part, Cut, parent_indent}
@@ -39,23 +39,13 @@ anchor_along (t ∷ ss) n start (placed a s c e f) = refl
 
 core_along : (total : ℕ) (node : FlowNode) (rest : List ℕ) (ss : List Step) → collection_along ss (locate total (without_anchor node) rest) ≡ collection_along ss (locate total node rest)
 unfolding locate
-core_along total empty rest ss = refl
-core_along total (alias n) rest ss = refl
-core_along total (scalar p) rest ss = refl
-core_along total (coll k g is) rest ss = refl
 core_along total (anchored n g node) rest ss = sym (anchor_along ss n _ (locate total node rest))
+core_along total _ rest ss = refl
 
 kept_along : (ss : List Step) (p : Placed) → (alias_or_collection p >>= collection_along ss) ≡ collection_along ss p
 kept_along [] (placed a s c e nothing) = refl
-kept_along [] (placed a s c e (name n)) = refl
-kept_along [] (placed a s c e (text x piece)) = refl
-kept_along [] (placed a s c e (sequence parts)) = refl
-kept_along [] (placed a s c e (mapping parts)) = refl
 kept_along (t ∷ ss) (placed a s c e nothing) = refl
-kept_along (t ∷ ss) (placed a s c e (name n)) = refl
-kept_along (t ∷ ss) (placed a s c e (text x piece)) = refl
-kept_along (t ∷ ss) (placed a s c e (sequence parts)) = refl
-kept_along (t ∷ ss) (placed a s c e (mapping parts)) = refl
+kept_along _ _ = refl
 
 row_along : (total : ℕ) (r : Row) (rest : List ℕ) (ss : List Step) → (row_flow total r rest >>= collection_along ss) ≡ option_map (placed_collection total) (content_flow ss r.content rest)
 row_along total r rest ss = kept_along ss (locate total (content_core r.content) (tail_of r.content ++ rest)) ∙ go r.content
@@ -77,21 +67,16 @@ item_more k s none rest more = refl
 item_more k s (item key n sep is) rest more = search (rules, as_entry, items_append, sep_append, item_more k (further s) is rest more)
 
 inside_more : (s : Step) (node : FlowNode) (rest more : List ℕ) → path_inside s node (rest ++ more) ≡ option_map (entry_more more) (path_inside s node rest)
-inside_more s empty rest more = refl
-inside_more s (alias n) rest more = refl
-inside_more s (scalar p) rest more = refl
 inside_more s (coll k gap is) rest more = item_more k s is rest more
 inside_more s (anchored n gap node) rest more = inside_more s node rest more
+inside_more s _ rest more = refl
 
 abbrev pub with_more : List ℕ → CollPieces → CollPieces
 with_more more w = record { close = w.close; gap = w.gap; items = w.items; rest = w.rest ++ more }
 
 coll_in_more : (node : FlowNode) (rest more : List ℕ) → coll_in node (rest ++ more) ≡ option_map (with_more more) (coll_in node rest)
-coll_in_more empty rest more = refl
-coll_in_more (alias n) rest more = refl
-coll_in_more (scalar p) rest more = refl
-coll_in_more (coll k gap is) rest more = refl
 coll_in_more (anchored n gap node) rest more = coll_in_more node rest more
+coll_in_more _ rest more = refl
 
 coll_more : (ss : List Step) (node : FlowNode) (rest more : List ℕ) → coll_along ss node (rest ++ more) ≡ option_map (with_more more) (coll_along ss node rest)
 coll_more [] node rest more = coll_in_more node rest more
@@ -150,15 +135,8 @@ no_flow_agrees t all e = subst (λ (o : Option CollPieces). FlowAgrees t o None)
 
 pub core_coll : (ss : List Step) (node : FlowNode) (rest : List ℕ) → coll_along ss node rest ≡ coll_along ss (without_anchor node) rest
 core_coll [] empty rest = refl
-core_coll [] (alias n) rest = refl
-core_coll [] (scalar p) rest = refl
-core_coll [] (coll k g is) rest = refl
-core_coll [] (anchored n g node) rest = refl
 core_coll (s ∷ ss) empty rest = refl
-core_coll (s ∷ ss) (alias n) rest = refl
-core_coll (s ∷ ss) (scalar p) rest = refl
-core_coll (s ∷ ss) (coll k g is) rest = refl
-core_coll (s ∷ ss) (anchored n g node) rest = refl
+core_coll _ _ rest = refl
 
 pub core_valid : (spaces : Option ℕ) (node : FlowNode) (rest : List ℕ) → IsFlowNode false spaces depth_limit node rest → IsFlowNode false spaces depth_limit (without_anchor node) rest
 unfolding IsFlowNode
@@ -167,10 +145,7 @@ core_valid spaces node rest h = search rules
 some_bare : (ss : List Step) (node : FlowNode) (rest : List ℕ) (w : CollPieces) → coll_along ss node rest ≡ Some w → not (is_empty_node node) ≡ true
 some_bare [] empty rest w e = absurd (cc)
 some_bare (s ∷ ss) empty rest w e = absurd (cc)
-some_bare ss (alias n) rest w e = refl
-some_bare ss (scalar p) rest w e = refl
-some_bare ss (coll k g is) rest w e = refl
-some_bare ss (anchored n g node) rest w e = refl
+some_bare ss _ rest w e = refl
 
 pub core_text : (node : FlowNode) → (anchor_cut node).2 ≡ node_text (without_anchor node) []
 unfolding node_text
@@ -258,13 +233,7 @@ module _ (t : List ℕ) (s : RowsView) (c : Cut) (n : ℕ) (d : Stretch) (cut : 
         number = line_number d there.document.are_there.rows q;
         leads = λ ss. ap (λ (rs : List Row). head_line_of (stem.stem ++ ss) (lines_of_rows rs)) (sym (found_in_cut t s c n d cut is f).1) ∙ stem.leads ss;
       };
-      reports = λ y node text before.
-          let is_text : y.text.now ≡ x.text.now = λ i. (text i).now in
-          head_agrees_at t s c n d cut is f q at (stem.stem ++ map tree_step y.left.now) (map tree_step y.left.now) (stem.leads (map tree_step y.left.now)) y refl
-          (is_located ∙ λ i. take (sym before i) t ++ (sym is_text i ++ after_row q.row c))
-          (before ∙ (begins ∙ λ i. length (take (sym before i) t)))
-          (is_text ∙ ends)
-          ((λ i. Some (inline_view (node i).value)) ∙ (e ∙ λ i. row_flow (length (sym is_text i)) (row_is s d c there q at) []));
+      reports = λ y node text before. search (rules, head_agrees_at, is, stem.stem, stem.leads, is_located, begins, ends, e, row_is);
     },
   )
 

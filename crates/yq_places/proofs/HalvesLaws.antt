@@ -75,14 +75,10 @@ last_other _ _ e f = absurd (omega (arith, e))
 
 last_feed : (t : List ℕ) (m : ℕ) → length t ≡ suc m → slice_index t m ≡ 10 → ((k : ℕ) → suc k ≡ m → slice_index t k ≡ 13 → ⊥) → length (less_break t) ≡ m
 unfolding less_break
-last_feed [] m e f r = absurd (omega (arith, e))
 last_feed (b ∷ []) zero e f r = ap (λ c. length (cond c [] (b ∷ []))) (eq-eqb b 10 f)
-last_feed (b ∷ []) (suc m) e f r = absurd (omega (arith, e))
-last_feed (b ∷ (d ∷ [])) zero e f r = absurd (omega (arith, e))
 last_feed (b ∷ (d ∷ [])) (suc zero) e f r = cc (ne_eqb b 13 (r zero refl), eq-eqb d 10 f)
-last_feed (b ∷ (d ∷ [])) (suc (suc m)) e f r = absurd (omega (arith, e))
-last_feed (b ∷ (d ∷ (x ∷ t))) zero e f r = absurd (omega (arith, e))
 last_feed (b ∷ (d ∷ (x ∷ t))) (suc m) e f r = ap suc (last_feed (d ∷ (x ∷ t)) m (omega (arith, e)) f (λ k is. r (suc k) (ap suc is)))
+last_feed _ _ e f r = absurd (omega (arith, e))
 
 last_return : (t : List ℕ) (m : ℕ) → length t ≡ suc (suc m) → slice_index t (suc m) ≡ 10 → slice_index t m ≡ 13 → length (less_break t) ≡ m
 unfolding less_break

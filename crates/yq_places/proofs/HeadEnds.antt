@@ -10,7 +10,7 @@ use Rattle.yq_row_table.{specs.Exchange.after_row, specs.Grammar.{IsContent, IsC
 use Rattle.yq_row_table.{specs.View.{Slices, slices, anchor_cut, content_cut, rows_of, RowsView, rows_view}, proofs.PlaceLaws.row_in}
 use Rattle.yq_outline.{specs.Extents.{row_start, front_length, head_place, IsRowsView}, proofs.LengthLaws.{row_fits, view_small}}
 use Rattle.yq_places.specs.EntryReading.{row_ending, head_end, head_extent, through_row, head_finish}
-use Rattle.yq_places.proofs.RowStarts.{head_is, row_ends}
+use Rattle.yq_places.proofs.StartLaws.{head_is, row_ends}
 
 -- ---- a row by its pieces
 

@@ -1,5 +1,5 @@
 -- The heads of rows, and what is in flow in them, go from one whole character to another.
-use Rattle.std.proofs.Common.{◌≡◌, ℕ, ◌+◌, ◌-◌, ◌<◌, List, [], ◌∷◌, ◌++◌, length, drop, Option, Some, Bool, true, false, refl, sym, ap, ◌∙◌}
+use Rattle.std.proofs.Common.{◌≡◌, ℕ, ◌+◌, ◌-◌, ◌<◌, List, [], ◌∷◌, ◌++◌, length, Option, Some, Bool, true, false, refl, sym, ap, ◌∙◌}
 use Rattle.std.{proofs.Common.{subst, arith, append_assoc, length-append, inl, rules}, proofs.Math.Seq.drop-append_seam}
 use Rattle.std.{proofs.lemmas.Bool.{false≢true, and_parts}, specs.List.slice_get, specs.Str.{IsUtf8, IsCharBoundary}}
 use Rattle.yq_core.{proofs.LineLaws.is_empty_is, specs.declared.block_header.BlockStyle.BlockStyle, specs.Block.style_indicator}
@@ -76,13 +76,8 @@ module _ (c : Cut) (i : ℕ) (r : Row) (u : IsUtf8 (cut_text c)) (cut : IsCut (c
       let before : List ℕ = before_content i c ++ space in
       let rest : List ℕ = tail ++ after_row i c in
       let whole : cut_text c ≡ before ++ node_text node rest = cc (place c i r is, append_assoc (before_content i c) space (node_text node rest)) in
-      let at : IsInlineAt places.Block (parent_indent r) 0 (length before) (cut_text c) (locate (length (cut_text c)) node rest) = record {
-        node = node;
-        rest = rest;
-        is_located = ap (drop (length before)) whole ∙ drop-append_seam before (node_text node rest);
-        inline = (subst (λ (x : Content). IsContent (parent_indent r) x (after_row i c)) content holds).1;
-        places = refl;
-      } in
+      let at : IsInlineAt places.Block (parent_indent r) 0 (length before) (cut_text c) (locate (length (cut_text c)) node rest) =
+      search (rules, rest, before, whole, drop-append_seam, content, holds) in
       inline_spans places.Block (parent_indent r) 0 (length before) (cut_text c) (locate (length (cut_text c)) node rest) at u (node_boundary space node tail content (is_entry r.mark) refl)
 
   -- the head of a row

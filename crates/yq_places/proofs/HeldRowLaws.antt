@@ -1,10 +1,9 @@
 -- The row of a key or dash whose line is its last one, as the code finds it by a walk.
-use Rattle.std.proofs.Common.{◌≡◌, ℕ, ◌+◌, ◌-◌, ◌<◌, Bool, true, false, not, ◌&&◌, List, [], ◌++◌, length, take, drop, Option, Some, None}
-use Rattle.std.{proofs.Common.{option_map, refl, sym, ap, ◌∙◌, arith, length-append}, proofs.lemmas.Bool.{and_parts, false≢true}}
+use Rattle.std.proofs.Common.{rules, ◌≡◌, ℕ, ◌+◌, ◌-◌, ◌<◌, Bool, true, false, not, ◌&&◌, List, [], ◌++◌, length, take, drop, Option, Some}
+use Rattle.std.{proofs.Common.{None, option_map, refl, sym, ap, ◌∙◌, arith, length-append}, proofs.lemmas.Bool.{and_parts, false≢true}}
 use Rattle.std.{proofs.lemmas.Option.{none-some, same_Some, slice_get_within}, specs.List.slice_get}
 use Rattle.yq_core.{specs.Answers.◌>>=◌, specs.Paths.Step, specs.Text.is_empty}
-use Rattle.yq_row_table.{specs.Exchange.row_front, specs.Grammar.IsCut, specs.Rows.{Content, Nothing, Inline, Block, Row, Cut}}
-use Rattle.yq_row_table.{specs.RowStarts.row_start, specs.Seams.is_block}
+use Rattle.yq_row_table.{specs.Grammar.IsCut, specs.Rows.{Content, Block, Row, Cut}, specs.RowStarts.row_start, specs.Seams.is_block}
 use Rattle.yq_row_table.specs.View.{Slices, slices, content_cut, rows_of, RowsView, rows_view}
 use Rattle.yq_outline.{proofs.PathLines.last_line, proofs.WalkPositions.located}
 use Rattle.yq_outline.{specs.Extents.{front_length, head_place, lines_before_mark}, specs.Lines.lines_of_rows}
@@ -12,13 +11,12 @@ use Rattle.yq_outline.specs.RowWalk.{HasRows, deeper_rows, line_level, line_numb
 use Rattle.yq_outline.{specs.declared.line_position.Position.Position, specs.declared.line_position.Stretch.Stretch}
 use Rattle.yq_documents.{specs.LinesInRows.row_line_of, specs.Reading.{all_documents, cut_of}, specs.RowReading.is_block_head}
 use Rattle.yq_documents.proofs.HeadLaws.{block_marks}
-use Rattle.yq_places.{specs.CommentPlaces.text_to_line_end, specs.PlacedRows.{PlacedPart, placed_document}}
-use Rattle.yq_places.{specs.RowPieces.{anchor_before, space_before}, specs.RowWalk.document_row_range}
-use Rattle.yq_places.specs.Placements.{RowsOfEntry, before_entry, entry_rows_at, held, rows_of_entry}
+use Rattle.yq_places.{specs.PlacedRows.{PlacedPart, placed_document}, specs.RowWalk.document_row_range}
+use Rattle.yq_places.specs.Placements.{RowsOfEntry, entry_rows_at, held, rows_of_entry}
 use Rattle.yq_places.{specs.PlacementReading.{AreRowsOf, numbers_of_entry}, specs.PlacementViews.{IsHeldRow, IsLastOf}}
 use Rattle.yq_places.{specs.declared.places.held_row.HeldRow.HeldRow, proofs.EntryNumbers.{FoundEntry, entry_found, entry_row_agrees}}
 use Rattle.yq_places.{proofs.EntryRowLaws.{first_at, head_ends, pieces_at}, proofs.HeldTexts.line_is, proofs.RowHeads.slices_are}
-use Rattle.yq_places.{proofs.RowStarts.head_is, proofs.WalkDocuments.place_found}
+use Rattle.yq_places.{proofs.StartLaws.head_is, proofs.WalkDocuments.place_found}
 use Rattle.yq_row_walk.specs.Walk.{IsLineAt}
 
 -- what the code tells of a row in which a line is the last one
@@ -28,20 +26,12 @@ last_of c s q r x y is there at row last start head tail inline =
     let same : y ≡ slices r = slices_are c s q.row y r is there at in
     let begins : x.start ≡ row_start q.row (rows_view c) + front_length (slices r) = start ∙ λ i. row_start q.row (is i) + front_length (same i) in
     let own : x.head.now ≡ (slices r).head = head ∙ ap (λ (z : Slices). z.head) same in
-    record {
-      row = row;
-      last = last ∙ ap lines_before_mark same;
-      start = begins ∙ sym (ap (λ (p : ℕ × ℕ). p.0) (head_is c q.row r at));
-      head = own;
-      tail = tail ∙ ap (λ (z : Slices). z.tail) same;
-      inline = inline ∙ ap (λ (l : List ℕ). not (is_empty l) && not (is_block_head l)) own;
-    }
+    search (rules, row, last, same, start, begins, head_is, head, own, tail, inline)
 
 -- a content whose head doesn't begin as a block scalar's is none
 no_block_head : (x : Content) → is_block_head (content_cut x).3 ≡ false → is_block x ≡ false
-no_block_head (Nothing tail) is = refl
-no_block_head (Inline space node tail) is = refl
 no_block_head (Block space anchor b) is = absurd (false≢true (sym is ∙ block_marks b.style b.indicators))
+no_block_head _ is = refl
 
 pub not_so : (b : Bool) → not b ≡ true → b ≡ false
 not_so true e = absurd (false≢true e)
@@ -87,12 +77,7 @@ module _ (t : List ℕ) (s : RowsView) (e : RowsOfEntry) (row end : ℕ) (h : Ar
         ap (λ (p : ℕ × ℕ). p.0) (place_is (cut_of t) h.rows_view_is e.row (first_at t s e row end h).there),
         head_ends t s e row end h place place_is,
         ap length (line_is e.row),
-        length-append (before_entry e) (text_to_line_end e.row),
-        length-append (row_front e.row ++ anchor_before x) (space_before x ++ x.head),
-        length-append (space_before x) x.head,
-        length-append (row_front e.row) (anchor_before x),
-        length-append (before_entry e ++ row_front e.row) (anchor_before x),
-        length-append (before_entry e) (row_front e.row),
+        length-append {A = ℕ},
       )
 
 -- the row of the line that a walk has found is that of the item or entry to which the steps lead
@@ -114,9 +99,7 @@ held_row_is t s n d steps q x cut is known sound at y there says =
       start = l.start ∙ start_is t s e q.row end h;
       head = l.head;
       tail = l.tail;
-      inline = λ yes.
-          let both = and_parts (not (is_empty (slices e.row).head)) (not (is_block_head (slices e.row).head)) (sym l.inline ∙ yes) in
-          (no_block_head e.row.content (not_so _ both.1), not_so _ both.0);
+      inline = λ yes. search (rules, and_parts, l.inline, no_block_head, e.row.content, not_so);
     }
 
 -- the root has no rows of an item or entry

@@ -1,12 +1,12 @@
 -- What the key or dash of rows holds, by the row that the code has found.
-use Rattle.std.proofs.Common.{◌≡◌, ℕ, suc, ◌+◌, ◌-◌, ◌≤◌, Bool, cond, not, ◌||◌, List, [], ◌∷◌, ◌++◌, length, length-append, take}
-use Rattle.std.{proofs.Common.{replicate, Some, None, refl, sym, ap, ◌∙◌, subst, arith, append_assoc}, proofs.Math.Seq.take-append_seam}
+use Rattle.std.proofs.Common.{rules, ◌≡◌, ℕ, suc, ◌+◌, ◌-◌, ◌≤◌, Bool, cond, not, ◌||◌, List, [], ◌∷◌, ◌++◌, length, length-append, take}
+use Rattle.std.{proofs.Common.{replicate, Some, refl, sym, ap, ◌∙◌, subst, arith, append_assoc}, proofs.Math.Seq.take-append_seam}
 use Rattle.std.{proofs.lemmas.List.{length-replicate, take_all}, proofs.lemmas.Option.same_Some}
 use Rattle.std.{proofs.lemmas.Str.{IsCharBoundary-at_seam, IsUtf8-append}, specs.List.slice_get, specs.Str.{IsUtf8, IsCharBoundary}}
 use Rattle.yq_text.specs.Limit.{text_limit}
-use Rattle.yq_core.{specs.Text.is_empty, specs.Nodes.{empty, alias, scalar, coll, anchored}}
+use Rattle.yq_core.{specs.Text.is_empty, specs.Nodes.anchored}
 use Rattle.yq_row_table.specs.Exchange.{row_front}
-use Rattle.yq_row_table.specs.Rows.{Content, Nothing, Inline, Block, Row, after_columns, dashes_text, mark_column, rows_text, Cut}
+use Rattle.yq_row_table.specs.Rows.{Content, Inline, Block, Row, after_columns, dashes_text, mark_column, rows_text, Cut}
 use Rattle.yq_row_table.specs.View.{Slices, slices, content_cut, last_dash, rows_of, RowsView, rows_view}
 use Rattle.yq_places.{specs.CommentPlaces.{LineEnd, end_in_line, text_to_line_end}, specs.PrintedLines.last_break}
 use Rattle.yq_places.specs.RowPieces.{anchor_before, space_before}
@@ -31,25 +31,16 @@ head_front : (x : Content) (s : Slices) (u : List ℕ) → s.space ≡ (content_
 head_front x s u a b d = go s.anchor refl
   where
     none : (y : Content) → (content_cut y).1 ≡ [] → (content_cut y).2 ≡ []
-    none (Nothing tail) e = refl
-    none (Inline space empty tail) e = refl
-    none (Inline space (alias name) tail) e = refl
-    none (Inline space (scalar p) tail) e = refl
-    none (Inline space (coll k g is) tail) e = refl
     none (Inline space (anchored name g node) tail) e = absurd (cc)
-    none (Block space None block) e = refl
     none (Block space (Some y) block) e = absurd (cc)
+    none _ e = refl
 
     go : (n : List ℕ) → s.anchor ≡ n → s.space ++ (s.anchor ++ (s.apart ++ u)) ≡ cond (is_empty s.anchor) [] (s.space ++ s.anchor) ++ (cond (is_empty s.anchor) s.space s.apart ++ u)
-    go [] e =
-        let apart : s.apart ≡ [] = d ∙ none x (sym b ∙ e) in
-        (λ i. s.space ++ (e i ++ (apart i ++ u))) ∙ sym (λ i. cond (is_empty (e i)) [] (s.space ++ s.anchor) ++ (cond (is_empty (e i)) s.space s.apart ++ u))
+    go [] e = search (rules, s.apart, none, e, s.anchor)
     go (b ∷ bs) e = sym (append_assoc s.space s.anchor (s.apart ++ u)) ∙ sym (λ i. cond (is_empty (e i)) [] (s.space ++ s.anchor) ++ (cond (is_empty (e i)) s.space s.apart ++ u))
 
 pub line_is : (r : Row) → text_to_line_end r ≡ (row_front r ++ anchor_before (slices r)) ++ (space_before (slices r) ++ (slices r).head)
-line_is r =
-    let s : Slices = slices r in
-    ap (λ (x : List ℕ). row_front r ++ x) (head_front r.content s s.head refl refl refl) ∙ sym (append_assoc (row_front r) (anchor_before s) (space_before s ++ s.head))
+line_is r = search (rules, head_front, r.content, append_assoc)
 
 module _ (t : List ℕ) (s : RowsView) (e : RowsOfEntry) (row end : ℕ) (h : AreRowsOf t s e row end) (u : IsUtf8 t) (place : ℕ × ℕ)
     (agrees : (c : Cut) → s ≡ rows_view c → (r : Row) → slice_get (rows_of c) row ≡ Some r → place ≡ head_place row c r)
@@ -102,12 +93,7 @@ module _ (t : List ℕ) (s : RowsView) (e : RowsOfEntry) (row end : ℕ) (h : Ar
         ap (λ (z : Slices). length (space_before z)) same,
         ap (λ (z : Slices). length z.head) same,
         ap length (line_is e.row),
-        length-append (before_entry e) (text_to_line_end e.row),
-        length-append (row_front e.row ++ anchor_before x) (space_before x ++ x.head),
-        length-append (space_before x) x.head,
-        length-append (row_front e.row) (anchor_before x),
-        length-append (before_entry e ++ row_front e.row) (anchor_before x),
-        length-append (before_entry e) (row_front e.row),
+        length-append {A = ℕ},
       )
 
   size : (space head : List ℕ) → space ≡ space_before y → head ≡ y.head → place.1 - (length space + length head) ≡ length front
@@ -123,9 +109,7 @@ module _ (t : List ℕ) (s : RowsView) (e : RowsOfEntry) (row end : ℕ) (h : Ar
       subst (IsCharBoundary before) (sym (size space head a b)) (IsCharBoundary-at_seam before front ((space ++ head) ++ tail) whole (IsUtf8-append (space ++ head) tail (IsUtf8-append space head ua ub) ud))
 
   before_is : (before space head : List ℕ) → before ≡ (before_entry e ++ text_to_line_end e.row) ++ (slices e.row).tail → space ≡ space_before y → head ≡ y.head → take (place.1 - (length space + length head)) before ≡ front
-  before_is before space head is a b =
-      let x : Slices = slices e.row in
-      (λ i. take (size space head a b i) ((is ∙ line_is_front) i)) ∙ take-append_seam front ((space_before x ++ x.head) ++ x.tail)
+  before_is before space head is a b = search (rules, size, a, b, is, line_is_front, take-append_seam)
 
   pub held_is : (column dashes : ℕ) (keyed noted none : Bool) (before space head break last : List ℕ) (tail : LineEnd) (lower : LinesIn) →
       column ≡ line_column dashes y → dashes ≡ length e.row.dashes → keyed ≡ not (is_empty y.colon) → tail ≡ end_in_line [] y.tail →
@@ -158,15 +142,4 @@ module _ (t : List ℕ) (s : RowsView) (e : RowsOfEntry) (row end : ℕ) (h : Ar
       let m : break ≡ cond (is_empty ((slices r).raw ++ rows_text e.under [])) [] (end_in_line [] (slices r).tail).after = break_is ∙ (λ i. cond (nothing i) [] (end i).after) in
       let n : last ≡ cond (is_empty ((slices r).raw ++ rows_text e.under [])) (end_in_line [] (slices r).tail).after
       (last_break ((slices r).raw ++ rows_text e.under [])) = last_is_it ∙ (λ i. cond (nothing i) (end i).after (lower_is i).last) in
-      λ i. record {
-        mark = record { column = a i; keyed = b i; noted = d i };
-        before = f i;
-        space = g i;
-        head = k i;
-        white = (end i).white;
-        comment = (end i).comment;
-        break = m i;
-        lines = (lower_is i).lines;
-        last = n i;
-        after = (lower_is i).after;
-      }
+      search (rules, a, b, d, f, g, k, end, m, lower_is, n)

@@ -1,7 +1,6 @@
 pub mod RootPlaceLaws
 pub mod CommentPlaceLaws
 pub mod CommentLocationLaws
-pub mod RowStarts
 pub mod EntryPlaceLaws
 pub mod FlowPlaceLaws
 pub mod HeadEnds
@@ -9,10 +8,8 @@ pub mod StartLaws
 pub mod EntryPlacedLaws
 pub mod HeldLaws
 pub mod UncommentedLaws
-pub mod CommentTextLaws
 pub mod CommentPieceLaws
 pub mod CommentSpans
-pub mod CommentHolds
 pub mod SeamLaws
 pub mod SearchLaws
 pub mod FinishLaws

@@ -7,7 +7,7 @@ use Rattle.yq_text.specs.Limit.{text_limit}
 use Rattle.yq_core.specs.Text.{is_empty}
 use Rattle.yq_outline.{specs.Positions.has_no_mark, specs.Lines.line_mark, specs.Extents.{head_place, row_start}}
 use Rattle.yq_row_table.{specs.Exchange.row_front, specs.Grammar.IsMark}
-use Rattle.yq_row_table.specs.Rows.{Content, Nothing, Inline, Block, Row, dashes_text, parent_indent, print_row, rows_text, Cut}
+use Rattle.yq_row_table.specs.Rows.{Content, Block, Row, dashes_text, parent_indent, print_row, rows_text, Cut}
 use Rattle.yq_row_table.specs.View.{Slices, slices, content_cut, rows_of, RowsView, rows_view}
 use Rattle.yq_row_table.proofs.NodePieces.{before_ascii, following_ascii, tail_ascii}
 use Rattle.yq_documents.{specs.Pieces.TextPiece, specs.Reading.cut_of}
@@ -16,15 +16,14 @@ use Rattle.yq_places.specs.Placements.{RowsOfEntry, before_entry, after_entry, d
 use Rattle.yq_places.{specs.PlacementReading.{AreRowsOf, EndsRows}, proofs.CommentEndLaws.row_text_parts}
 use Rattle.yq_places.proofs.DashLaws.{front_is, row_cut}
 use Rattle.yq_places.{proofs.EntryRowLaws.{cut_in_two, first_at, head_ends, pieces_at, row_valid, text}, proofs.LineEndLaws.line_tail}
-use Rattle.yq_places.proofs.RowStarts.{line_begins}
+use Rattle.yq_places.proofs.StartLaws.{line_begins}
 use Rattle.yq_row_table.specs.Rows as rows
 
 raw_none : (m : rows.RowMark) (x : Content) (rest : List ℕ) → IsMark m x rest → has_no_mark (line_mark m) ≡ true → (content_cut x).5 ≡ []
-raw_none rows.Bare (Nothing tail) rest h bare = refl
-raw_none rows.Bare (Inline space node tail) rest h bare = refl
 raw_none rows.Bare (Block space anchor b) rest h bare = absurd (false≢true h)
 raw_none rows.Dash x rest h bare = absurd (false≢true bare)
 raw_none (rows.Key key colon) x rest h bare = absurd (false≢true bare)
+raw_none rows.Bare _ rest h bare = refl
 
 -- ---- a node alone on its line
 

@@ -1,7 +1,6 @@
 -- What is known of the nodes at paths, as the code finds it.
-use Rattle.std.proofs.lemmas.List.{take-map, length-map}
 use Rattle.std.proofs.Common.{rules, ◌≡◌, ◌⊎◌, inl, inr, ℕ, suc, ◌+◌, ◌-◌, ◌<◌, ◌≤◌, ltb, eqb, Bool, true, false, not, cond, List, [], ◌∷◌}
-use Rattle.std.proofs.Common.{length, take, map, Option, Some, None, option_map, option_and_then, refl, sym, ap, ◌∙◌, subst, arith}
+use Rattle.std.proofs.Common.{length, map, Option, Some, None, option_map, option_and_then, refl, sym, ap, ◌∙◌, subst, arith}
 use Rattle.std.{proofs.lemmas.Bool.{cases_lt, lt-ltb, le-ltb, eq-eqb, ne_eqb, false≢true}, proofs.lemmas.Option.{slice_get-map, same_Some}}
 use Rattle.std.{specs.List.slice_get, specs.Prelude.{is_some, Vec, vec_len}, specs.declared.alloc.Global.Global}
 use Rattle.yq_core.{specs.declared.kind.Kind.Kind, specs.Answers.◌>>=◌, specs.Paths.{Step, node_at, is_item}, specs.Tree.Node}
@@ -30,9 +29,7 @@ use Rattle.yq_core.specs.declared.inline.Form as forms
 pub named_summary : (a : Option (List ℕ)) (n : Node) → node_summary (with_anchor_name a n) ≡ node_summary n
 named_summary None n = refl
 named_summary (Some a) (tree.alias n) = refl
-named_summary (Some a) (tree.scalar b k t) = refl
-named_summary (Some a) (tree.list b cs) = refl
-named_summary (Some a) (tree.map b cs) = refl
+named_summary _ _ = refl
 
 -- an inline collection
 view_of_node : (node : Inline) → inline_view node ≡ placed (anchor_name node.anchor) node.start node.content node.end (form_view node.form)
@@ -87,10 +84,7 @@ lines_place n m floor left l none head next deep =
 
 pub placed_at : (ls : List Line) (steps left : List Step) (n : ℕ) (l : Line) (p : NodePlace) → Some (n, left) ≡ reached steps ls → slice_get ls n ≡ Some l → p ≡ line_place n left l → Some (p, left) ≡ node_place steps ls
 placed_at ls [] left n l p e is place = absurd (cc)
-placed_at ls (s ∷ ss) left n l p e is place =
-    ap (λ (q : NodePlace). Some (q, left)) place
-    ∙ (sym (ap (λ (o : Option Line). line_with_steps n left o) is)
-    ∙ ap (λ (o : Option (ℕ × List Step)). o >>= λ x. line_with_steps x.0 x.1 (slice_get ls x.0)) e)
+placed_at ls (s ∷ ss) left n l p e is place = search (rules, place, is, e)
 
 -- a node is written in the head of a line that is a node itself or has a head
 bare_first : (ls : List Line) (n m floor : ℕ) (l : Line) → cond (begins_with_node (part ls n floor)) (Some n) None ≡ Some m → slice_get ls m ≡ Some l → has_no_mark l.mark ≡ true
@@ -186,14 +180,10 @@ several_agrees None v e = absurd (cc)
 several_agrees (Some n) v e = ap summary_several (same_Some _ _ e) ∙ go n
   where
     go : (n : Node) → summary_several (node_summary n) ≡ has_several (Some n)
-    go (tree.alias name) = sym (le-ltb 1 0 (omega arith))
-    go (tree.scalar a kind text) = sym (le-ltb 1 0 (omega arith))
     go (tree.list a cs) = refl
     go (tree.map a cs) = refl
+    go _ = sym (le-ltb 1 0 (omega arith))
 
 pub none_agrees : (o : Option Node) → None ≡ option_map node_summary o → false ≡ has_several o
 none_agrees None e = refl
 none_agrees (Some n) e = absurd (cc)
-
-pub steps_above : {A : Type 0} (f : A → Step) (xs : List A) (n : ℕ) → n ≡ length xs - 1 → map f (take n xs) ≡ take (length (map f xs) - 1) (map f xs)
-steps_above f xs n e = sym (take-map f n xs) ∙ ap (λ (k : ℕ). take k (map f xs)) (omega (arith, e, length-map xs f))

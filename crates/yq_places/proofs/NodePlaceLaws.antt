@@ -4,7 +4,7 @@ use Rattle.std.{proofs.Common.{refl, sym, ap, ◌∙◌, arith}, proofs.lemmas.B
 use Rattle.std.specs.Prelude.{is_some}
 use Rattle.yq_core.{specs.Answers.◌>>=◌, specs.Paths.{Step, node_at}, specs.Tree.{Node, child}}
 use Rattle.yq_outline.{specs.Ends.{line_at_steps, lines_end, part}, specs.Group.{group, level_or, is_fine}}
-use Rattle.yq_outline.specs.Outline.{LineMark, Bare, Key, Dash, Line, level, Outline, end, row, IsEven, IsWhole, anchored, head_or, label}
+use Rattle.yq_outline.specs.Outline.{LineMark, Bare, Line, level, Outline, end, row, IsEven, IsWhole, anchored, head_or, label}
 use Rattle.yq_outline.{specs.Outline.{outline_node, shaped, children, value}, specs.Places.{lines_before, FoundLine, content_under, find}}
 use Rattle.yq_outline.{specs.Positions.{has_no_mark, begins_with_node}, proofs.Decides.even_from}
 use Rattle.yq_outline.{proofs.Finding.{FoundNode, node-anchored, path_node}, proofs.NameLaws.part-all}
@@ -18,9 +18,7 @@ use Rattle.yq_core.specs.Tree as tree
 -- an anchor tells nothing of what a node is
 anchored_summary : (a : Option (List ℕ)) (n : Node) → node_summary (anchored a n) ≡ node_summary n
 anchored_summary a (tree.alias n) = refl
-anchored_summary a (tree.scalar b k t) = refl
-anchored_summary a (tree.list b cs) = refl
-anchored_summary a (tree.map b cs) = refl
+anchored_summary a _ = refl
 
 -- the node that lines mean
 lines_view : (ls : List Line) (n floor m : ℕ) (o : Outline) → part ls n floor ≡ o → IsEven m o → Some (node_summary (value o)) ≡ place_node ls (at_lines n floor) []
@@ -31,8 +29,7 @@ lines_view ls n floor m (row l u a) e even =
     bare : (k : LineMark) (h : Option Node) → k ≡ Bare → IsWhole k h a → Some (node_summary (outline_node k (child (label l) (anchored l.anchor (head_or h (shaped u (children u)))) (children a)))) ≡ summary_in_head [] h
     bare Bare (Some h) is whole = ap Some (anchored_summary l.anchor h)
     bare Bare None is whole = absurd whole
-    bare (Key k) h is whole = absurd (cc)
-    bare Dash h is whole = absurd (cc)
+    bare _ h is whole = absurd (cc)
 
     go : (b : Bool) → has_no_mark l.mark ≡ b → Some (node_summary (value (row l u a))) ≡ line_or (cond b (Some n) None) (summary_in_line ls []) (Some (node_summary (value (row l u a))))
     go false is = refl
@@ -56,11 +53,7 @@ node_found ls (s ∷ ss) fine = ap (option_map node_summary) (path_node s ss (gr
     line f [] is there under =
         let even = (found_place ls s ss [] f is fine).1.3 in
         own f f.line.head refl there under (even.0, even.2)
-    line f (t ∷ ts) is there under =
-        let head = head_there ls s ss t ts f is fine in
-        ap (λ o. option_map node_summary (node_at (t ∷ ts) (anchored f.line.anchor (head_or o (value f.under))))) head.1
-        ∙ (ap (option_map node_summary) (node-anchored f.line.anchor t ts head.0)
-        ∙ (ap (summary_in_head (t ∷ ts)) (sym head.1) ∙ sym (ap (λ (o : Option Line). o >>= λ l. summary_in_head (t ∷ ts) l.head) there)))
+    line f (t ∷ ts) is there under = search (rules, head_there, is, f.line.anchor, node-anchored, there)
 
     go : (r : Option (FoundLine × List Step)) → find s ss (group ls) ≡ r → option_map node_summary (FoundNode r) ≡
         ((option_map numbered r >>= λ x. line_with_steps x.0 x.1 (slice_get ls x.0)) >>= λ x. place_node ls x.0 x.1)

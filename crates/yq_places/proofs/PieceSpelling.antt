@@ -143,10 +143,9 @@ part_spells s parts.Entry (t ∷ ts) e f x h head even is =
     let y = map_some (flow_at (t ∷ ts) k.0) k.2 in
     let at = head_item_at s t ts e f head.0 k.0 y.0 h head.1 k.1 y.1 in
     search (rules, y, at)
-part_spells s parts.HeadComment [] e f x h head even is = (_, refl, tt)
 part_spells s parts.HeadComment (t ∷ ts) e f x h head even is = absurd (none-some _ is)
-part_spells s parts.LineComment [] e f x h head even is = (_, refl, tt)
 part_spells s parts.LineComment (t ∷ ts) e f x h head even is = absurd (none-some _ is)
+part_spells s _ [] e f x h head even is = (_, refl, tt)
 
 -- a document
 steps_spell : (part : WhichPart) (y : Step) (ys : List Step) (s : PrintedDocument) (x : TextPiece) → ArePrinted s.lines s.after → is_fine (group (map line_in s.lines)) ≡ true →

@@ -81,15 +81,10 @@ module _ (t : List ℕ) (s : RowsView) (e : RowsOfEntry) (row end : ℕ) (h : Ha
       ∙ sym (append_assoc e.start (rows_text e.front []) (print_row e.row []))
 
   pub alone_is : is_alone h.first ≡ true → alone (lone (before_entry (next_entry e h.first h.others)) h.first (rows_text h.others (after_entry e))) ≡ below e e.under
-  alone_is a =
-      ap (λ (x : List ℕ). alone (lone x h.first (rows_text h.others (after_entry e)))) before_is
-      ∙ (sym (cond-true (is_alone h.first) (alone (lone (before_entry e ++ print_row e.row []) h.first (rows_text h.others (after_entry e)))) (under (held e) h.first.column) a)
-      ∙ ap (below e) (sym h.under_is))
+  alone_is a = search (rules, before_is, cond-true, a, h.under_is)
 
   pub under_is : is_alone h.first ≡ false → under (held e) h.first.column ≡ below e e.under
-  under_is a =
-      sym (cond-false (is_alone h.first) (alone (lone (before_entry e ++ print_row e.row []) h.first (rows_text h.others (after_entry e)))) (under (held e) h.first.column) a)
-      ∙ ap (below e) (sym h.under_is)
+  under_is a = search (rules, cond-false, a, h.under_is)
 
 -- ---- by the row's content
 

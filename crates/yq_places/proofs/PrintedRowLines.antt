@@ -105,9 +105,7 @@ printed_line (r ∷ rs) n q e = go (cases_lt (length r.dashes) n) (λ p h. print
         search (rules, get_after, take-append-add, lines_append, row_is, at)
 
     go : (length r.dashes < n) ⊎ (n ≤ length r.dashes) → ((p : RowLine) → row_line (n - suc (length r.dashes)) rs ≡ Some p → IsPrintedLine rs (n - suc (length r.dashes)) p) → IsPrintedLine (r ∷ rs) n q
-    go (inl h) again =
-        let p = map_some (row_line (n - suc (length r.dashes)) rs) (sym (cond-true _ _ _ (lt-ltb (length r.dashes) n h)) ∙ e) in
-        subst (IsPrintedLine (r ∷ rs) n) p.2 (past h p.0 (again p.0 p.1))
+    go (inl h) again = search (rules, map_some, r.dashes, cond-true, lt-ltb, past)
     go (inr h) again = subst (IsPrintedLine (r ∷ rs) n) (same_Some _ _ (sym (cond-false _ _ _ (le-ltb (length r.dashes) n h)) ∙ e)) (here h)
 
 -- A document's rows in the text of a cut, after k others.

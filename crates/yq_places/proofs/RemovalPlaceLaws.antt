@@ -1,8 +1,7 @@
 -- What is taken out with an item or entry, by the pieces of rows.
-use Rattle.std.proofs.Common.{rules, ◌≡◌, ℕ, zero, suc, ◌+◌, ◌-◌, ◌<◌, ◌≤◌, eqb, ltb, List, [], ◌∷◌, ◌++◌, length, take, drop, Some, None}
+use Rattle.std.proofs.Common.{rules, ◌≡◌, ℕ, zero, suc, ◌+◌, ◌-◌, ◌<◌, ◌≤◌, ltb, List, [], ◌∷◌, ◌++◌, length, take, drop, Some, None}
 use Rattle.std.proofs.Common.{option_map, Bool, true, false, cond, refl, sym, ap, ◌∙◌, subst, arith, length-append, length-take-le}
-use Rattle.std.proofs.Math.Seq.{drop-append_seam, take-append_seam}
-use Rattle.std.proofs.lemmas.Bool.{cond-true, cond-false, eq-eqb, ne_eqb, eqb-true, ltb-true}
+use Rattle.std.{proofs.Math.Seq.{drop-append_seam, take-append_seam}, proofs.lemmas.Bool.{cond-false, ne_eqb, eqb-true, ltb-true}}
 use Rattle.std.{proofs.lemmas.List.{length-drop, take-append-drop}, proofs.lemmas.Option.{cond_some, same_Some}}
 use Rattle.std.{proofs.lemmas.Str.IsCharBoundary-at_seam, specs.List.slice_get, specs.Str.{IsUtf8, IsCharBoundary}}
 use Rattle.yq_core.{specs.Answers.◌>>=◌, specs.Paths.Step, specs.Text.{joined, text_lines}, proofs.Bools.bind_some}
@@ -96,10 +95,7 @@ pub record OwnLine (steps : List Step) (rs : List Row) (n : ℕ) (q : RowLine) :
   pub first : q.line ≡ 0
 
 own_is : (steps : List Step) (rs : List Row) (n : ℕ) (q : RowLine) → OwnLine steps rs n q → own_rows steps rs ≡ Some (in_three q.before (row_count (lines_end n (lines_of_rows rs) - n) (drop q.before rs)) rs)
-own_is steps rs n q h =
-    ap (λ o. o >>= λ n. row_line n rs >>= λ s. cond (eqb s.line 0) (Some (in_three s.before (row_count (lines_end n (lines_of_rows rs) - n) (drop s.before rs)) rs)) None) h.line
-    ∙ (ap (λ o. o >>= λ (s : RowLine). cond (eqb s.line 0) (Some (in_three s.before (row_count (lines_end n (lines_of_rows rs) - n) (drop s.before rs)) rs)) None) h.row
-    ∙ cond-true (eqb q.line 0) _ None (eq-eqb q.line 0 h.first))
+own_is steps rs n q h = search (rules, h.row, h.first)
 
 -- what is own is the rows, and there are some
 pub record OwnRowsAre (rs : List Row) (x : OwnRows) : Type 0 where

@@ -1,6 +1,6 @@
 -- What is taken out of a text with rows of a document, as the code counts it.
-use Rattle.std.proofs.Common.{◌≡◌, inl, inr, ℕ, zero, suc, ◌+◌, ◌-◌, ◌<◌, ◌≤◌, List, [], ◌∷◌, ◌++◌, length, length-append, take, drop}
-use Rattle.std.proofs.Common.{Option, Some, None, option_map, refl, sym, ap, ◌∙◌, subst, arith, append_assoc}
+use Rattle.std.proofs.Common.{rules, ◌≡◌, inl, inr, ℕ, zero, suc, ◌+◌, ◌-◌, ◌<◌, ◌≤◌, List, [], ◌∷◌, ◌++◌, length, length-append, take}
+use Rattle.std.proofs.Common.{drop, Option, Some, None, option_map, refl, sym, ap, ◌∙◌, subst, arith, append_assoc}
 use Rattle.std.{proofs.Math.Seq.{drop-append_seam, take-append_seam}, proofs.lemmas.Bool.false≢true}
 use Rattle.std.proofs.lemmas.Option.{slice_get_within, slice_get-map, none-some, same_Some}
 use Rattle.std.{proofs.lemmas.Str.{IsCharBoundary-start, IsUtf8-drop}, specs.List.slice_get, specs.Str.{IsUtf8, IsCharBoundary}}
@@ -247,21 +247,14 @@ taken_at t s n steps m cut is e =
     let d = placed_is n c p.0 p.1 in
     let own : own_rows steps d.0.part.rows ≡ Some x.0 = ap (λ (q : Part). own_rows steps q.rows) d.2 ∙ x.1 in
     let are_there = own_is_there steps d.0.part.rows x.0 own in
-    record {
-      part = d.0;
-      rows = x.0;
-      is = record { cut = cut; rows_view_is = is; document = n; placed = d.1; rows_are = are_there.rows_are; some = are_there.some; marks_are = sym x.2 };
-      place = ap (λ o. o >>= λ d. option_map (rows_out d) (own_rows steps d.part.rows)) d.1 ∙ ap (option_map (rows_out d.0)) own;
-    }
+    search (rules, x.0, is, are_there.rows_are, are_there.some, x.2, own)
 
 pub none_taken : (n : ℕ) (steps : List Step) (c : Cut) → None ≡ mark_counts n steps c → None ≡ removal_place n steps c
 none_taken n steps c e = go (placed_document n c) refl
   where
     rows : (d : PlacedPart) (o : Option OwnRows) → own_rows steps d.part.rows ≡ o → slice_get (document_parts c) n ≡ Some d.part → None ≡ option_map (rows_out d) o
     rows d None is there = refl
-    rows d (Some x) is there =
-        let some : mark_counts n steps c ≡ Some (marks (document_row n c) x) = ap (λ o. o >>= λ (p : Part). option_map (marks (document_row n c)) (own_rows steps p.rows)) there ∙ ap (option_map (marks (document_row n c))) is in
-        absurd (none-some _ (e ∙ some))
+    rows d (Some x) is there = search (rules, there, is, none-some)
 
     go : (o : Option PlacedPart) → placed_document n c ≡ o → None ≡ (o >>= λ d. option_map (rows_out d) (own_rows steps d.part.rows))
     go None is = refl

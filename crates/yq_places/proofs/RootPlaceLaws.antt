@@ -1,6 +1,6 @@
 -- Where a document ends in which no rows are, as the code counts it.
-use Rattle.std.proofs.Common.{rules, ◌≡◌, ℕ, zero, suc, ◌+◌, List, [], ◌++◌, length, map, take, drop, Option, Some, None, option_map, true}
-use Rattle.std.proofs.Common.{refl, sym, ap, ◌∙◌, subst, arith, append_assoc, append-nil, length-append}
+use Rattle.std.proofs.Common.{rules, ◌≡◌, ℕ, zero, suc, ◌+◌, List, [], ◌++◌, length, map, take, drop, Some, None, true, refl, sym, ap, ◌∙◌}
+use Rattle.std.proofs.Common.{subst, arith, append_assoc, append-nil, length-append}
 use Rattle.std.proofs.Math.Seq.{drop-append_seam, take-append_seam, take-append-add}
 use Rattle.std.{proofs.lemmas.Bool.{false≢true, cond-true, cond-false}, proofs.lemmas.List.{length-map, map-append, nil_from_length}}
 use Rattle.std.{proofs.lemmas.List.Sums.{sum_by-cons, sum_by-append}, proofs.lemmas.Option.same_Some, specs.List.{slice_get, sum_by}}
@@ -10,7 +10,7 @@ use Rattle.yq_row_table.{specs.Grammar.{unlimited, AreRows, IsCut, no_rows}, spe
 use Rattle.yq_row_table.{specs.Rows.{Row, rows_text, Part, part_text, Cut, last, marked}, specs.Splices.nth_part}
 use Rattle.yq_row_table.{specs.View.{Slices, slices, Bound, bounds_from, bounds_of, rows_of, RowsView, rows_view}, specs.RowStarts.part_end}
 use Rattle.yq_outline.{specs.Extents.bound_length, proofs.LengthLaws.part-length}
-use Rattle.yq_documents.{specs.Pieces.TextPiece, specs.PartNumbers.{part_number, document_part, rows_to}}
+use Rattle.yq_documents.{specs.Pieces.TextPiece, specs.PartNumbers.{document_part, rows_to}}
 use Rattle.yq_documents.{proofs.PartNumberLaws.{document_found, document_missing, end_agrees}, specs.Reading.cut_of}
 use Rattle.yq_places.{specs.PlacedRows.{before_part, placed_at, placed_document}, specs.RootReading.{if_rowless, rowless_place, rowless_at}}
 use Rattle.yq_places.{proofs.CommentPieceLaws.gap_end, proofs.PlacedPartLaws.{map_some, part_is_there}}
@@ -24,10 +24,7 @@ rows_sum rows = sum_by row_length (map slices rows)
 
 -- the rows of a part, and some after it
 rows_first : (a b : List Row) (m : ℕ) → sum_by row_length (take (length a + m) (map slices (a ++ b))) ≡ rows_sum a + sum_by row_length (take m (map slices b))
-rows_first a b m =
-    ap (λ (l : List Slices). sum_by row_length (take (length a + m) l)) (map-append slices a b)
-    ∙ (ap (λ (k : ℕ). sum_by row_length (take (k + m) (map slices a ++ map slices b))) (sym (length-map a slices))
-    ∙ (ap (sum_by row_length) (take-append-add (map slices a) (map slices b) m) ∙ sum_by-append row_length (map slices a) (take m (map slices b))))
+rows_first a b m = search (rules, map-append, ← length-map, take-append-add, sum_by-append)
 
 no_sum : (ss : List Slices) → sum_by row_length (take 0 ss) ≡ 0
 no_sum ss = refl
@@ -69,9 +66,7 @@ module _ (s : RowsView) (c : Cut) (i k first : ℕ) (b : Bound) (is : s ≡ rows
   size = end_agrees k 0 c b at ∙ omega arith
 
   placed : rowless_place i c ≡ if_rowless (placed_at k c)
-  placed =
-      let d = document_found c i k number in
-      ap (λ (o : Option Part). option_map (λ (p : Part). placed_at (part_number i c) c) o >>= if_rowless) d.1 ∙ ap (λ j. if_rowless (placed_at j c)) (sym d.2)
+  placed = search (rules, document_found, number)
 
   pub written_none : (first ≡ b.rows → ⊥) → None ≡ rowless_at i c
   written_none some = search (rules, placed, cond-false, size)

@@ -1,6 +1,6 @@
 -- What is at roots, by the rows that the code has found.
-use Rattle.std.proofs.Common.{◌≡◌, ℕ, ◌+◌, true, false, cond, List, [], ◌∷◌, ◌++◌, length, replicate, Option, Some, None, option_map, refl}
-use Rattle.std.{proofs.Common.{sym, ap, ◌∙◌, subst, arith, append_assoc, append-nil}, proofs.lemmas.Bool.{cond-false, cond-true}}
+use Rattle.std.proofs.Common.{rules, ◌≡◌, ℕ, ◌+◌, true, false, cond, List, [], ◌∷◌, ◌++◌, length, replicate, Option, Some, None, option_map}
+use Rattle.std.{proofs.Common.{refl, sym, ap, ◌∙◌, subst, arith, append_assoc, append-nil}, proofs.lemmas.Bool.{cond-false, cond-true}}
 use Rattle.std.{proofs.lemmas.Option.{none-some, same_Some}, specs.List.slice_get, specs.Str.{IsUtf8, IsCharBoundary}}
 use Rattle.yq_core.specs.Answers.{◌>>=◌}
 use Rattle.yq_row_table.specs.Grammar.{IsCut, no_rows as has_none}
@@ -12,7 +12,7 @@ use Rattle.yq_places.{specs.RootReading.{if_rowless, rowless_at, rowless_place},
 use Rattle.yq_places.specs.Placements.{RowsOfEntry, alone, before_entry, after_entry, is_alone, lone, no_rows, root, root_lines}
 use Rattle.yq_places.{specs.Placements.{root_placement, placement_at}, specs.PlacementReading.{EndsRows, IsRootOf, root_entry}}
 use Rattle.yq_places.{proofs.EntryRowLaws.{first_at, pieces_at}, proofs.PlacedPartLaws.placed_is}
-use Rattle.yq_places.{proofs.PlacedRowLaws.{document_placed, part_of}, proofs.RowStarts.line_begins, proofs.SeamLaws.line_boundary}
+use Rattle.yq_places.{proofs.PlacedRowLaws.{document_placed, part_of}, proofs.StartLaws.line_begins, proofs.SeamLaws.line_boundary}
 use Rattle.yq_places.proofs.WalkDocuments.{Found}
 use Rattle.yq_outline.{specs.Extents.row_start, specs.declared.line_position.Stretch.Stretch, proofs.WalkRows.rows_length}
 
@@ -33,9 +33,7 @@ pub bare_is_there : (n : ℕ) (c : Cut) (w : TextPiece) → Some w ≡ rowless_p
 bare_is_there n c w e = go (placed_document n c) e
   where
     in_rows : (d : PlacedPart) (rs : List Row) → d.part.rows ≡ rs → Some w ≡ if_rowless d → Some (no_rows w) ≡ Some (root_placement d d.part.rows)
-    in_rows d [] is e =
-        let same : w ≡ unwritten d = same_Some _ _ (e ∙ ap (λ (x : List Row). cond (has_none x) (Some (unwritten d)) None) is) in
-        ap (λ (x : TextPiece). Some (no_rows x)) same ∙ ap (λ (x : List Row). Some (root_placement d x)) (sym is)
+    in_rows d [] is e = search (rules, same_Some, e, is)
     in_rows d (r ∷ rs) is e = absurd (none-some _ (sym (e ∙ ap (λ (x : List Row). cond (has_none x) (Some (unwritten d)) None) is)))
 
     go : (o : Option PlacedPart) → Some w ≡ (o >>= if_rowless) → Some (no_rows w) ≡ option_map (λ (d : PlacedPart). root_placement d d.part.rows) o
@@ -63,10 +61,7 @@ root_found t s n d cut is f none =
     go p.0 p.1 (ap (λ (q : Part). q.rows) p.2) p.0.part.rows refl
   where
     go : (x : PlacedPart) → placed_document n (cut_of t) ≡ Some x → x.part.rows ≡ f.part.rows → (rs : List Row) → x.part.rows ≡ rs → FoundRoot t s n d
-    go x placed same [] rows =
-        let some : rowless_place n (cut_of t) ≡ Some (unwritten x) =
-        ap (λ (o : Option PlacedPart). o >>= if_rowless) placed ∙ ap (λ (rs : List Row). cond (has_none rs) (Some (unwritten x)) None) rows in
-        absurd (none-some _ (none ∙ some))
+    go x placed same [] rows = search (rules, placed, rows, none-some)
     go x placed same (r ∷ rs) rows = record {
       is = record {
         part = x;
@@ -95,9 +90,7 @@ module _ (t : List ℕ) (s : RowsView) (d : Stretch) (h : IsRootOf t s d) where
   e = root_entry h.part h.row h.under
 
   pub root_alone : is_alone h.row ≡ true → alone (lone (before_entry e) h.row (rows_text h.under (after_entry e))) ≡ root_placement h.part (h.row ∷ h.under)
-  root_alone a =
-      ap (λ (x : List ℕ). alone (lone x h.row (rows_text h.under (h.part.part.end ++ h.part.after)))) (append-nil h.part.before)
-      ∙ sym (cond-true (is_alone h.row) (alone (lone h.part.before h.row (rows_text h.under (h.part.part.end ++ h.part.after)))) (root h.row.column (root_lines h.part h.row h.under)) a)
+  root_alone a = search (rules, append-nil, cond-true, a)
 
   pub root_block : is_alone h.row ≡ false → root h.row.column (root_lines h.part h.row h.under) ≡ root_placement h.part (h.row ∷ h.under)
   root_block a = sym (cond-false (is_alone h.row) (alone (lone h.part.before h.row (rows_text h.under (h.part.part.end ++ h.part.after)))) (root h.row.column (root_lines h.part h.row h.under)) a)
@@ -111,9 +104,7 @@ module _ (t : List ℕ) (s : RowsView) (d : Stretch) (h : IsRootOf t s d) where
     own = after_indent h.row (rows_text h.under [])
 
     pub through : before_entry e ++ print_row h.row (rows_text h.under []) ≡ before ++ own
-    through =
-        let parts : h.part.before ++ (h.row.gap ++ (replicate h.row.column 32 ++ own)) ≡ before ++ own = simp append_assoc refl in
-        ap (λ (x : List ℕ). x ++ print_row h.row (rows_text h.under [])) (append-nil h.part.before) ∙ parts
+    through = simp (append_assoc, append-nil) refl
 
     pub begins : start ≡ length (before_line d.first 0 h.row (cut_of t))
     begins = start_agrees (slices h.row) (pieces_at t s e d.first d.end h.is)

@@ -1,6 +1,6 @@
 -- The head of a row of a text with its cut, read again.
-use Rattle.std.proofs.Common.{◌≡◌, ℕ, zero, suc, ◌-◌, ◌<◌, ◌&&◌, Bool, true, List, [], ◌∷◌, ◌++◌, length, take, drop, Some, option_map}
-use Rattle.std.{proofs.Common.{refl, sym, ap, ◌∙◌, subst, append_assoc, append-nil}, proofs.Math.Seq.drop-append_seam}
+use Rattle.std.proofs.Common.{rules, ◌≡◌, ℕ, zero, suc, ◌-◌, ◌<◌, ◌&&◌, Bool, true, List, [], ◌∷◌, ◌++◌, length, take, drop, Some}
+use Rattle.std.{proofs.Common.{option_map, refl, sym, ap, ◌∙◌, subst, append_assoc, append-nil}, proofs.Math.Seq.drop-append_seam}
 use Rattle.std.{proofs.lemmas.Bool.{and_parts, or_right}, proofs.lemmas.List.{length-take-le, take-append-drop}}
 use Rattle.std.{proofs.lemmas.Option.{slice_get_within, slice_get-map, same_Some}, specs.List.slice_get, specs.Str.{IsUtf8, IsCharBoundary}}
 use Rattle.yq_core.{specs.Block.{ends_block, keeps}, specs.declared.block_lines.TextIndent.TextIndent, specs.Text.{is_line, text_lines}}
@@ -22,9 +22,7 @@ slices_are c s i x r is there row = same_Some _ _ (sym there ∙ (ap (λ (y : Ro
 -- the keys in a row of a document are fit
 fit_in : (rs : List Row) (i : ℕ) (r : Row) → have_fit_keys rs ≡ true → slice_get rs i ≡ Some r → content_is_fit r.content ≡ true
 fit_in [] i r h e = absurd (cc)
-fit_in (x ∷ rs) zero r h e =
-    let all = and_parts (mark_is_fit x.mark) (content_is_fit x.content && have_fit_keys rs) h in
-    ap (λ (y : Row). content_is_fit y.content) (sym (same_Some _ _ e)) ∙ (and_parts (content_is_fit x.content) (have_fit_keys rs) all.1).0
+fit_in (x ∷ rs) zero r h e = search (rules, and_parts, x.mark, x.content, h, same_Some, e)
 fit_in (x ∷ rs) (suc i) r h e =
     let all = and_parts (mark_is_fit x.mark) (content_is_fit x.content && have_fit_keys rs) h in
     fit_in rs i r (and_parts (content_is_fit x.content) (have_fit_keys rs) all.1).1 e

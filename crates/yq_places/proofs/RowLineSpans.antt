@@ -10,8 +10,7 @@ use Rattle.yq_documents.{specs.Located.steps_of, specs.Pieces.{TextPiece, piece_
 use Rattle.yq_documents.specs.LinesInRows.{RowLine, one_row_later, document_row, has_room, line_has_room, row_line, row_line_at}
 use Rattle.yq_documents.{specs.LinesInRows.{row_line_has_room, row_line_of}, proofs.PartRows.part_begins}
 use Rattle.yq_outline.{proofs.RowLaws.before_mark, specs.declared.line_position.Position.Position}
-use Rattle.yq_outline.{specs.Extents.{lines_before_mark, row_start}, specs.Lines.lines_of_rows, specs.Ends.line_at_steps}
-use Rattle.yq_outline.{proofs.KnownLaws.{get_dropped, get_front}, proofs.Values.If}
+use Rattle.yq_outline.{specs.Extents.{lines_before_mark, row_start}, proofs.KnownLaws.{get_dropped, get_front}, proofs.Values.If}
 use Rattle.yq_places.{specs.RowWalk.HasCut, specs.RowLineReading.position_in}
 
 -- the row of a line
@@ -34,9 +33,7 @@ document_row_line : (path : Path) (c : Cut) (o : Option Part) (s : RowLine) → 
 document_row_line path c None s is e = absurd (cc)
 document_row_line path c (Some p) s is e =
     let b = part_begins c path.doc p is in
-    sym (get_dropped (rows_of c) (document_row path.doc c) s.before)
-    ∙ (ap (λ (rs : List Row). slice_get rs s.before) b.1
-    ∙ get_front p.rows b.0 s.before s.row (steps_row (line_at_steps (steps_of path) (lines_of_rows p.rows)) p.rows s e))
+    search (rules, ← get_dropped, b.1, get_front, steps_row, e)
 
 pub path_row : (path : Path) (c : Cut) (s : RowLine) → row_line_at path c ≡ Some s → slice_get (rows_of c) (document_row path.doc c + s.before) ≡ Some s.row
 path_row path c s e = document_row_line path c (slice_get (document_parts c) path.doc) s refl e

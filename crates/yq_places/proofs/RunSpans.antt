@@ -70,9 +70,8 @@ dashes_then (n ∷ ns) t = ap (λ l. 45 ∷ l) (ap (λ l. replicate n 32 ++ l) (
 
 take_all : (ns : List ℕ) (k : ℕ) → k ≡ length ns → take k ns ≡ ns
 take_all [] zero e = refl
-take_all [] (suc k) e = absurd (omega (arith, e))
-take_all (n ∷ ns) zero e = absurd (omega (arith, e))
 take_all (n ∷ ns) (suc k) e = ap (λ l. n ∷ l) (take_all ns k (omega (arith, e)))
+take_all _ _ e = absurd (omega (arith, e))
 
 -- a row's front, where the line in a row line is the last of its row
 pub front_is : (q : RowLine) → q.line ≡ length q.row.dashes → row_front q.row ≡ row_begin q ++ mark_text q.row.mark []

@@ -55,9 +55,8 @@ row_ended limit r rest h =
 
 -- the ends of rows, one after the other
 rows_split : (i : ℕ) (rows : List Row) (rest : List ℕ) → rows_text rows rest ≡ rows_text (take i rows) [] ++ rows_text (drop i rows) rest
-rows_split zero rows rest = refl
-rows_split (suc i) [] rest = refl
 rows_split (suc i) (r ∷ rs) rest = ap (print_row r) (rows_split i rs rest) ∙ row_then r (rows_text (take i rs) []) (rows_text (drop i rs) rest)
+rows_split _ _ rest = refl
 
 rows_seam : (rows : List Row) (i : ℕ) (limit : Limit) (end rest : List ℕ) → AreRows limit rows end rest → IsSeam (rows_text (take i rows) []) (rows_text (drop i rows) (end ++ rest))
 rows_seam rows zero limit end rest h = inl refl

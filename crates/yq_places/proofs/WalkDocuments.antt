@@ -82,6 +82,4 @@ pub row_line_reached : (s : RowsView) (d : Stretch) (h : HasRows s d) (steps : L
 row_line_reached s d h steps None at e = ap (λ (o : Option ℕ). option_map (position_in d.first) (o >>= λ n. row_line n h.rows)) e
 row_line_reached s d h steps (Some q) at e =
     let k = located s d h q at in
-    let row : q.row ≡ d.first + (q.row - d.first) = omega (arith, at.from) in
-    ap (λ (i : ℕ). Some (record q { row = i })) row
-    ∙ ap (option_map (position_in d.first)) (sym (ap (λ (o : Option ℕ). o >>= λ n. row_line n h.rows) (sym e) ∙ row_line_number h.rows (q.row - d.first) q.line k.row k.there k.within))
+    search (rules, row_line_number)

@@ -8,7 +8,7 @@ use Rattle.yq_outline.{specs.declared.line_position.Position.Position, specs.dec
 use Rattle.yq_outline.{proofs.WalkEnds.lines_upto, proofs.WalkPositions.{located, position_line}}
 use Rattle.yq_documents.specs.LinesInRows.{RowLine, row_line}
 use Rattle.yq_places.{specs.EntryReading.{before_line, through_row, lines_place, line_begin}, specs.RowWalk.InCut}
-use Rattle.yq_places.{proofs.RowStarts.line_begins, proofs.WalkDocuments.row_line_number, proofs.WalkNodes.{row_line_is, row_in_cut}}
+use Rattle.yq_places.{proofs.StartLaws.line_begins, proofs.WalkDocuments.row_line_number, proofs.WalkNodes.{row_in_cut, row_line_is}}
 
 -- the line before the first one of a row is the last one of the row before
 module _ (s : RowsView) (d : Stretch) (h : HasRows s d) (q : Position) where

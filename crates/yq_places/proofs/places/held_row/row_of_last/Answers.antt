@@ -1,19 +1,11 @@
-use Rattle.std.proofs.Common.{◌+◌, refl, ◌∙◌, arith}
+use Rattle.std.proofs.Common.{◌+◌, refl, ◌∙◌, rules}
 use Rattle.yq_row_table.specs.View.{row_view}
 use Rattle.yq_outline.proofs.LengthLaws.{row_fits, view_small}
 use Rattle.yq_places.proofs.HeldRowLaws.{last_of}
 use Rattle.yq_places.proofs.places.held_row.row_of_last.Goals as goal
 
 pub overflow_add-result : goal.overflow_add-result
-overflow_add-result c =
-    let f = row_fits c.args.rows.now c.args.at.row (row_view c.row-row.result) c.row-row.ensures in
-    omega (
-      arith,
-      f,
-      view_small c.args.rows.now c.requires.rows_view,
-      c.start.ensures,
-      c.before_head.ensures (row_view c.row-row.result) c.row-row.ensures,
-    )
+overflow_add-result c = search (rules, row_fits, view_small, c.before_head.ensures)
 
 pub returns : goal.returns
 returns c = λ d is r there.

@@ -1,15 +1,9 @@
-use Rattle.std.{proofs.Common.{sym, ap, eqb, map, ◌∙◌}, proofs.lemmas.List.length-map}
-use Rattle.yq_core.specs.Entries.{tree_step}
-use Rattle.yq_outline.specs.View.{content_view}
+use Rattle.std.{proofs.Common.{◌∙◌, rules}, proofs.lemmas.List.length-map}
 use Rattle.yq_places.proofs.NodeAtLaws.{scalar_steps, scalar_there}
 use Rattle.yq_places.proofs.places.node_at.head_node.Goals as goal
 
 pub returns-then-not-is_empty : goal.returns-then-not-is_empty
-returns-then-not-is_empty c =
-    rw c.in-Scalar.is
-    (scalar_steps (map tree_step c.args.steps.now) c.in-Scalar.kind (content_view c.in-Scalar.text) (c.if-not-is_empty.ensures ∙ sym (ap (λ n. eqb n 0) (length-map c.args.steps.now tree_step))))
+returns-then-not-is_empty c = search (rules, c.in-Scalar.is, scalar_steps, c.in-Scalar.kind, c.if-not-is_empty.ensures, length-map)
 
 pub returns-else-not-is_empty : goal.returns-else-not-is_empty
-returns-else-not-is_empty c =
-    rw c.in-Scalar.is
-    (scalar_there (map tree_step c.args.steps.now) c.in-Scalar.kind (content_view c.in-Scalar.text) (c.if-not-is_empty.ensures ∙ sym (ap (λ n. eqb n 0) (length-map c.args.steps.now tree_step))))
+returns-else-not-is_empty c = search (rules, c.in-Scalar.is, scalar_there, c.in-Scalar.kind, c.if-not-is_empty.ensures, length-map)
