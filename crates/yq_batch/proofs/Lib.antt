@@ -27,7 +27,6 @@ pub mod LonePutLaws
 pub mod RowCommentLaws
 pub mod RowBreakLaws
 pub mod RowHeadLaws
-pub mod UptoLaws
 pub mod OwnRowsStay
 pub mod EntryRemains
 pub mod OthersFollow

@@ -9,8 +9,8 @@ use Rattle.yq_outline.{specs.Lines.{row_lines, lines_of_rows}, specs.Outline.{Li
 use Rattle.yq_outline.proofs.RowLaws.{lines_count}
 use Rattle.yq_documents.specs.LinesInRows.{RowLine, one_row_later, row_line}
 use Rattle.yq_places.{specs.RemovalPlaces.{OwnRows, in_three, own_rows, row_count}, proofs.UnderExchange.lines_append}
+use Rattle.yq_places.proofs.UptoLaws.{line_stays}
 use Rattle.yq_edit_rules.{specs.LineRows.Begins, proofs.OwnRowLaws.count_rows}
-use Rattle.yq_batch.proofs.UptoLaws.{line_stays}
 
 -- ---- lines
 

@@ -17,13 +17,13 @@ use Rattle.yq_places.{specs.CommentPlaces.text_to_line_end, specs.PlacedRows.{Pl
 use Rattle.yq_places.specs.RowPieces.{anchor_before, space_before}
 use Rattle.yq_places.specs.Placements.{RowsOfEntry, before_entry, entry_rows_at, held, rows_of_entry}
 use Rattle.yq_places.{proofs.CommentEndLaws.row_text_parts, proofs.PlacedPartLaws.map_some, proofs.RemovalTexts.texts_then}
-use Rattle.yq_places.{proofs.RowLineSpans.steps_row, proofs.UnderExchange.lines_append}
+use Rattle.yq_places.{proofs.RowLineSpans.steps_row, proofs.UnderExchange.lines_append, proofs.UptoLaws.line_stays}
 use Rattle.yq_edit_rules.{specs.Appends.inserted, specs.Changed.{KeepsRows, put_document}, specs.DocumentRows.after_document}
 use Rattle.yq_edit_rules.{specs.Rooms.row_shape, specs.RowStays.StaysFrom, specs.PlacementLaws.HasItsRows, proofs.HeldLaws.front_is}
 use Rattle.yq_edit_rules.{proofs.ChangedLaws.{document_put, nth_changed}, proofs.CommentRowLaws.rows_front}
 use Rattle.yq_edit_rules.{proofs.PlacedPartLaws.document_is_there_at, proofs.RowStayLaws.rows_stay_there, proofs.PlacementRows.rows_located}
 use Rattle.yq_batch.{specs.OpenRows.head_front, proofs.OwnRowsStay.row_size, proofs.RowsBeforeOffset.split_front}
-use Rattle.yq_batch.{proofs.RowsTakenOn.placed_put, proofs.UptoLaws.line_stays}
+use Rattle.yq_batch.proofs.RowsTakenOn.{placed_put}
 
 -- ---- the text in front
 

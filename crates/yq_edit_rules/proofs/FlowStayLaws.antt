@@ -16,12 +16,13 @@ use Rattle.yq_places.specs.FlowNodes.{bare_line, content_flow, find_head, flow_c
 use Rattle.yq_places.{specs.FlowViews.LeadsToHead, specs.NodeReading.head_line_of, proofs.FlowNodeLaws.{collection_is, rows_collection}}
 use Rattle.yq_places.{proofs.FlowViewLaws.{head_found, numbered}, proofs.RemovalLines.front_some, proofs.WalkDocuments.row_line_number}
 use Rattle.yq_places.proofs.RemovalViewLaws.{slice_seam}
+use Rattle.yq_places.proofs.StrippedLines.{before_strip, find_strip, group_strip, head_strip, strip_found, strip_outline, strip_pair}
+use Rattle.yq_places.proofs.StrippedLines.{compose_strip, stripped}
 use Rattle.yq_edit_rules.{specs.Changed.{put_document, put_part}, specs.DocumentRows.after_document}
 use Rattle.yq_edit_rules.{specs.FlowRows.{FlowAt, InlineRow, text_after_node, with_node}, specs.Rooms.row_shape}
 use Rattle.yq_edit_rules.{proofs.ChangedLaws.{document_put, first_stays, nth_changed}, proofs.FlowKeptLaws.one_other}
 use Rattle.yq_edit_rules.{proofs.FlowPathLaws.{InCut, row_in_cut}, proofs.FlowRowLaws.node_holds}
-use Rattle.yq_edit_rules.proofs.ShapeLaws.{before_strip, find_strip, group_strip, head_strip, rows_strip, strip_found, strip_outline}
-use Rattle.yq_edit_rules.proofs.ShapeLaws.{strip_pair, compose_strip, shapes_lines, stripped}
+use Rattle.yq_edit_rules.proofs.ShapeLaws.{rows_strip, shapes_lines}
 
 -- ---- among lines
 

@@ -1,5 +1,5 @@
 -- Reading (own; a reader may skip it): what is known of a text, from which walks and searches go on.
-use Rattle.std.{specs.Prelude.{ℕ, true, false, IfSome, List, Option, Some, Vec}, specs.declared.alloc.Global.Global}
+use Rattle.std.{specs.Prelude.{◌<◌, ℕ, true, false, IfSome, List, Option, Some, Vec}, specs.declared.alloc.Global.Global}
 use Rattle.yq_row_table.{specs.Rows.Cut, specs.Touched.TouchesOnly, specs.View.{RowsView, Slices, rows_view}}
 use Rattle.yq_outline.{specs.RowWalk.AreKnown, specs.declared.line_position.KnownItem.KnownItem}
 use Rattle.yq_places.{specs.StepReading.IsSearched, specs.declared.places.way.Way.Way}
@@ -19,6 +19,14 @@ SearchesStay front c k = (new : Cut) (back : ℕ) → TouchesOnly front back c n
 abbrev pub IsLineKept : RowsView → LineAbove → Type 0
 IsLineKept s k = ArriveAt s k.document k.steps.items (Some k.at)
 
+-- A line that is kept is known by what is in front: steps lead to it, wherever the document ends that begins so.
+abbrev pub IsFrontLine : RowsView → LineAbove → Type 0
+IsFrontLine s k = (end : ℕ) → k.at.row < end → ArriveAt s (record { first = k.document.first; end = end }) k.steps.items (Some k.at)
+
+-- It is so in each text in which the items of a cut stay that end in front of so many bytes.
+abbrev pub StaysFront : ℕ → Cut → LineAbove → Type 0
+StaysFront front c k = (new : Cut) (back : ℕ) → TouchesOnly front back c new → IsFrontLine (rows_view new) k
+
 -- The lines on the way of a path are known.
 abbrev pub IsWay : RowsView → Way → Type 0
 IsWay s way = IfSome way.line (IsKnownLine s) × IfSome way.above (IsLineAbove s)
@@ -32,6 +40,7 @@ pub record IsKnowledge (s : RowsView) (k : Knowledge) : Type 0 where
   pub items : AreKnown s.rows k.items.items
   pub documents : AreKnownDocuments s.bounds k.documents
   pub steps : AreSearches s.rows k.steps
+  pub above : IfSome k.above (IsFrontLine s)
 
 -- It stays known in each text in which the items of a cut stay that end in front of so many bytes.
 abbrev pub KnowledgeStays : ℕ → Cut → Knowledge → Type 0

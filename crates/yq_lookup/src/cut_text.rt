@@ -11,7 +11,7 @@ ghost use Rattle.yq_lookup.specs.KnownDocuments.{AreKnownDocuments, HasDocumentR
 
 use crate::knowledge::{Knowledge, StepSearches};
 use crate::known_document::{KnownDocuments, find_document, is_last};
-use crate::line_above::LineAbove;
+use crate::line_above::{LineAbove, line_in_part};
 use std::alloc::Global;
 use std::marker::Model;
 use std::mem;
@@ -101,15 +101,19 @@ impl<'d, 't> CutText<'d, 't> {
             items,
             documents,
             steps,
+            above,
+            part,
+            parent,
         } = known;
+        let above = line_in_part(rows, above, part);
         CutText {
             text,
             rows,
             source: None,
             known: Some(items),
             way: Way::none(),
-            above: None,
-            parent: None,
+            above,
+            parent,
             documents,
             document: None,
             steps,
@@ -271,6 +275,13 @@ impl<'d, 't> CutText<'d, 't> {
             return None;
         }
         Some(rows)
+    }
+
+    /// The rows of the document that was looked for last, with its number.
+    pub(crate) fn last_document(&self) -> Option<(usize, Stretch)>
+        ensures { HasDocumentRows result self.now }
+    {
+        self.document
     }
 
     /// The documents that are known.

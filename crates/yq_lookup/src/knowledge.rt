@@ -6,8 +6,9 @@ ghost use Rattle.yq_places.specs.StepReading.{IsSearched};
 ghost use Rattle.yq_lookup.specs.Knowledge.{AreSearches, IsKnowledge, SearchesStay};
 
 use crate::known_document::KnownDocuments;
+use crate::line_above::LineAbove;
 use std::alloc::Global;
-use yq_outline::KnownItem;
+use yq_outline::{KnownItem, Position};
 use yq_places::{StepSearch, searched_before};
 use yq_row_table::Rows;
 
@@ -19,12 +20,18 @@ pub struct StepSearches {
 }
 
 /// What is known of a text: of each collection on the way of a path the item or entry, documents by the
-/// numbers of their parts, and how far steps were searched.
+/// numbers of their parts, how far steps were searched, and a line to which steps lead.
 #[derive(Drop)]
 pub struct Knowledge {
     pub items: Vec<KnownItem>,
     pub documents: KnownDocuments,
     pub steps: StepSearches,
+    /// A line to which steps lead, wherever its document ends.
+    pub(crate) above: Option<LineAbove>,
+    /// How many parts come before that document.
+    pub(crate) part: usize,
+    /// Where the line above the last path was.
+    pub(crate) parent: Option<Position>,
 }
 
 impl StepSearches {
@@ -59,6 +66,9 @@ impl Knowledge {
             items: Vec::new(alloc),
             documents: KnownDocuments::none(),
             steps: StepSearches::none(),
+            above: None,
+            part: 0,
+            parent: None,
         }
     }
 }

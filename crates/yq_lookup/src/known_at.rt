@@ -151,12 +151,17 @@ impl<'d, 't> CutText<'d, 't> {
     {
         let documents = self.documents_before(front);
         let steps = self.steps_before(front);
+        let part = self.last_part();
+        let above = self.above_before(alloc, front);
         let mut items = self.take_items(alloc);
         self.items_before_offset(&mut items, front);
         Knowledge {
             items,
             documents,
             steps,
+            above,
+            part,
+            parent: self.parent,
         }
     }
 
@@ -180,6 +185,14 @@ impl<'d, 't> CutText<'d, 't> {
         KnownDocuments {
             last: document_before(rows, known.last, front),
             before: document_before(rows, known.before, front),
+        }
+    }
+
+    /// How many parts come before that of the document that was looked for last, if that is known.
+    fn last_part(&self) -> usize {
+        match self.documents.last {
+            Some(known) => known.part,
+            None => usize::MAX,
         }
     }
 

@@ -1,14 +1,17 @@
 //! The line to which the steps before the last one of a path lead: walks along paths next to it go on from there.
 ghost use Rattle.std.specs.Prelude.{◌≡◌, IfOk, IfSome};
 ghost use Rattle.yq_documents.specs.Reading.{cut_of};
-ghost use Rattle.yq_row_table.specs.View.{RowsView, rows_view};
+ghost use Rattle.yq_row_table.{specs.Rows.Cut, specs.View.{RowsView, rows_view}};
 ghost use Rattle.yq_row_walk.specs.Walk.{IsLineAbove};
-ghost use Rattle.yq_lookup.specs.Knowledge.{IsLineKept};
+ghost use Rattle.yq_outline.specs.RowWalk.{HasDocument};
+ghost use Rattle.yq_lookup.specs.Knowledge.{IsLineKept, IsFrontLine, StaysFront};
 
 use crate::cut_text::CutText;
 use std::alloc::{AllocError, Global};
+use std::mem;
 use yq_core::{Step, copied_steps};
 use yq_outline::{Position, Stretch};
+use yq_row_table::Rows;
 use yq_row_walk::KnownLine;
 
 /// A line to which steps of a document lead.
@@ -33,6 +36,59 @@ fn is_as_deep(kept: &Option<LineAbove>, line: KnownLine<'_>) -> bool {
         Some(there) => there.steps.len() == line.steps.len(),
         None => false,
     }
+}
+
+/// A line that is kept, in each text that keeps so many bytes in front: where its document is this one, and the row
+/// after its own begins in front of them.
+fn line_before(
+    rows: &Rows<'_>,
+    document: Stretch,
+    kept: LineAbove,
+    front: usize,
+) -> Option<LineAbove>
+    requires document { HasDocument rows.now document }
+    requires kept { IsLineKept rows.now kept }
+    ensures { IfSome result (λ k. (c : Cut) → rows.now ≡ rows_view c → StaysFront front c k) }
+{
+    if kept.document.first != document.first || kept.document.end != document.end {
+        return None;
+    }
+    let next = kept.at.row.checked_add(1)?;
+    if next >= rows.len() || rows.start(next) >= front {
+        return None;
+    }
+    Some(kept)
+}
+
+/// A line to which steps lead, wherever its document ends: it ends with a part, if the line comes before that.
+pub(crate) fn line_in_part(
+    rows: &Rows<'_>,
+    line: Option<LineAbove>,
+    part: usize,
+) -> Option<LineAbove>
+    requires { IfSome line (IsFrontLine rows.now) }
+    ensures { IfSome result (IsLineKept rows.now) }
+{
+    let LineAbove {
+        document,
+        steps,
+        at,
+    } = line?;
+    if part >= rows.parts() {
+        return None;
+    }
+    let end = rows.part(part).rows;
+    if at.row >= end {
+        return None;
+    }
+    Some(LineAbove {
+        document: Stretch {
+            first: document.first,
+            end,
+        },
+        steps,
+        at,
+    })
 }
 
 impl LineAbove {
@@ -89,6 +145,21 @@ impl CutText<'_, '_> {
         self.above = Some(above);
     }
 
+    /// The same, unless it is kept already. It isn't kept where memory runs out.
+    fn keep_line(&mut self, alloc: Global, line: KnownLine<'_>)
+        requires { IsLineAbove (rows_view (cut_of self.old)) line }
+        ensures { self.new ≡ self.old }
+    {
+        if let Some(there) = &self.above
+            && is_at(Some(there.at), line.at)
+        {
+            return;
+        }
+        if let Ok(kept) = LineAbove::of(alloc, line) {
+            self.put_above(kept);
+        }
+    }
+
     /// From now on walks go on from the line to which the steps before the last one of a path lead, if those of
     /// the path before it led there too, or the line that is kept is as deep.
     pub(crate) fn keep_above(&mut self, alloc: Global, above: Option<KnownLine<'_>>)
@@ -102,13 +173,39 @@ impl CutText<'_, '_> {
             self.parent = Some(line.at);
             return;
         }
-        if let Some(there) = &self.above
-            && is_at(Some(there.at), line.at)
-        {
+        self.keep_line(alloc, line);
+    }
+
+    /// The same of the last path, but only if those of the path before it led there too.
+    fn keep_parent(&mut self, alloc: Global)
+        ensures { self.new ≡ self.old }
+    {
+        let Some(line) = self.line_above() else {
+            return;
+        };
+        if !is_at(self.parent, line.at) {
+            self.parent = Some(line.at);
             return;
         }
-        if let Ok(kept) = LineAbove::of(alloc, line) {
-            self.put_above(kept);
-        }
+        self.keep_line(alloc, line);
+    }
+
+    /// Takes the line that is kept.
+    fn take_above(&mut self) -> Option<LineAbove>
+        ensures same { self.new ≡ self.old }
+        ensures kept { IfSome result (IsLineKept (rows_view (cut_of self.old))) }
+    {
+        mem::replace(&mut self.above, None)
+    }
+
+    /// Takes the line above the last path, if it is known in each text that keeps so many bytes in front.
+    pub(crate) fn above_before(&mut self, alloc: Global, front: usize) -> Option<LineAbove>
+        ensures same { self.new ≡ self.old }
+        ensures still { IfSome result (StaysFront front (cut_of self.old)) }
+    {
+        self.keep_parent(alloc);
+        let kept = self.take_above()?;
+        let (_, document) = self.last_document()?;
+        line_before(self.rows(), document, kept, front)
     }
 }

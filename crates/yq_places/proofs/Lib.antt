@@ -61,6 +61,9 @@ pub mod FlowNodeLaws
 pub mod DashLaws
 pub mod KnownEndLaws
 pub mod KnownFronts
+pub mod UptoLaws
+pub mod StrippedLines
+pub mod KeptLines
 mod HalvesLaws
 mod FirstBreakLaws
 pub mod EntryNumbers

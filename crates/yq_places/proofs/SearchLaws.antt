@@ -75,7 +75,7 @@ none_step : (dashes : Bool) (a : ℕ) (rs qs : List Row) → RowsAgree rs → No
 none_step dashes a [] qs t h = refl
 none_step dashes a (r ∷ rs) qs t h = search (rules, step_after, row_step, none_step dashes (end_level (slices r)) rs qs t.1 h.1)
 
-agree_front : (n : ℕ) (rs : List Row) → RowsAgree rs → RowsAgree (take n rs)
+pub agree_front : (n : ℕ) (rs : List Row) → RowsAgree rs → RowsAgree (take n rs)
 agree_front (suc n) (r ∷ rs) h = (h.0, agree_front n rs h.1)
 agree_front _ _ h = tt
 

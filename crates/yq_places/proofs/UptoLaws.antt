@@ -143,7 +143,7 @@ pub record PathThere (m : ℕ) (r : Option (FoundLine × List Step)) : Type 0 wh
   pub found : r ≡ Some (other, [])
   pub number : line_index other ≡ m
 
-and_then_some : {A B : Type 0} (f : A → Option B) (o : Option A) (y : B) → option_and_then f o ≡ Some y → (x : A) × (o ≡ Some x) × (f x ≡ Some y)
+pub and_then_some : {A B : Type 0} (f : A → Option B) (o : Option A) (y : B) → option_and_then f o ≡ Some y → (x : A) × (o ≡ Some x) × (f x ≡ Some y)
 and_then_some f None y e = absurd (none-some _ e)
 and_then_some f (Some x) y e = (x, refl, e)
 
