@@ -18,8 +18,7 @@ use Rattle.yq_edit_laws.specs.EditPlaces.{end_place, keyed_takes, moved_on, plac
 use Rattle.yq_edit_laws.specs.PartPuts.{AreMore, IsEditPlace, PutsMoreIn, more_edit, place_after}
 use Rattle.yq_edit_laws.{proofs.FlowAnswers.{CollFound, EditFound, edit_lies, edit_moved}, proofs.NeighbourPlaces.end_is_there}
 use Rattle.yq_edit_laws.proofs.PiecePlaces.{Front, all_is, at_front, front_coll, piece_found, place_found}
-use Rattle.yq_edit_laws.{proofs.FlowAppendLaws.{bounds, there}, proofs.FlowHeads.{append_found, appended_within, whole_is}}
-use Rattle.yq_edit_laws.proofs.FlowLonger.{appending_more}
+use Rattle.yq_edit_laws.{proofs.FlowAppendLaws.{bounds, there}, proofs.FlowHeads.{append_found, appended_within, whole_is, appending_more}}
 
 -- whether the collection takes it
 core_takes : (q : Placed) (key : Option (List ℕ)) → placed_takes (following_anchor q) key ≡ placed_takes q key
@@ -41,9 +40,7 @@ module _ (c : Cut) (n : ℕ) (steps : List Step) (key : Option (List ℕ)) (v : 
   edit = appending (flow_key key) (flow_of v)
 
   own_takes : placed_takes q key ≡ takes_key f.coll.close key
-  own_takes =
-      sym (core_takes q key)
-      ∙ (ap (λ (y : Placed). placed_takes y key) f.node ∙ (takes_is (length x.text.now) own key ∙ ap (λ (y : CollPieces). takes_key y.close key) (sym (whole_is (cut_text c) f.coll x f.agrees))))
+  own_takes = search (rules, core_takes, f.node, takes_is, whole_is, f.coll, f.agrees)
 
   pub more_apart : placed_takes q key ≡ false → (flow_collection n steps c >>= flow_more (cut_text c) key v) ≡ None
   more_apart takes =

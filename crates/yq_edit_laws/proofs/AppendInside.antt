@@ -1,14 +1,14 @@
 -- One item or entry more after a line that has a break.
 use Rattle.std.proofs.Common.{rules, ◌≡◌, ℕ, suc, ◌≤◌, true, false, List, [], ◌∷◌, ◌++◌, length, Option, Some, refl, sym, ap, ◌∙◌, subst}
-use Rattle.std.{proofs.Common.{append_assoc, append-nil}, proofs.lemmas.Bool.false≢true}
+use Rattle.std.{proofs.Common.{append_assoc, append-nil, Bool, inl}, proofs.lemmas.Bool.false≢true, proofs.lemmas.Option.same_Some}
 use Rattle.yq_core.{specs.BlockWritten.break_text, specs.Paths.{Step, append_child, changed_at, within}, specs.Tree.Node}
-use Rattle.yq_text.{specs.Limit.text_limit, specs.Script.{Segment, new_text}}
+use Rattle.yq_text.{specs.Limit.text_limit, specs.Script.{Segment, new_text, kept_back, kept_front, old_text}}
 use Rattle.yq_row_table.{specs.Exchange.asked_after, specs.Grammar.{unlimited, no_rows}, proofs.PlainEnds.AtLine}
 use Rattle.yq_row_table.{specs.Rows.{Row, rows_text, Part, Cut, cut_text}, specs.Seams.{ends_in_block, ends_in_line}}
 use Rattle.yq_row_table.{specs.Splices.{first_gap, after_first}, proofs.seams.SeamLaws.rows_text-append}
 use Rattle.yq_row_table.{proofs.splices.SpliceTexts.{own_gap, own_end, first_text}, specs.Items.rows_items}
-use Rattle.yq_places.{specs.CollectionEnds.{CollectionEnd, is_broken}, specs.RowPaths.IsReadable}
-use Rattle.yq_documents.{specs.Documents.lead_of, specs.Ready.begins_no_node, specs.Reading.read_at}
+use Rattle.yq_places.{specs.CollectionEnds.{CollectionEnd, is_broken}, specs.RowPaths.IsReadable, specs.Placements.{Held, LinesIn}}
+use Rattle.yq_documents.{specs.Documents.lead_of, specs.Ready.begins_no_node, specs.Reading.{read_at, documents}}
 use Rattle.yq_outline.{specs.Lines.{lines_from, lines_of_rows}, specs.Outline.label, specs.Places.content_under}
 use Rattle.yq_edit_rules.{specs.declared.layout.Layout.Layout, specs.Alone.singleton, specs.BlockRows.node_rows}
 use Rattle.yq_edit_rules.{proofs.BlockEndLaws.line_ends, proofs.TextLaws.value_spelled, specs.Appends.{TakesRows, inserted}}
@@ -16,11 +16,13 @@ use Rattle.yq_edit_rules.{specs.Changed.{IsChanged, put_document}, specs.Collect
 use Rattle.yq_edit_rules.{specs.DocumentRows.after_document, specs.Rooms.is_block_root, proofs.AppendLaws.block_appended}
 use Rattle.yq_edit_rules.{proofs.EndedRowLaws.rows_then, proofs.TextPieceLaws.pieces_joined, proofs.BlockLineLaws.break_uncommented}
 use Rattle.yq_edit_rules.{specs.Local.{IsLocal, IsLocalTo}, proofs.ItemsLocal.{first_nothing, last_nothing}}
-use Rattle.yq_edit_rules.{proofs.LocalLaws.{cut_known, rows_local}, specs.Layouts.layout_of, specs.EntryEdits.entry_lines}
+use Rattle.yq_edit_rules.{proofs.LocalLaws.{cut_known, rows_local}, specs.Layouts.layout_of, specs.EntryEdits.{entry_lines, after_held}}
 use Rattle.yq_edit_rules.{specs.ReadsAfter.ReadsAfter, proofs.CommentPieceLaws.break_piece, proofs.SegmentLaws.segments_readable}
 use Rattle.yq_edit_rules.proofs.AppendPlaces.{IsAppendPlace, put_segments, old_is, p, there, e, allows_there, kept_pieces, IsAsked, entry}
-use Rattle.yq_edit_rules.proofs.AppendPlaces.{written, new_rows_are, entry_piece, filled, finished}
-use Rattle.yq_semantics.specs.Operations.{append}
+use Rattle.yq_edit_rules.{proofs.AppendPlaces.{written, new_rows_are, entry_piece, filled, finished}, specs.ClosedTexts.closed_lines_put}
+use Rattle.yq_edit_rules.{specs.EditLaws.IsEdit, specs.Operands.HasOperand, specs.PiecePuts.after_lines, proofs.AppendAtEnd.end_both}
+use Rattle.yq_edit_rules.{proofs.DoneLaws.nth_map, proofs.EditsFitLaws.tree_unique}
+use Rattle.yq_semantics.{specs.Operations.append, specs.Fits.Fits, specs.Rooms.room_of}
 use Rattle.yq_outline.specs.Comments as comments
 
 last_closed : (others : List Row) (r : Row) → is_broken r.content ≡ true → ends_in_block (others ++ (r ∷ [])) ≡ false → ends_in_line (others ++ (r ∷ [])) ≡ true
@@ -104,9 +106,7 @@ module _ (doc : ℕ) (steps : List Step) (key : Option (List ℕ)) (v : Node) (c
   same_block = ap (λ rs. begins_no_node (lines_of_rows rs)) q_split ∙ (begins_same place.others place.last (new ++ place.back) place.back ∙ ap (λ rs. begins_no_node (lines_of_rows rs)) (sym p_split))
 
   same_lead : lead_of q ≡ lead_of part
-  same_lead =
-      ap (λ rs. comments.head_comment (first_gap rs q.end)) q_split
-      ∙ (ap comments.head_comment (first_same place.others place.last (new ++ place.back) place.back q.end part.end) ∙ ap (λ rs. comments.head_comment (first_gap rs part.end)) (sym p_split))
+  same_lead = search (rules, q_split, first_same, place.others, place.back, p_split)
 
   changed : x.broken ≡ true → length (new_text (put_segments x (lines ++ break_text l.br))) ≤ text_limit →
       IsChanged c (put_document doc q c) doc (lead_of part)
@@ -154,3 +154,71 @@ module _ (doc : ℕ) (steps : List Step) (key : Option (List ℕ)) (v : Node) (c
             (finished doc steps key v c x read at g q (break_text l.br) uncommented is_changed same_lead same_block (ap no_rows q_split ∙ some_rows place.others place.last (new ++ place.back))),
         cut_known ss c (put_document doc q c) is_changed.read new_is local,
       )
+
+-- ---- one item or entry more at the end of a block collection: the segments that put it there, and what they come to
+
+-- ---- at the end of a collection
+
+-- what is put there, by whether its last line has a break
+abbrev put_at : ℕ → Option (List ℕ) → Node → Cut → CollectionEnd → Bool → List Segment
+put_at n key v c x b = put_segments x (closed_lines_put b (break_text (layout_of n c).br) (entry_lines (layout_of n c) x.column key v))
+
+put_both : (n : ℕ) (steps : List Step) (key : Option (List ℕ)) (v : Node) (c : Cut) (x : CollectionEnd) (read : read_at (cut_text c) ≡ Some c) (at : IsAppendPlace n steps c x) → IsAsked steps key v (p n steps c x read at) →
+    length (new_text (put_at n key v c x x.broken)) ≤ text_limit → ReadsAfter (append n steps key v) c (new_text (put_at n key v c x x.broken)) × IsLocalTo (put_at n key v c x x.broken) c
+put_both n steps key v c x read at g = go x.broken refl
+  where
+    go : (b : Bool) → x.broken ≡ b → length (new_text (put_at n key v c x b)) ≤ text_limit → ReadsAfter (append n steps key v) c (new_text (put_at n key v c x b)) × IsLocalTo (put_at n key v c x b) c
+    go true is size = inside_both n steps key v c x read at g is size
+    go false is size = end_both n steps key v c x read at g is size
+
+pub asked : (n : ℕ) (steps : List Step) (key : Option (List ℕ)) (v : Node) (c : Cut) (x : CollectionEnd) (read : read_at (cut_text c) ≡ Some c)
+    (at : IsAppendPlace n steps c x) → HasOperand (append n steps key v) → Fits (room_of (cut_text c)) (append n steps key v) (documents c) →
+    IsAsked steps key v (p n steps c x read at)
+asked n steps key v c x read at operand fits = search (rules, same_Some, nth_map, tree_unique)
+
+-- Segments put a text at the end of a collection.
+pub record IsPutAt (x : CollectionEnd) (new : List ℕ) (ss : List Segment) : Type 0 where
+  pub before : kept_front ss ≡ x.before
+  pub after : kept_back ss ≡ x.after
+  pub old : old_text ss ≡ x.before ++ x.after
+  pub text : new_text ss ≡ x.before ++ (new ++ x.after)
+
+pub edit_at : (n : ℕ) (steps : List Step) (key : Option (List ℕ)) (v : Node) (c : Cut) (x : CollectionEnd) (ss : List Segment) → read_at (cut_text c) ≡ Some c → IsAppendPlace n steps c x →
+    IsPutAt x (closed_lines_put x.broken (break_text (layout_of n c).br) (entry_lines (layout_of n c) x.column key v)) ss → IsEdit (append n steps key v) c ss
+edit_at n steps key v c x ss read at is = record {
+  old = is.old ∙ old_is n steps c x read at;
+  carried = λ operand fits size.
+      let us : List Segment = put_at n key v c x x.broken in
+      let new : List ℕ = closed_lines_put x.broken (break_text (layout_of n c).br) (entry_lines (layout_of n c) x.column key v) in
+      let text : new_text us ≡ new_text ss = ap (λ z. x.before ++ (new ++ z)) (append-nil x.after) ∙ sym is.text in
+      let both = put_both n steps key v c x read at (asked n steps key v c x read at operand fits) (subst (λ t. length t ≤ text_limit) (sym text) size) in
+      record {
+        reads = subst (ReadsAfter (append n steps key v) c) text both.0;
+        local = inl (λ d reads.
+            let h = both.1 d (subst (λ t. read_at t ≡ Some d) (sym text) reads) in
+            record {
+              front = h.front;
+              gone = h.gone;
+              come = h.come;
+              back = h.back;
+              lead = h.lead;
+              trail = h.trail;
+              old_are = h.old_are;
+              new_are = h.new_are;
+              before_is = is.before ∙ (sym (append-nil x.before) ∙ h.before_is);
+              following_is = is.after ∙ (sym (append-nil x.after) ∙ h.following_is);
+              begins = h.begins;
+              ends = h.ends;
+            });
+      };
+}
+
+-- ---- the segments
+
+pub held_put_at : (h : Held) (column : ℕ) (new : List ℕ) (before : List ℕ) (broken : Bool) → h.before ++ (h.space ++ (h.head ++ (h.white ++ (h.comment ++ (h.break ++ (h.lines ++ h.last)))))) ≡ before →
+    IsPutAt (record { column = column; before = before; broken = broken; after = h.after }) new (after_held h new)
+held_put_at h column new before broken is = search (rules, append-nil, append_assoc)
+
+pub lines_put_at : (w : LinesIn) (column : ℕ) (new text : List ℕ) (broken : Bool) → w.before ++ (w.lines ++ w.last) ≡ text →
+    IsPutAt (record { column = column; before = text; broken = broken; after = w.after }) new (after_lines w new)
+lines_put_at w column new text broken is = search (rules, append_assoc, append-nil)

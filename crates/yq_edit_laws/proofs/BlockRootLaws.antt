@@ -1,24 +1,45 @@
 -- Where the block collection is that is the root of a document.
 use Rattle.std.proofs.Common.{rules, ◌≡◌, ◌⊎◌, inl, inr, ℕ, List, [], ◌∷◌, ◌++◌, replicate, Some, None, true, false, refl, sym, ap, ◌∙◌}
-use Rattle.std.{proofs.Common.{subst, append_assoc, append-nil}, proofs.lemmas.Bool.false≢true}
-use Rattle.yq_core.{specs.Text.separates, proofs.BlockPieceLaws.{IsLf, append_lf}}
+use Rattle.std.{proofs.Common.{subst, append_assoc, append-nil, arith, length, ◌<◌}, proofs.lemmas.Bool.false≢true}
+use Rattle.yq_core.{specs.Text.{separates, is_empty}, proofs.BlockPieceLaws.{IsLf, append_lf}}
 use Rattle.yq_outline.{specs.Comments.line_comment, specs.Lines.lines_of_rows}
-use Rattle.yq_row_table.{specs.Gap.IsGap, specs.Grammar.{IsCut, IsTail, unlimited, AreRows, ends_part}}
-use Rattle.yq_row_table.{specs.Rows.{Row, following_gap, after_indent, rows_text, Cut, cut_text}, proofs.NothingLaws.gap_other}
-use Rattle.yq_row_table.{proofs.seams.FrontSeams.after_row_some, proofs.splices.PartPlaces.part_ends}
+use Rattle.yq_row_table.{specs.Gap.IsGap, specs.Grammar.{IsCut, IsTail, unlimited, AreRows, ends_part, IsMark}}
+use Rattle.yq_row_table.specs.Rows.{Row, following_gap, after_indent, rows_text, Cut, cut_text}
+use Rattle.yq_row_table.{proofs.NothingLaws.{gap_other, some_after}, proofs.seams.FrontSeams.after_row_some}
+use Rattle.yq_row_table.{proofs.splices.PartPlaces.part_ends, proofs.PlaceLaws.content_then, proofs.GapLaws.some_more}
 use Rattle.yq_documents.{specs.Reading.read_at, specs.Ready.begins_no_node, specs.PartNumbers.part_number}
 use Rattle.yq_places.{specs.PlacedRows.{PlacedPart, placed_document}, specs.PrintedLines.{last_break, less_break}}
 use Rattle.yq_places.{specs.Placements.{LinesIn, is_alone}, proofs.CommentPieceLaws.{Ended, gap_end}, proofs.PrintedTexts.less_is}
-use Rattle.yq_places.proofs.RemovalLines.{LineSeam, LiesIn, lies_in, seam_join}
+use Rattle.yq_places.{proofs.RemovalLines.{LineSeam, LiesIn, lies_in, seam_join}, proofs.LastBreakLaws.lf_last}
 use Rattle.yq_edit_rules.{specs.DocumentRows.IsDocumentPart, specs.PlacedParts.IsDocumentAt, specs.TextPieces.IsPiece}
 use Rattle.yq_edit_rules.{proofs.AppendPlaceLaws.following_rows, proofs.EndedRowLaws.{rows_ended, rows_then}}
 use Rattle.yq_edit_rules.{proofs.FirstBreakLaws.{IsOneBreak, break_tail, break_apart, break_bare}, proofs.PartLaws.document_known}
 use Rattle.yq_edit_rules.{proofs.PlacedPartLaws.document_is_there_at, proofs.TextPieceLaws.{pieces_joined, text_is_piece}}
 use Rattle.yq_edit_rules.{proofs.RemovalPieceLaws.{spaces_piece, seam_pieces}, proofs.AppendAtEnd.nothing_tail}
 use Rattle.yq_edit_rules.{proofs.AppendEntryLaws.none_uncommented, proofs.CommentPieceLaws.{nothing, break_piece}, proofs.LastRows.lf_end}
-use Rattle.yq_edit_laws.{proofs.RootReadLaws.TakesValue, proofs.RootRows.HasRoom, proofs.PlacementRoots.HasRoot}
-use Rattle.yq_edit_laws.proofs.FirstRows.{ends_with, row_entry, row_some, some_length}
+use Rattle.yq_edit_rules.proofs.BreakLaws.{last_is}
+use Rattle.yq_edit_laws.{proofs.RootReadLaws.TakesValue, proofs.RootRows.HasRoom, proofs.PlacementRoots.HasRoot, proofs.HeldRows.no_line}
 use Rattle.yq_core.specs.declared.block_types.Break.TheVariants as breaks
+
+-- ---- the first row of a block collection, the line that it begins, and the break that ends a text
+
+pub some_length : (t : List ℕ) → is_empty t ≡ false → 0 < length t
+some_length [] h = absurd (false≢true (sym h))
+some_length (b ∷ t) h = omega arith
+
+pub row_some : (r : Row) (rest t : List ℕ) → IsMark r.mark r.content rest → is_alone r ≡ false → is_empty (after_indent r t) ≡ false
+row_some r rest t h alone = search (rules, some_more, false≢true, some_after, content_then, append_assoc)
+
+-- its line is that of a key or dash
+pub row_entry : (r : Row) (rs : List Row) → is_alone r ≡ false → begins_no_node (lines_of_rows (r ∷ rs)) ≡ true
+row_entry r rs alone = search (rules, false≢true)
+
+-- the last break of a text that ends so
+pub ends_with : (t more : List ℕ) → Ended t more → (IsOneBreak (last_break t)) ⊎ ((last_break t ≡ []) × (more ≡ []))
+ends_with t more h1 = search (rules, last_is, false≢true, no_line, lf_last)
+
+pub empty_cases : (t : List ℕ) → (t ≡ []) ⊎ (is_empty t ≡ false)
+empty_cases t = search rules
 
 -- ---- the rows of the root
 

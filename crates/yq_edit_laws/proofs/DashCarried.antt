@@ -28,8 +28,8 @@ use Rattle.yq_semantics.specs.Operations.{Operation, replace}
 use Rattle.yq_edit_laws.proofs.DashNodes.{dash_after, dash_last_ends, dash_node, dash_pieces, dash_spelled, dash_unnamed, upto}
 use Rattle.yq_edit_laws.proofs.DashValueLaws.{after_first, after_rows, after_spelled, takes_after}
 use Rattle.yq_edit_laws.{proofs.HeldLines.{block_piece, break_tail, lines_piece}, proofs.MarkKinds.filled_is}
-use Rattle.yq_edit_laws.{proofs.NodeCarriedLaws.{KeepsNode, node_carried}, proofs.NodeLeads.{content_first, upto_long}}
-use Rattle.yq_edit_laws.{proofs.NodeRowLaws.{NodeRows, rest}, proofs.NodeTaken.{TakesNode, q_text}}
+use Rattle.yq_edit_laws.{proofs.NodeTaken.{KeepsNode, node_carried, TakesNode, q_text}, proofs.NodeLeads.{content_first, upto_long}}
+use Rattle.yq_edit_laws.proofs.NodeRowLaws.{NodeRows, rest}
 use Rattle.yq_edit_laws.proofs.NodeValueLaws.{IsHolding, end_is, rows_beside, rows_under, takes_beside, takes_under}
 
 module _ (n : ℕ) (s : Step) (ss : List Step) (c : Cut) (e : RowsOfEntry) (there : HasItsRows n s ss c e) (less : e.line < length e.row.dashes) (read : read_at (cut_text c) ≡ Some c) (at : rows_of_entry n (s ∷ ss) c ≡ Some e) where

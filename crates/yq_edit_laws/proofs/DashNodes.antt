@@ -15,8 +15,8 @@ use Rattle.yq_edit_rules.{specs.Siblings.HasEntries, specs.PlacementLaws.HasItsR
 use Rattle.yq_edit_rules.{proofs.PlacementMarks.{after_there, row_there, rows_ended_there}, proofs.TextPieceLaws.{line_cut, text_is_piece}}
 use Rattle.yq_edit_rules.{specs.BlockPlaces.{IsUpto, at_dash}, proofs.CommentPieceLaws.nothing, proofs.HeldCuts.last_cut}
 use Rattle.yq_edit_rules.{proofs.CommentRowLaws.cut_spelled, proofs.HeldPieces.suffix_lf}
-use Rattle.yq_edit_laws.{proofs.HeldRows.{last_ends, value_unnamed}, proofs.NodeRowLaws.{NodeRows, line_is, parts, rest}}
-use Rattle.yq_edit_laws.{proofs.RowLines.entries_under, proofs.PlacementNodes.node_upto}
+use Rattle.yq_edit_laws.proofs.HeldRows.{last_ends, value_unnamed}
+use Rattle.yq_edit_laws.proofs.NodeRowLaws.{NodeRows, line_is, parts, rest, node_upto, entries_under}
 use Rattle.yq_row_table.specs.Rows as rows
 
 -- dashes from one on

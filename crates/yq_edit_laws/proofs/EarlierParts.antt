@@ -10,7 +10,7 @@ use Rattle.yq_core.{specs.Nodes.{node_text, opening_bracket, sep_text, without_a
 use Rattle.yq_core.{proofs.NodeAgain.{node_longer, sep_longer}, proofs.NodesWrittenLaws.{key_append, sep_append}, proofs.PathLaws.then_some}
 use Rattle.yq_flow_edits.specs.FlowEdits.{FlowEdit, IsFlowEdited, add_item, after_appended, after_last, put_content, put_item}
 use Rattle.yq_flow_edits.{proofs.EditLaws.around_is, proofs.ItemSwaps.{item_cut, text_cut}}
-use Rattle.yq_places.proofs.FlowNodeLaws.{item_more, entry_more}
+use Rattle.yq_places.proofs.FlowNodeLaws.{entry_more, item_more}
 use Rattle.yq_edit_laws.proofs.LaterEnds.{items_end, node_end, own_end, rest_in}
 use Rattle.yq_edit_laws.proofs.LaterParts.{content_within, inside_within, node_in_items, with_node}
 use Rattle.yq_core.specs.Tree as tree
@@ -18,11 +18,9 @@ use Rattle.yq_core.specs.Tree as tree
 -- ---- before another text
 
 inside_more : (s : Step) (node : FlowNode) (rest more : List ℕ) → path_inside s node (rest ++ more) ≡ option_map (entry_more more) (path_inside s node rest)
-inside_more s empty rest more = refl
-inside_more s (alias n) rest more = refl
-inside_more s (scalar p) rest more = refl
 inside_more s (coll k gap is) rest more = item_more k s is rest more
 inside_more s (anchored n gap node) rest more = inside_more s node rest more
+inside_more s _ rest more = refl
 
 parts_more : (q : List Step) (x : EntryPieces) (more : List ℕ) → entry_pieces_at q (entry_more more x) ≡ option_map (entry_more more) (entry_pieces_at q x)
 parts_more [] x more = refl

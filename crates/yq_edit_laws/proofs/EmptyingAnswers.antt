@@ -1,8 +1,8 @@
 -- A sole item or entry is removed by Replace of its collection with an empty one.
-use Rattle.std.{proofs.Common.{◌≡◌, rules, ℕ, List, Option, Some, None, option_map, refl, sym, ap, ◌∙◌}, proofs.lemmas.Option.same_Some}
+use Rattle.std.{proofs.Common.{◌≡◌, rules, ℕ, List, Option, Some, None, option_map, refl, ap, ◌∙◌}, proofs.lemmas.Option.same_Some}
 use Rattle.yq_core.{specs.Answers.◌>>=◌, specs.Paths.Step, specs.Tree.Node}
 use Rattle.yq_row_table.specs.Rows.{Cut}
-use Rattle.yq_places.specs.NodesAt.{NodeAt, node_in, node_summary}
+use Rattle.yq_places.specs.NodesAt.{NodeAt, node_summary}
 use Rattle.yq_edit_rules.specs.Edits.{empty_collection}
 use Rattle.yq_edit_laws.specs.Emptying.{Emptied, SoleByEmptying, emptied_summary, emptying, summary_above}
 use Rattle.yq_core.specs.Tree as tree
@@ -13,10 +13,7 @@ sole_by_emptying n c (Some x) = search rules
 
 -- the empty collection, by what is known of the one in which a path ends
 emptied_known : (n : Node) → emptied_summary (node_summary n) ≡ empty_collection n
-emptied_known (tree.alias name) = refl
-emptied_known (tree.scalar anchor kind text) = refl
-emptied_known (tree.list anchor cs) = refl
-emptied_known (tree.map anchor cs) = refl
+emptied_known n = search rules
 
 known_empty : (o : Option Node) (v : NodeAt) → Some v ≡ option_map node_summary o → emptied_summary v ≡ (o >>= empty_collection)
 known_empty None v e = absurd cc
@@ -26,6 +23,4 @@ abbrev pub put_at : ℕ → List Step → Node → Emptied
 put_at n steps v = record { doc = n; steps = steps; value = v }
 
 pub emptied_above : (n : ℕ) (c : Cut) (o : Option (List Step × Step)) (x : List Step × Step) (v : NodeAt) → Some x ≡ o → Some v ≡ summary_above n c o → emptying n c o ≡ option_map (put_at n x.0) (emptied_summary v)
-emptied_above n c None x v last is = absurd cc
-emptied_above n c (Some y) x v last is =
-    ap (option_map (put_at n y.0)) (sym (known_empty (node_in n y.0 c) v is)) ∙ ap (λ (z : List Step × Step). option_map (put_at n z.0) (emptied_summary v)) (sym (same_Some _ _ last))
+emptied_above n c o x v last is = search (rules, known_empty, same_Some)

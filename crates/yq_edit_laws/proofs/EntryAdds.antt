@@ -12,7 +12,7 @@ use Rattle.yq_edit_rules.{specs.BlockRows.{children_rows, key_row, node_rows}, s
 use Rattle.yq_edit_rules.{specs.CollectionPlaces.IsCollectionEnd, specs.Edits.op_edits, specs.EntryEdits.{entry_lines, more_lines}}
 use Rattle.yq_edit_rules.{specs.Layouts.{LooksLike, children_ask, layout_of, node_asks}, specs.Operands.HasOperand}
 use Rattle.yq_edit_rules.{specs.RowChanges.PutsOne, proofs.AppendPlaces.{IsAppendPlace, IsAsked, put_segments}}
-use Rattle.yq_edit_laws.proofs.MorePuts.{asked}
+use Rattle.yq_edit_laws.proofs.AppendInside.{asked}
 use Rattle.yq_core.specs.Tree as tree
 use Rattle.yq_edit_rules.proofs.AppendPlaces as places
 use Rattle.yq_edit_laws.proofs.AppendInside as inside
@@ -21,21 +21,14 @@ use Rattle.yq_edit_laws.proofs.AppendInside as inside
 entry_row_is : (l : Layout) (column : ℕ) (end key : List ℕ) (v : tree.Node) → is_filled v ≡ false → (node : FlowNode) × (node_rows l column end (singleton (Some key) v) ≡ key_row column key (Inline (32 ∷ []) node end) ∷ [])
 unfolding node_rows children_rows
 entry_row_is l column end key (tree.alias name) h = (_, refl)
-entry_row_is l column end key (tree.scalar a kind text) h = (_, refl)
-entry_row_is l column end key (tree.list a tree.none) h = (_, refl)
 entry_row_is l column end key (tree.list a (tree.child label n cs)) h = absurd (false≢true (sym h))
-entry_row_is l column end key (tree.map a tree.none) h = (_, refl)
 entry_row_is l column end key (tree.map a (tree.child label n cs)) h = absurd (false≢true (sym h))
+entry_row_is l column end key _ h = (_, refl)
 
 -- an unfilled value is written the same, whatever the steps of a document are
 pub unfilled_alike : (v : tree.Node) (l k : Layout) → is_filled v ≡ false → l.br ≡ k.br → LooksLike true v l k
 unfolding node_asks children_ask
-unfilled_alike (tree.alias name) l k h same = (same, λ dashes asked. absurd (false≢true asked))
-unfilled_alike (tree.scalar a kind text) l k h same = (same, λ dashes asked. absurd (false≢true asked))
-unfilled_alike (tree.list a tree.none) l k h same = (same, λ dashes asked. search (rules, false≢true))
-unfilled_alike (tree.list a (tree.child label n cs)) l k h same = absurd (false≢true (sym h))
-unfilled_alike (tree.map a tree.none) l k h same = (same, λ dashes asked. search (rules, false≢true))
-unfilled_alike (tree.map a (tree.child label n cs)) l k h same = absurd (false≢true (sym h))
+unfilled_alike v l k h same = search (rules, asked, false≢true)
 
 -- Segments of a cut put an entry at a column after the first rows of a document, at the end of their text, which is that of a line: these rows are
 -- a mapping's, up to its last line (own).

@@ -4,8 +4,8 @@ use Rattle.std.{proofs.Common.{ap, ltb, subst, arith, string_bytes}, proofs.lemm
 use Rattle.std.{proofs.lemmas.Slice.Eq.bytes_eq-Decides, specs.Prelude.Vec, specs.declared.alloc.Global.Global}
 use Rattle.yq_core.{specs.declared.inline.Inline.Inline, specs.declared.inline.Form.TheFolds.the_lemmas}
 use Rattle.yq_core.{specs.Keys.{AreDistinct, HasUniqueKeys, keys_of}, specs.Entries.{PlacedEntry, flow_part_at, tree_step}}
-use Rattle.yq_core.{specs.Paths.{Step, Nth, To, further}, specs.Tree.Children, specs.Places.{CoreNode, mapping, placed}}
-use Rattle.yq_core.specs.Trees.{content_tree, parts_tree, placed_tree, with_anchor_name}
+use Rattle.yq_core.{specs.Paths.{Step, Nth, To, further}, specs.Tree.Children, specs.Places.{mapping, placed}}
+use Rattle.yq_core.specs.Trees.{parts_tree, placed_tree, with_anchor_name}
 use Rattle.yq_core.{specs.View.{anchor_name, entries_end, form_view, inline_view, items_end}, proofs.DistinctKeys.differs}
 use Rattle.yq_edit_laws.specs.NearParts.{Field, HasKeyAt, HaveDistinctKeys, LeadsToPart}
 use Rattle.yq_core.specs.declared.path.Step as declared
@@ -83,6 +83,4 @@ of_map : (v : Vec Field Global) → form_view (forms.TheVariants.Map v) ≡ mapp
 of_map v = simp (the_lemmas) refl
 
 pub map_differs : (node : Inline) (v : Vec Field Global) → node.form ≡ forms.TheVariants.Map v → HasUniqueKeys (placed_tree (inline_view node)) → HaveDistinctKeys v.items
-map_differs node v is h =
-    by_anchor (anchor_name node.anchor) (parts_tree (entries_end v.items))
-    (subst HasUniqueKeys (ap placed_tree (of_node node) ∙ ap (λ (x : CoreNode). with_anchor_name (anchor_name node.anchor) (content_tree x)) (ap form_view is ∙ of_map v)) h)
+map_differs node v is h = search (rules, by_anchor, node.anchor, of_node, is, of_map)

@@ -1,10 +1,10 @@
 -- The node of an item or entry is what its row spells after the key or dash, with the lines under that.
-use Rattle.std.{proofs.Common.{◌≡◌, ℕ, List, ◌∷◌, length, Option, Some, option_map, sym, ap, ◌∙◌}, proofs.lemmas.Option.slice_get-map}
-use Rattle.yq_core.{specs.Answers.◌>>=◌, specs.Paths.{Step, node_at}}
-use Rattle.yq_outline.{specs.Group.{group, level_or}, specs.Lines.lines_of_rows, specs.Places.content_under}
-use Rattle.yq_outline.{proofs.Finding.{FoundNode, path_node}, proofs.Unique.group_even}
+use Rattle.std.{proofs.Common.{rules, ◌≡◌, ℕ, List, ◌∷◌, length, Some, ◌∙◌}, proofs.lemmas.Option.slice_get-map}
+use Rattle.yq_core.{specs.Answers.◌>>=◌, specs.Paths.Step}
+use Rattle.yq_outline.{specs.Group.{group, level_or}, specs.Lines.lines_of_rows, specs.Places.content_under, proofs.Finding.path_node}
+use Rattle.yq_outline.proofs.Unique.{group_even}
 use Rattle.yq_row_table.specs.Rows.{Cut}
-use Rattle.yq_documents.{specs.Documents.{Document, document_parts}, specs.Reading.{part_document, part_outline}}
+use Rattle.yq_documents.specs.Reading.{part_outline}
 use Rattle.yq_places.{specs.NodesAt.node_in, specs.Placements.RowsOfEntry}
 use Rattle.yq_edit_rules.{specs.PlacementLaws.HasItsRows, proofs.NodeLineLaws.under_even, proofs.PlacementMarks.{even_there, under_it}}
 use Rattle.yq_edit_rules.proofs.UnderLaws.{line_is, line_with, under_is}
@@ -17,6 +17,4 @@ entry_node n s ss c e there mark =
     let line = line_is there.part s ss e.front e.row e.under e.back row even in
     let lines = under_is there.part s ss e.front e.row e.under e.back row even in
     let below = (under_even (level_or 0 (part_outline there.part)) (part_outline there.part) s ss there.found even there.is).1 in
-    let same = ap group lines ∙ group_even below.3.0 there.found.under below.3.2 in
-    ap (λ (o : Option Document). o >>= λ d. node_at (s ∷ ss) d.root) (slice_get-map part_document (document_parts c) n ∙ ap (option_map part_document) there.old.there)
-    ∙ (path_node s ss (part_outline there.part) ∙ (ap FoundNode there.is ∙ (λ j. Some (content_under (sym line j) (sym same j)))))
+    search (rules, group_even, slice_get-map, path_node)

@@ -75,11 +75,7 @@ last_feed lead t text some parts = go (is_empty (last_break t)) (feed_some t (sy
 
 -- and the other way round
 pub feed_last : (t : List ℕ) → is_empty (last_break t) ≡ false → IsLf t
-feed_last t some = feed_lf t (go (ends_feed t) refl)
-  where
-    go : (b : Bool) → ends_feed t ≡ b → ends_feed t ≡ true
-    go true is = is
-    go false is = absurd (false≢true (sym some ∙ ap is_empty (feed_none t is)))
+feed_last t some = search (rules, feed_lf, false≢true, feed_none)
 
 -- ---- a node at the end of a text
 

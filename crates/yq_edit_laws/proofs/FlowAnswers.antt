@@ -1,6 +1,6 @@
 -- What the code finds of flow collections, and where the edits of these are in a text.
-use Rattle.std.proofs.Common.{◌≡◌, ℕ, ◌-◌, ◌≤◌, List, [], ◌∷◌, ◌++◌, length, map, take, drop, slice_index_or, Option, Some, option_map}
-use Rattle.std.proofs.Common.{refl, sym, ap, ◌∙◌, subst, arith, append_assoc, length-append}
+use Rattle.std.proofs.Common.{rules, ◌≡◌, ℕ, ◌-◌, ◌≤◌, List, [], ◌∷◌, ◌++◌, length, map, take, drop, slice_index_or, Option, Some}
+use Rattle.std.proofs.Common.{option_map, refl, sym, ap, ◌∙◌, subst, arith, append_assoc, length-append}
 use Rattle.std.{proofs.Math.Seq.{take-append_seam, drop-append_seam}, specs.Str.IsCharBoundary}
 use Rattle.yq_core.{specs.Answers.◌>>=◌, specs.Paths.Step, specs.Collections.CollPieces, specs.Entries.{EntryPieces, item_at}}
 use Rattle.yq_core.{specs.Nodes.node_text, specs.Places.Placed}
@@ -9,12 +9,12 @@ use Rattle.yq_row_table.specs.Rows.{Cut, cut_text}
 use Rattle.yq_documents.specs.Reading.{cut_of, read_at}
 use Rattle.yq_places.specs.FlowNodes.{flow_collection}
 use Rattle.yq_places.specs.FlowViews.{IsHeadOfSteps, FlowAgrees, following_anchor, collection_view, placed_collection}
-use Rattle.yq_places.{specs.Placements.{FlowPart, flow_part, flow_placement, last_step}, specs.declared.places.flow_node.FlowHead.FlowHead}
+use Rattle.yq_places.{specs.Placements.{FlowPart, flow_placement, last_step}, specs.declared.places.flow_node.FlowHead.FlowHead}
 use Rattle.yq_places.proofs.FlowNodeLaws.{entry_more}
 use Rattle.yq_text.specs.Script.{Segment, keep, put}
 use Rattle.yq_edit_rules.specs.FlowParts.{flow_segments}
 use Rattle.yq_edit_laws.{specs.EditPlaces.{LiesIn, edit_segments, moved_on}, proofs.CutLaws.{text_read, text_small}}
-use Rattle.yq_edit_laws.{proofs.FlowHeads.{in_text, item_whole, agrees_there}, proofs.FlowLonger.edit_more, proofs.FlowPlacements.EntryAt}
+use Rattle.yq_edit_laws.{proofs.FlowHeads.{agrees_there, in_text, item_whole, edit_more}, proofs.FlowPlacements.EntryAt}
 
 -- ---- the last step
 
@@ -118,9 +118,7 @@ module _ (c : Cut) (n : ℕ) (path init : List Step) (s : Step) (x : FlowHead) (
 
   -- what is at the path, by the row alone
   pub placement_is : flow_placement n c (last_step path) ≡ option_map (part_in s f.coll) (option_map (entry_more f.agrees.after) (item_at own.close s own.items own.rest))
-  placement_is =
-      ap (flow_placement n c) (sym last)
-      ∙ (ap (λ (o : Option CollPieces). o >>= flow_part s) f.found ∙ ap (option_map (part_in s f.coll)) (item_whole (cut_text c) f.coll x f.agrees s))
+  placement_is = search (rules, ← last, f.found, f.coll, item_whole, f.agrees)
 
   abbrev pub entry_found : (y : EntryPieces) → item_at own.close s own.items own.rest ≡ Some y → EntryAt c n path
   entry_found y at = record {

@@ -1,10 +1,15 @@
 -- Steps lead to a flow collection in an inline node where they lead to a collection in its tree.
 use Rattle.std.proofs.Common.{rules, ◌≡◌, ℕ, Bool, true, false, cond, eqb, List, [], ◌∷◌, Option, Some, None, option_map, refl, sym, ap}
-use Rattle.std.{proofs.Common.◌∙◌, proofs.lemmas.Option.{none-some, same_Some}, specs.Prelude.option_and_then}
-use Rattle.yq_core.{specs.Paths.{Step, further, child_at, node_at}, specs.Tree.{Children, children_of}}
+use Rattle.std.{proofs.Common.{◌∙◌, inl, inr, subst, ◌⊎◌}, proofs.lemmas.Option.{none-some, same_Some}, specs.Prelude.option_and_then}
+use Rattle.yq_core.{specs.Paths.{Step, further, child_at, node_at}, specs.Tree.{Children, children_of, Node}}
 use Rattle.yq_core.{specs.Collections.{CollPieces, coll_along, coll_in}, specs.Entries.{EntryPieces, path_inside, item_at}}
 use Rattle.yq_core.specs.Nodes.{FlowNode, empty, alias, scalar, coll, anchored, Items, none, item}
-use Rattle.yq_core.specs.Trees.{tree_collection, items_tree, tree_of, with_name}
+use Rattle.yq_core.{specs.Trees.{tree_collection, items_tree, tree_of, with_name}, specs.Answers.◌>>=◌}
+use Rattle.yq_outline.specs.Outline.{LineMark, Bare, Key, Dash, Outline, end, row, value}
+use Rattle.yq_outline.{specs.Places.{here, FoundLine, find, in_head, place_inside, content_under}, specs.Positions.has_no_mark}
+use Rattle.yq_outline.proofs.Finding.{path_node}
+use Rattle.yq_places.specs.FlowNodes.{bare_line, find_head, head_line}
+use Rattle.yq_edit_rules.specs.Siblings.{HasEntries, IsCollectionAt, IsEntry, NodeLines, lines_below, under_line}
 use Rattle.yq_core.specs.Tree as tree
 use Rattle.yq_outline.specs.Outline as outlines
 
@@ -117,3 +122,60 @@ coll_holds (s ∷ ss) node rest w e =
         ((y : EntryPieces) → coll_along ss y.node y.rest ≡ Some w → HeldAt ss (entry_tree y) (coll_held w)) → HeldAt (s ∷ ss) (tree_of node) (coll_held w)
     go None is e again = absurd (none-some _ e)
     go (Some y) is e again = let h = again y e in (h.0, is ∙ h.1, h.2)
+
+-- ---- a collection at a path is in the head of a line, in flow, or it has lines of its own, in block
+
+abbrev Reached : Type 0
+Reached = FoundLine × List Step
+
+-- The collection at a path is in the head of a line, or it has lines of its own.
+abbrev pub Cases : List Step → Outline → Type 0
+Cases steps o = ((y : FoundLine × List Step) × (find_head steps o ≡ Some y)) ⊎ ((h : NodeLines) × IsCollectionAt steps o h)
+
+-- the lines of a node that is a collection: the first of them is the node itself, or an entry or item
+lines_cases : (o : Outline) (x : FlowContent) → held (value o) ≡ Some x → ((b : FoundLine) × (bare_line o ≡ Some b)) ⊎ HasEntries o
+lines_cases end x is = absurd (none-some _ is)
+lines_cases (row l u v) x is = go l.mark refl
+  where
+    go : (m : LineMark) → l.mark ≡ m → ((b : FoundLine) × (cond (has_no_mark l.mark) (Some (record { place = here; line = l; under = u; after = v })) None ≡ Some b)) ⊎ HasEntries (row l u v)
+    go Bare mark = inl (record { place = here; line = l; under = u; after = v }, ap (λ (m : LineMark). cond (has_no_mark m) (Some (record { place = here; line = l; under = u; after = v })) None) mark)
+    go (Key k) mark = inr (subst IsEntry (sym mark) tt)
+    go Dash mark = inr (subst IsEntry (sym mark) tt)
+
+-- at the root
+root_cases : (o : Outline) (x : FlowContent) → held (value o) ≡ Some x → Cases [] o
+root_cases o x is = go (lines_cases o x is)
+  where
+    go : ((b : FoundLine) × (bare_line o ≡ Some b)) ⊎ HasEntries o → Cases [] o
+    go (inl b) = inl ((b.0, []), ap (option_map {U = Reached} (λ f. (f, []))) b.1)
+    go (inr h) = inr (record { place = here; above = 0; anchor = None; lines = o }, record { place_is = refl; block = h })
+
+-- below it
+below_cases : (s : Step) (ss : List Step) (o : Outline) (f : FoundLine) (x : FlowContent) → find s ss o ≡ Some (f, []) → held (content_under f.line f.under) ≡ Some x → Cases (s ∷ ss) o
+below_cases s ss o f x found is = go f.line.head refl
+  where
+    head_is : (h : Option Node) → f.line.head ≡ h → find_head (s ∷ ss) o ≡ in_head h (Some (f, [])) (option_map {U = Reached} (λ b. (place_inside f b, [])) (bare_line f.under))
+    head_is h head = ap (λ (r : Option Reached). r >>= λ z. head_line z.0 z.1) found ∙ ap (λ k. in_head k (Some (f, [])) (option_map {U = Reached} (λ b. (place_inside f b, [])) (bare_line f.under))) head
+
+    under : f.line.head ≡ None → ((b : FoundLine) × (bare_line f.under ≡ Some b)) ⊎ HasEntries f.under → Cases (s ∷ ss) o
+    under head (inl b) = inl ((place_inside f b.0, []), head_is None head ∙ ap (option_map {U = Reached} (λ z. (place_inside f z, []))) b.1)
+    under head (inr h) = inr (
+      under_line f,
+      record { place_is = ap (option_and_then (λ (z : Reached). lines_below z.0.line.head z.1 z.0)) found ∙ ap (λ k. lines_below k [] f) head; block = h },
+    )
+
+    go : (h : Option Node) → f.line.head ≡ h → Cases (s ∷ ss) o
+    go (Some n) head = inl ((f, []), head_is (Some n) head)
+    go None head = search (rules, held, held_anchored, under, lines_cases)
+
+pub collection_cases : (steps : List Step) (o : Outline) (x : FlowContent) → HeldAt steps (value o) x → Cases steps o
+collection_cases [] o x h = root_cases o x (ap held (same_Some _ _ h.1) ∙ h.2)
+collection_cases (s ∷ ss) o x h = go (find s ss o) refl (sym (path_node s ss o) ∙ h.1)
+  where
+    line : (f : FoundLine) (left : List Step) → find s ss o ≡ Some (f, left) → node_at left (content_under f.line f.under) ≡ Some h.0 → Cases (s ∷ ss) o
+    line f [] found at = below_cases s ss o f x found (ap held (same_Some _ _ at) ∙ h.2)
+    line f (t ∷ ts) found at = inl ((f, t ∷ ts), ap (λ (r : Option Reached). r >>= λ z. head_line z.0 z.1) found)
+
+    go : (r : Option Reached) → find s ss o ≡ r → option_and_then (λ z. node_at z.1 (content_under z.0.line z.0.under)) r ≡ Some h.0 → Cases (s ∷ ss) o
+    go None found at = absurd (none-some _ at)
+    go (Some z) found at = line z.0 z.1 found at

@@ -8,7 +8,7 @@ use Rattle.yq_outline.{specs.Ends.found_line, specs.Group.level_or, specs.Outlin
 use Rattle.yq_outline.{specs.Places.{FoundLine, lines_before}, proofs.Finding.{FoundNode, node-anchored, path_node}}
 use Rattle.yq_outline.{proofs.Plug.allows_from, specs.Lines.{content_anchor, head_of}}
 use Rattle.yq_row_table.{specs.Exchange.after_row, specs.Rows.{Content, Nothing, Inline, Block, Part, Cut, cut_text}}
-use Rattle.yq_documents.{specs.Documents.{Document, document_parts}, specs.Reading.{part_document, part_outline, read_at}}
+use Rattle.yq_documents.{specs.Documents.document_parts, specs.Reading.{part_outline, read_at}}
 use Rattle.yq_documents.specs.LinesInRows.{RowLine, document_row, row_line, row_line_of}
 use Rattle.yq_places.{specs.FlowNodes.{content_flow, find_head}, specs.NodesAt.node_in, specs.PlacedRows.{PlacedPart, placed_document}}
 use Rattle.yq_places.{specs.Placements.{entry_rows_at, entry_placement, last_step, placement_at}, proofs.FlowPieces.head_tree}
@@ -124,9 +124,7 @@ module _ (c : Cut) (n : ℕ) (path : List Step) (a : EntryAt c n path) where
 
   -- the node there
   pub part_node : read_at (cut_text c) ≡ Some c → node_in n path c ≡ Some (tree_of a.item.node)
-  part_node read =
-      ap (λ (o : Option Document). o >>= λ d. node_at path d.root) (slice_get-map part_document (document_parts c) n ∙ ap (option_map part_document) line.there)
-      ∙ (ap (λ (ss : List Step). node_at ss (value (part_outline line.part))) path_is ∙ (line_node c n a.init a.step a.coll line read ∙ ap (option_map entry_tree) a.at))
+  part_node read = search (rules, slice_get-map, line.there, path_is, line_node, a.coll, read, entry_tree, a.at)
 
   -- nothing is there outside flow collections
   pub none_there : placement_at n path c ≡ None

@@ -22,11 +22,7 @@ rest_is_there d k t y c h =
     let own : List ℕ = key_text y.key (node_text y.node []) in
     let cut : pieces_text y ≡ own ++ y.rest = ap (key_text y.key) (node_then y.node y.rest) ∙ key_append y.key (node_text y.node []) y.rest in
     let ends : ends_return (h.before ++ own) ≡ ends_return own = return_some h.before own (item_some d k y.key y.node y.rest h.fits.key_is h.fits.some h.fits.is) in
-    record {
-      before = h.before ++ own;
-      text = h.text ∙ (ap (λ (l : List ℕ). h.before ++ l) cut ∙ sym (append_assoc h.before own y.rest));
-      whole = subst (λ (b : Bool). (b && front is_feed y.rest) ≡ false) (sym ends) (item_return k d y.key y.node y.rest c h.ends h.fits.key_is h.fits.is);
-    }
+    search (rules, own, cut, append_assoc, ends, item_return, y.key, c, h.ends, h.fits.key_is, h.fits.is)
 
 -- its content, with what comes after it
 pub content_split : (n : FlowNode) (rest : List ℕ) → (p : List ℕ) × (node_text n rest ≡ p ++ node_text (without_anchor n) rest)

@@ -118,14 +118,4 @@ module _ (ss : List Segment) (c : Cut) (k : ℕ) (p : Part) (e : RowsGoOut ss c 
 
   -- The item that begins with the gap holds all that is written.
   pub out_in_one : LiesInOne ss (put_document k (put_rows e.front [] e.back e.gap p) c)
-  out_in_one =
-      let front : List Item = front_items c k p e.there e.start e.put e.front in
-      let back : List Item = later_items e.back p.end marker below in
-      record {
-        front = front;
-        own = new_next;
-        back = back;
-        items_are = way.new_are;
-        begins = first_within (kept_front ss) (items_text front []) e.lead (way.before_is ∙ items_apart front e.lead);
-        ends = last_within (kept_back ss) trail (items_text back []) way.following_is;
-      }
+  out_in_one = search (rules, front_items, e.there, e.put, way.new_are, first_within, e.lead, way.before_is, items_apart, last_within, way.following_is)

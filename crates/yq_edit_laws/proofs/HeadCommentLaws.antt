@@ -27,7 +27,7 @@ use Rattle.yq_edit_rules.{proofs.PlacementRows.rows_located, proofs.CommentReadL
 use Rattle.yq_edit_rules.proofs.CommentRowLaws.{IsEntryRow, cut_spelled, entry_found, row_line_is_block, some_steps}
 use Rattle.yq_edit_rules.specs.RowChanges.{ChangesRow, HeadCommentsChangeRows}
 use Rattle.yq_semantics.{specs.Changes.can_be_comment, specs.Meaning.head_comment_lines, specs.Operations.{Operation, head_comment}}
-use Rattle.yq_edit_laws.proofs.OneRows.{MakesRow, PutsRow, at_last, first_row, row_carried, row_made, shape_keeps, text_now}
+use Rattle.yq_edit_laws.proofs.OneRows.{MakesRow, PutsRow, at_last, first_row, row_carried, row_changes, shape_keeps, text_now}
 use Rattle.yq_core.specs.Text as text
 use Rattle.yq_semantics.specs.declared.program.CommentPlace.TheVariants as comments
 
@@ -164,18 +164,7 @@ module _ (n : ℕ) (s : Step) (ss : List Step) (text : List ℕ) (br : Break) (c
     carried = row_carried op c (first_row n s ss c e there) new us puts change makes
 
     pub changes_row : length (new_text us) ≤ text_limit → ChangesRow n c e us
-    changes_row size = record {
-      part = there.part;
-      there = there.old.there;
-      front = e.front;
-      row = e.row;
-      new = new;
-      back = back;
-      rows_are = there.rows_are;
-      front_size = refl;
-      shape = refl;
-      read = row_made op c (first_row n s ss c e there) new us puts change makes size;
-    }
+    changes_row size = row_changes op c (first_row n s ss c e there) new us puts change makes size e refl refl
 
 pub head_comment_is_put : HeadCommentIsPut
 head_comment_is_put n [] text c e ss read is so = absurd (no_root_rows n c e is)

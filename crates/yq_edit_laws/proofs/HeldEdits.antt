@@ -13,8 +13,8 @@ use Rattle.yq_edit_rules.specs.WrittenValues.{Written, inline, compact_text, lin
 use Rattle.yq_edit_rules.{specs.WrittenValues.{value_text, written_at, written_under}, proofs.EditsFitLaws.{FitsReplace, fits_replace}}
 use Rattle.yq_edit_rules.proofs.ValueTexts.{value_for}
 use Rattle.yq_semantics.specs.Operations.{Operation, replace}
-use Rattle.yq_edit_laws.{proofs.HeldCarried.held_old, proofs.HeldCompact.held_compact, proofs.HeldInline.held_inline}
-use Rattle.yq_edit_laws.{proofs.HeldKnown.KnowsHeld, proofs.HeldLines.held_lines}
+use Rattle.yq_edit_laws.{proofs.HeldCarried.{held_old, KnowsHeld}, proofs.HeldLines.{held_compact, held_lines}}
+use Rattle.yq_edit_laws.proofs.HeldInline.{held_inline}
 
 module _ (n : ℕ) (s : Step) (ss : List Step) (c : Cut) (e : RowsOfEntry) (there : HasItsRows n s ss c e) (last : e.line ≡ length e.row.dashes) (k : KnowsHeld n s ss c e there last) (v : Node) (block : is_block e.row.content ≡ false) where
   abbrev w : Held

@@ -19,8 +19,7 @@ use Rattle.yq_edit_rules.{proofs.UnderLaws.{line_is, under_is}, proofs.BreakLaws
 use Rattle.yq_edit_rules.{proofs.BrokenTails.{other_comment, other_tail, uncommented_tail}, proofs.CommentReadLaws.break_is}
 use Rattle.yq_edit_rules.proofs.CommentRowLaws.{cut_spelled, entry_row, line_whole}
 use Rattle.yq_edit_rules.{proofs.HeldPieces.{below_ended, end_agrees, held_spells}, proofs.TailPieces.white_piece}
-use Rattle.yq_edit_laws.{proofs.HeldKnown.{KnowsHeld, first_alone}, proofs.NodeRowLaws.rest}
-use Rattle.yq_edit_laws.proofs.PlacementNodes.{following_is, mark_node}
+use Rattle.yq_edit_laws.{proofs.HeldCarried.{KnowsHeld, first_alone}, proofs.NodeRowLaws.{rest, following_is, mark_node}}
 use Rattle.yq_outline.specs.Outline as outline
 
 -- ---- ends of lines
@@ -95,9 +94,7 @@ module _ (n : ℕ) (s : Step) (ss : List Step) (c : Cut) (e : RowsOfEntry) (ther
   lines_there = under_is there.part s ss e.front e.row e.under e.back (under_it n s ss c e there last) (even_there n s ss c e there last)
 
   pub headless_there : is_empty (slices e.row).head ≡ false → e.under ≡ []
-  headless_there some =
-      let head : is_some there.found.line.head ≡ true = ap (λ (l : Line). is_some l.head) (sym line_there) ∙ head_there (parent_indent e.row) e.row.content _ row.content some in
-      no_rows_there e.under (lines_there ∙ (search (rules, false≢true, open', head)))
+  headless_there some = search (rules, line_there, head_there, e.row.content, row.content, some, no_rows_there, lines_there, false≢true, open')
 
   named_there : first_alone e.under ≡ false → anchor_of (content_under there.found.line there.found.under) ≡ content_anchor e.row.content
   named_there beside = go there.found.under refl

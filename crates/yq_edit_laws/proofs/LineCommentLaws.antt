@@ -23,7 +23,7 @@ use Rattle.yq_edit_rules.{proofs.PlacementMarks.{row_there, under_there}, proofs
 use Rattle.yq_semantics.{specs.Changes.can_be_comment, specs.Meaning.line_comment_text, specs.Operations.{Operation, line_comment}}
 use Rattle.yq_edit_laws.proofs.LineTails.{written, new_white, new_comment, tail_then, new_tail, new_comment_is, line_tail_is, shape_same}
 use Rattle.yq_edit_laws.proofs.LineTails.{slices_tailed}
-use Rattle.yq_edit_laws.proofs.OneRows.{MakesRow, PutsRow, at_last, first_row, row_carried, row_made, shape_keeps, text_now}
+use Rattle.yq_edit_laws.proofs.OneRows.{MakesRow, PutsRow, at_last, first_row, row_carried, row_changes, shape_keeps, text_now}
 use Rattle.yq_semantics.specs.declared.program.CommentPlace.TheVariants as comments
 
 -- ---- the segments
@@ -176,18 +176,7 @@ module _ (n : ℕ) (s : Step) (ss : List Step) (text : List ℕ) (c : Cut) (e : 
   carried = row_carried op c (first_row n s ss c e there) new us puts change makes
 
   pub changes_row : length (new_text (comment_put text (held e))) ≤ text_limit → ChangesRow n c e (comment_put text (held e))
-  changes_row size = record {
-    part = there.part;
-    there = there.old.there;
-    front = e.front;
-    row = e.row;
-    new = new;
-    back = e.under ++ e.back;
-    rows_are = there.rows_are;
-    front_size = refl;
-    shape = shape_same e.row tail;
-    read = row_made op c (first_row n s ss c e there) new us puts change makes size;
-  }
+  changes_row size = row_changes op c (first_row n s ss c e there) new us puts change makes size e refl (shape_same e.row tail)
 
 pub line_comment_is_put : LineCommentIsPut
 line_comment_is_put n [] text c e ss read is so = absurd (no_root_rows n c e is)

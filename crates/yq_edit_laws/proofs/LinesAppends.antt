@@ -1,22 +1,17 @@
 -- One entry more on a line after those of a root, or of a collection that begins after a dash.
-use Rattle.std.proofs.Common.{◌≡◌, ℕ, ◌<◌, Bool, true, false, cond, eqb, not, List, [], ◌∷◌, ◌++◌, length, Option, Some, None, option_map}
-use Rattle.std.{proofs.Common.{replicate, refl, rules, sym, ap, ◌∙◌, subst, arith, append_assoc}, proofs.lemmas.Bool.eqb-true}
-use Rattle.std.specs.Option.{option_or}
-use Rattle.yq_text.specs.Script.{Segment}
+use Rattle.std.proofs.Common.{◌≡◌, ℕ, ◌<◌, false, not, List, [], ◌∷◌, ◌++◌, length, Option, Some, None, option_map, refl, rules, sym, ap}
+use Rattle.std.{proofs.Common.{◌∙◌, subst, append_assoc}, proofs.lemmas.Bool.eqb-true}
 use Rattle.yq_core.{specs.Answers.◌>>=◌, specs.Paths.Step, specs.Text.is_empty, specs.Tree.Node}
 use Rattle.yq_outline.specs.Outline.{null_node}
 use Rattle.yq_row_table.{specs.Exchange.row_front, specs.Rows.{Cut, Row, after_indent, cut_text, print_row, rows_text}}
 use Rattle.yq_documents.specs.Reading.{read_at}
 use Rattle.yq_semantics.specs.Operations.{append}
-use Rattle.yq_places.{specs.CollectionEnds.CollectionEnd, specs.FlowNodes.flow_collection, specs.PlacedRows.{PlacedPart, placed_document}}
-use Rattle.yq_places.specs.RowPieces.{upto_dash}
-use Rattle.yq_places.specs.Placements.{LinesIn, RowsOfEntry, Placement, alone, before_entry, after_entry, past_mark, compact_in}
-use Rattle.yq_places.specs.Placements.{compact_lines, dash_text, entry_placement, is_alone, lone, root, root_lines, root_placement}
-use Rattle.yq_places.specs.Placements.{rows_of_entry, placement_at}
+use Rattle.yq_places.{specs.CollectionEnds.CollectionEnd, specs.PlacedRows.{PlacedPart, placed_document}, specs.RowPieces.upto_dash}
+use Rattle.yq_places.specs.Placements.{LinesIn, RowsOfEntry, Placement, before_entry, after_entry, compact_in, compact_lines, dash_text}
+use Rattle.yq_places.specs.Placements.{entry_placement, is_alone, root, root_lines, rows_of_entry, placement_at}
 use Rattle.yq_edit_rules.{specs.declared.layout.Layout.Layout, specs.CollectionPlaces.IsCollectionEnd, specs.Edits.op_edits}
-use Rattle.yq_edit_rules.{specs.EntryEdits.{block_more, more_lines}, specs.FlowParts.flow_more, specs.Layouts.layout_of}
-use Rattle.yq_edit_rules.{specs.PiecePuts.after_lines, specs.RowChanges.PutsOne, specs.PlacementLaws.HasItsRows}
-use Rattle.yq_edit_rules.proofs.AppendPlaces.{IsAppendPlace}
+use Rattle.yq_edit_rules.{specs.EntryEdits.{block_more, more_lines}, specs.Layouts.layout_of, specs.PiecePuts.after_lines}
+use Rattle.yq_edit_rules.{specs.RowChanges.PutsOne, specs.PlacementLaws.HasItsRows, proofs.AppendPlaces.IsAppendPlace}
 use Rattle.yq_edit_laws.{proofs.CollectionIsThere.{end_at, front_there, headless_dash, root_rows_there}, proofs.EntryAdds.AddsEntry}
 use Rattle.yq_edit_laws.proofs.FinalBreaks.{feed_last, last_feed}
 use Rattle.yq_edit_laws.proofs.MoreLaws.{compact_column, compact_end, compact_some, compact_spelled, compact_text, root_end, root_place}
@@ -37,9 +32,7 @@ module _ (m : ℕ) (steps : List Step) (key : List ℕ) (v : Node) (d : Cut) (w 
   more_is = search rules
 
   edited : op_edits (append m steps (Some key) v) d ≡ Some (after_lines w lines)
-  edited =
-      ap (λ (o : Option (List Segment)). option_or o (flow_collection m steps d >>= flow_more (cut_text d) (Some key) v)) more
-      ∙ ap (λ (t : List ℕ). Some (after_lines w t)) more_is
+  edited = search (rules, more_is)
 
   pub lines_adds : AddsEntry m steps key v d place.part front back x.column x.before x.after
   lines_adds = record {
@@ -70,9 +63,7 @@ module _ (m : ℕ) (d : Cut) (q : PlacedPart) (read : read_at (cut_text d) ≡ S
   upto = q.before ++ rows_text q.part.rows []
 
   parts : upto ≡ root_w.before ++ own
-  parts =
-      ap (λ (us : List Row). q.before ++ rows_text us []) are
-      ∙ (ap (λ (t : List ℕ). q.before ++ t) (sym (append_assoc r.gap (replicate r.column 32) own)) ∙ sym (append_assoc q.before (r.gap ++ replicate r.column 32) own))
+  parts = search (rules, append_assoc)
 
   -- a line ends those of a root, if the text has a break before what comes after them
   pub root_last_some : (text : List ℕ) → upto ≡ text ++ (10 ∷ []) → is_empty root_w.last ≡ false
@@ -88,9 +79,7 @@ module _ (m : ℕ) (d : Cut) (q : PlacedPart) (read : read_at (cut_text d) ≡ S
   root_adds key v broken =
       let x : CollectionEnd = root_end m d q read at r rs are single in
       let place : IsAppendPlace m [] d x = root_place m d q read at r rs are single in
-      let is_located : placement_at m [] d ≡ Some (root r.column root_w) =
-      ap (option_map (λ (p : PlacedPart). root_placement p p.part.rows)) at
-      ∙ (ap (λ (us : List Row). Some (root_placement q us)) are ∙ ap (λ (b : Bool). Some (cond b (alone (lone q.before r (rows_text rs (q.part.end ++ q.after)))) (root r.column root_w))) single) in
+      let is_located : placement_at m [] d ≡ Some (root r.column root_w) = search (rules, are, single) in
       lines_adds m [] key v d root_w x place q.part.rows [] (λ y. root_rows_there m d q.part x y) broken refl (root_spelled m d q read at r rs are single) refl
       (ap (λ (o : Option Placement). o >>= block_more (layout_of m d) (Some key) v) is_located)
 
@@ -120,11 +109,7 @@ module _ (m : ℕ) (s : Step) (ss : List Step) (d : Cut) (e : RowsOfEntry) (read
       (compact_w.before ++ lf.0, dash_parts ∙ (ap (λ (t : List ℕ). compact_w.before ++ t) lf.1 ∙ sym (append_assoc compact_w.before lf.0 (10 ∷ []))))
 
   dash_placement : entry_placement e ≡ compact_in e
-  dash_placement = go (eqb e.line (length e.row.dashes)) refl
-    where
-      go : (b : Bool) → eqb e.line (length e.row.dashes) ≡ b → cond b (past_mark e e.row.content) (compact_in e) ≡ compact_in e
-      go true is = absurd (omega (arith, less, eqb-true e.line (length e.row.dashes) is))
-      go false is = refl
+  dash_placement = search (rules, eqb-true)
 
   pub compact_adds : (key : List ℕ) (v : Node) → is_empty compact_w.last ≡ false →
       AddsEntry m (s ∷ ss) key v d dash_is_there.part (e.front ++ (e.row ∷ e.under)) e.back (compact_column m s ss None null_node d e read found less) dash_upto (after_entry e)

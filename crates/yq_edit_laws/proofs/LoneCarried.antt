@@ -1,6 +1,6 @@
 -- A value in the place of a node alone on its line.
-use Rattle.std.proofs.Common.{◌≡◌, ◌⊎◌, inl, inr, is_some, ℕ, ◌≤◌, cond, List, [], ◌∷◌, ◌++◌, length, replicate, Some, refl, sym, ap, ◌∙◌}
-use Rattle.std.proofs.Common.{subst, append_assoc, append-nil, arith, length-append, rules}
+use Rattle.std.proofs.Common.{◌≡◌, ◌⊎◌, inl, inr, ℕ, ◌≤◌, cond, List, [], ◌∷◌, ◌++◌, length, replicate, Some, refl, sym, ap, ◌∙◌, subst}
+use Rattle.std.proofs.Common.{append_assoc, append-nil, arith, length-append, rules}
 use Rattle.yq_text.{specs.Limit.text_limit, specs.Script.{Segment, new_text, old_text}}
 use Rattle.yq_core.{specs.Paths.{Step, changed_at}, specs.Tree.Node, specs.declared.style.Place.TheVariants.Block as InBlock}
 use Rattle.yq_core.{specs.Nodes.node_text, proofs.NodesWrittenLaws.node_then}
@@ -9,24 +9,24 @@ use Rattle.yq_row_table.{specs.Exchange.{asked_after, row_front, with_content}, 
 use Rattle.yq_row_table.specs.Rows.{Bare, Row, following_gap, parent_indent, print_row, rows_text, Cut, cut_text, Part, part_text}
 use Rattle.yq_row_table.{specs.View.slices, proofs.CharacterLaws.ends_after, proofs.NodePieces.following_ends}
 use Rattle.yq_row_table.proofs.seams.SeamLaws.{rows_text-append}
-use Rattle.yq_outline.specs.Lines.{head_of}
 use Rattle.yq_documents.{specs.Documents.lead_of, specs.Reading.{documents, read_at, root_of}, specs.TreeEdits.replaced_node}
 use Rattle.yq_documents.specs.Pieces.{TextPiece}
-use Rattle.yq_places.{specs.PlacedRows.{PlacedPart, PlacedRow, placed_document}, specs.Placements.lone}
+use Rattle.yq_places.{specs.PlacedRows.{PlacedPart, PlacedRow, placed_document}, specs.Placements.{RowsOfEntry, lone}}
 use Rattle.yq_places.{proofs.CommentEndLaws.row_text_parts, proofs.CommentPieceLaws.gap_end, proofs.LineEndLaws.line_tail}
 use Rattle.yq_places.{proofs.RemovalLines.{LiesIn, LineSeam, lies_in, seam_join}, proofs.RunSpans.rows_then}
 use Rattle.yq_edit_rules.{specs.DocumentRows.{IsDocumentPart, after_document}, specs.InlineRows.LeadsToLone, specs.PlacedParts.IsDocumentAt}
-use Rattle.yq_edit_rules.{specs.Appends.inserted, specs.Changed.put_document, specs.Rooms.{is_block_root, row_shape}}
-use Rattle.yq_edit_rules.{proofs.ValueContentLaws.content_head, specs.TextPieces.IsPiece, proofs.CoreLaws.put_core}
-use Rattle.yq_edit_rules.{proofs.InlineReplaceLaws.own_rows, proofs.LeadLaws.same_lead_goes, proofs.PartLaws.document_known}
-use Rattle.yq_edit_rules.{proofs.PlacedPartLaws.document_is_there_at, proofs.RemovalPieceLaws.{seam_pieces, spaces_piece}}
+use Rattle.yq_edit_rules.{specs.Rooms.{is_block_root, row_shape}, proofs.ValueContentLaws.content_head, specs.TextPieces.IsPiece}
+use Rattle.yq_edit_rules.{proofs.CoreLaws.put_core, proofs.InlineReplaceLaws.own_rows, proofs.LeadLaws.same_lead_goes}
+use Rattle.yq_edit_rules.{proofs.PartLaws.document_known, proofs.PlacedPartLaws.document_is_there_at}
+use Rattle.yq_edit_rules.proofs.RemovalPieceLaws.{seam_pieces, spaces_piece}
 use Rattle.yq_edit_rules.{proofs.TextPieceLaws.{cut_after, pieces_joined, text_is_piece}, specs.EditLaws.{CarriedOut, IsEdit}}
 use Rattle.yq_edit_rules.{specs.ReplaceEdits.{spaced_text, lone_put}, specs.WrittenValues.value_text}
 use Rattle.yq_edit_rules.{proofs.EditsFitLaws.{FitsReplace, fits_replace}, proofs.KeptLaws.led_same}
 use Rattle.yq_edit_rules.{proofs.TailPieces.{HasTailPieces, pieces}, proofs.ValueTexts.{IsWrittenFor, value_for}}
+use Rattle.yq_edit_rules.specs.RowChanges.{ChangesRow}
 use Rattle.yq_semantics.{specs.Fits.Fits, specs.Operations.{Operation, replace}, specs.Rooms.room_of}
 use Rattle.yq_edit_laws.{proofs.LoneHeads.{EndsLow, IsLoneHead, before_head, lone_head}, proofs.MarkHeads.no_raw}
-use Rattle.yq_edit_laws.{proofs.HeldRows.head_there, proofs.OneRows.{MakesRow, PutsRow, RowIn, row_carried, row_made}}
+use Rattle.yq_edit_laws.{proofs.HeldRows.head_there, proofs.OneRows.{MakesRow, PutsRow, RowIn, row_carried, row_changes}}
 use Rattle.yq_edit_laws.proofs.LoneContents as contents
 
 -- A row that is alone on its line, among the rows of a document, to whose content steps lead; the rows before it end in an LF.
@@ -179,15 +179,12 @@ module _ (n : ℕ) (steps : List Step) (v : Node) (c : Cut) (read : read_at (cut
     carried : length (new_text us) ≤ text_limit → CarriedOut (replace n steps v) c us
     carried = row_carried op c here new us puts (changed_at steps (replaced_node v)) makes
 
-    -- its cut, with the row of the same shape
-    pub lone_made : length (new_text us) ≤ text_limit → read_at (new_text us) ≡ Some (put_document n (inserted front (new ∷ []) back d.part) c)
-    lone_made = row_made op c here new us puts (changed_at steps (replaced_node v)) makes
+    -- the row is of the same shape after it
+    shape : row_shape new ≡ row_shape r
+    shape = search (rules, content_head, x, place, head_there, row)
 
-    pub lone_shape : row_shape new ≡ row_shape r
-    lone_shape =
-        let headed : is_some (head_of new.content) ≡ is_some (head_of r.content) =
-        ap is_some (content_head v x.node x.is r.content place.block) ∙ sym (head_there (parent_indent r) r.content z row.content place.some) in
-        λ j. record { column = r.column; dashes = r.dashes; mark = r.mark; headed = headed j }
+    pub lone_changes : (e : RowsOfEntry) → length front ≡ length e.front → length (new_text us) ≤ text_limit → ChangesRow n c e us
+    lone_changes e same size = row_changes op c here new us puts (changed_at steps (replaced_node v)) makes size e same shape
 
   pub lone_carried : IsEdit (replace n steps v) c us
   lone_carried = record { old = old_is; carried = carried }

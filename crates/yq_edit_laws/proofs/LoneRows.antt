@@ -22,7 +22,7 @@ use Rattle.yq_edit_rules.{proofs.PlacedPartLaws.document_is_there_at, proofs.Pla
 use Rattle.yq_edit_rules.{specs.EditLaws.IsEdit, specs.ReplaceEdits.lone_put, proofs.PlacementMarks.under_it, specs.Operands.HasOperand}
 use Rattle.yq_edit_rules.specs.RowChanges.{ChangesRow, lone_rows, root_rows}
 use Rattle.yq_semantics.{specs.Fits.Fits, specs.Operations.replace, specs.Rooms.room_of}
-use Rattle.yq_edit_laws.proofs.LoneCarried.{lone_carried, lone_made, lone_shape, new, place}
+use Rattle.yq_edit_laws.proofs.LoneCarried.{lone_carried, lone_changes, place}
 use Rattle.yq_outline.specs.Outline as outline
 use Rattle.yq_row_table.specs.Rows as rows
 
@@ -127,24 +127,12 @@ module _ (n : ℕ) (s : Step) (ss : List Step) (v : Node) (c : Cut) (read : read
   puts_raw = record {
     edit = lone_carried n (s ∷ ss) v c read d placed front r (rs ++ e.back) rows_are (alone_row r alone).0 (alone_row r alone).1 leads ended;
     some = (place n (s ∷ ss) v c read d placed front r (rs ++ e.back) rows_are (alone_row r alone).0 (alone_row r alone).1 leads ended).some;
-    changes = λ operand fits size. record {
-      part = d.part;
-      there = is_located.there;
-      front = front;
-      row = r;
-      new = new n (s ∷ ss) v c read d placed front r (rs ++ e.back) rows_are (alone_row r alone).0 (alone_row r alone).1 leads ended operand fits;
-      back = rs ++ e.back;
-      rows_are = rows_are;
-      front_size = refl;
-      shape = lone_shape n (s ∷ ss) v c read d placed front r (rs ++ e.back) rows_are (alone_row r alone).0 (alone_row r alone).1 leads ended operand fits;
-      read = lone_made n (s ∷ ss) v c read d placed front r (rs ++ e.back) rows_are (alone_row r alone).0 (alone_row r alone).1 leads ended operand fits size;
-    };
+    changes = λ operand fits.
+        lone_changes n (s ∷ ss) v c read d placed front r (rs ++ e.back) rows_are (alone_row r alone).0 (alone_row r alone).1 leads ended operand fits (lone_rows e r rs) refl;
   }
 
   puts_there : PutsLone n (s ∷ ss) v c (lone_rows e r rs) (lone (before_entry e ++ print_row e.row []) r (rows_text rs (after_entry e)))
-  puts_there =
-      subst (λ (b : List ℕ). PutsLone n (s ∷ ss) v c (lone_rows e r rs) (lone b r (rows_text rs (after_entry e)))) before_is
-      (subst (λ (z : List ℕ). PutsLone n (s ∷ ss) v c (lone_rows e r rs) (lone (d.before ++ rows_text front []) r z)) following_is puts_raw)
+  puts_there = search (rules, before_is, following_is, puts_raw)
 
 pub lone_puts_under : (n : ℕ) (s : Step) (ss : List Step) (v : Node) (c : Cut) (e : RowsOfEntry) (r : Row) (rs : List Row) → read_at (cut_text c) ≡ Some c → rows_of_entry n (s ∷ ss) c ≡ Some e → e.line ≡ length e.row.dashes →
     e.under ≡ r ∷ rs → is_alone r ≡ true → PutsLone n (s ∷ ss) v c (lone_rows e r rs) (lone (before_entry e ++ print_row e.row []) r (rows_text rs (after_entry e)))
@@ -175,18 +163,7 @@ module _ (n : ℕ) (v : Node) (c : Cut) (d : PlacedPart) (r : Row) (rs : List Ro
   root_raw = record {
     edit = lone_carried n [] v c read d placed [] r rs are (alone_row r alone).0 (alone_row r alone).1 root (inl refl);
     some = (place n [] v c read d placed [] r rs are (alone_row r alone).0 (alone_row r alone).1 root (inl refl)).some;
-    changes = λ operand fits size. record {
-      part = d.part;
-      there = root_old.there;
-      front = [];
-      row = r;
-      new = new n [] v c read d placed [] r rs are (alone_row r alone).0 (alone_row r alone).1 root (inl refl) operand fits;
-      back = rs;
-      rows_are = are;
-      front_size = refl;
-      shape = lone_shape n [] v c read d placed [] r rs are (alone_row r alone).0 (alone_row r alone).1 root (inl refl) operand fits;
-      read = lone_made n [] v c read d placed [] r rs are (alone_row r alone).0 (alone_row r alone).1 root (inl refl) operand fits size;
-    };
+    changes = λ operand fits. lone_changes n [] v c read d placed [] r rs are (alone_row r alone).0 (alone_row r alone).1 root (inl refl) operand fits (root_rows d r rs) refl;
   }
 
   pub lone_puts_root : PutsLone n [] v c (root_rows d r rs) (lone d.before r (rows_text rs (d.part.end ++ d.after)))

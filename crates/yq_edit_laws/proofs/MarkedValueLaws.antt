@@ -13,7 +13,7 @@ use Rattle.yq_edit_rules.{specs.Layouts.layout_of, specs.ReplaceEdits.{has_text,
 use Rattle.yq_edit_rules.proofs.EditsFitLaws.{fits_replace}
 use Rattle.yq_semantics.specs.Operations.{replace}
 use Rattle.yq_edit_laws.{specs.MarkedValues.{MarkedValuesArePut, is_marked}, proofs.DashCarried.{dash_carried, dash_old}}
-use Rattle.yq_edit_laws.{proofs.HeldEdits.{at_edit, below_edit}, proofs.HeldKnown.{KnowsHeld, first_alone}}
+use Rattle.yq_edit_laws.{proofs.HeldEdits.{at_edit, below_edit}, proofs.HeldCarried.{KnowsHeld, first_alone}}
 use Rattle.yq_edit_laws.{proofs.HeldRows.{headless_there, held_known}, proofs.LoneRows.{lone_edit, lone_root_edit}}
 use Rattle.yq_edit_laws.proofs.ScalarPuts.{scalar_edit}
 use Rattle.yq_places.specs.Placements as placements

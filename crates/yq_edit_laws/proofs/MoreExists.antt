@@ -20,8 +20,8 @@ use Rattle.yq_edit_rules.{specs.EditLaws.AppendHasEdit, specs.EntryEdits.block_m
 use Rattle.yq_edit_rules.{specs.FlowParts.{flow_more, takes_key}, specs.Layouts.layout_of}
 use Rattle.yq_semantics.specs.Fits.{Takes}
 use Rattle.yq_text.specs.Script.{Segment}
-use Rattle.yq_edit_laws.{proofs.CollectionCases.collection_cases, proofs.DocumentParts.part_of, proofs.FlowHeldLines.flow_there}
-use Rattle.yq_edit_laws.{proofs.FlowHeldNodes.{FlowContent as Holds, held as held_in}, proofs.PlacementExists.{placed_there, rows_there}}
+use Rattle.yq_edit_laws.{proofs.FlowHeldNodes.{collection_cases, FlowContent as Holds, held as held_in}, proofs.DocumentParts.part_of}
+use Rattle.yq_edit_laws.{proofs.FlowHeldLines.flow_there, proofs.PlacementExists.{placed_there, rows_there}}
 use Rattle.yq_core.specs.Tree as tree
 use Rattle.yq_outline.specs.Outline as outlines
 

@@ -26,7 +26,7 @@ use Rattle.yq_edit_rules.{proofs.CommentRowLaws.{entry_is_row, entry_row, rows_f
 use Rattle.yq_edit_laws.proofs.CollectionRows.{EndIn, past_front, text_broken}
 use Rattle.yq_edit_laws.proofs.CollectionIsThere.{are, begins_after, begins_under, end_at, ends_there, headless_dash, headless_mark}
 use Rattle.yq_edit_laws.{proofs.CollectionIsThere.root_ends, proofs.FinalBreaks.{entry_some, mark_some}}
-use Rattle.yq_edit_laws.proofs.MorePuts.{IsPutAt, edit_at, held_put_at, lines_put_at}
+use Rattle.yq_edit_laws.proofs.AppendInside.{IsPutAt, edit_at, held_put_at, lines_put_at}
 
 -- Segments put one more item or entry at the end of a block collection.
 abbrev IsMore : ℕ → List Step → Option (List ℕ) → Node → Cut → List Segment → Type 0

@@ -1,7 +1,7 @@
 -- Collections to which steps lead in a node, each item or entry found on its own.
 use Rattle.std.proofs.Common.{rules, ◌≡◌, ◌-◌, ◌<◌, ◌≤◌, List, [], ◌∷◌, Option, Some, None, Bool, true, false, cond, drop, length, map}
 use Rattle.std.{proofs.Common.{slice_index_or, take, arith, sym, ap, ◌∙◌, subst, take_all}, proofs.lemmas.Option.{none-some, same_Some}}
-use Rattle.std.{proofs.lemmas.Bool.false≢true, specs.Prelude.option_and_then}
+use Rattle.std.proofs.lemmas.Bool.{false≢true}
 use Rattle.yq_core.{specs.Answers.◌>>=◌, specs.Entries.{PlacedEntry, flow_part_at, parts_of, placed_entry_at, tree_step}}
 use Rattle.yq_core.{specs.Keys.{EachHasUniqueKeys, HasUniqueKeys}, specs.Paths.{Step, further, is_here}, specs.Tree.key_label}
 use Rattle.yq_core.{specs.Places.{Parts, Placed, end, part}, specs.Trees.{parts_tree, placed_tree, unplaced_key}}
@@ -38,16 +38,12 @@ part_unique p s e h at is = parts_unique p h s e (sym at)
 -- the steps after it lead on from there
 pub goes_on : (ss : List declared.Step) (s : declared.Step) (slot e : PlacedEntry) (o : Option PlacedEntry) → 1 ≤ length ss → s ≡ slice_index_or ss 0 s → Some e ≡ flow_part_at (tree_step s) (parts_of slot.1) →
     placed_entry_at (map tree_step ss) slot ≡ o → placed_entry_at (map tree_step (later ss)) e ≡ o
-goes_on ss s slot e o some first at leads =
-    ap (option_and_then (placed_entry_at (map tree_step (later ss)))) at
-    ∙ (ap (λ (x : List declared.Step). placed_entry_at (map tree_step x) slot) (sym (apart ss s some first)) ∙ leads)
+goes_on ss s slot e o some first at leads = search (rules, apart, first, leads)
 
 -- or it leads nowhere
 pub stops : (ss : List declared.Step) (s : declared.Step) (slot : PlacedEntry) (o : Option PlacedEntry) → 1 ≤ length ss → s ≡ slice_index_or ss 0 s → None ≡ flow_part_at (tree_step s) (parts_of slot.1) →
     placed_entry_at (map tree_step ss) slot ≡ o → None ≡ o
-stops ss s slot o some first at leads =
-    ap (option_and_then (placed_entry_at (map tree_step (later ss)))) at
-    ∙ (ap (λ (x : List declared.Step). placed_entry_at (map tree_step x) slot) (sym (apart ss s some first)) ∙ leads)
+stops ss s slot o some first at leads = search (rules, apart, first, leads)
 
 pub ended : (ss : List declared.Step) (slot : PlacedEntry) (o : Option PlacedEntry) → length ss < 1 → placed_entry_at (map tree_step ss) slot ≡ o → Some slot ≡ o
 ended [] slot o none leads = leads

@@ -1,20 +1,22 @@
 -- What each operation puts is near.
 use Rattle.std.proofs.Common.{rules, ◌≡◌, ◌⊎◌, inl, inr, ℕ, ◌≤◌, Bool, true, false, cond, eqb, List, [], ◌∷◌, length, Option, Some, None}
-use Rattle.std.{proofs.Common.{option_map, refl, subst}, specs.Prelude.⊤, proofs.lemmas.Option.{none-some, same_Some}}
-use Rattle.std.specs.Option.{option_or}
+use Rattle.std.{proofs.Common.{option_map, refl, subst, ap, sym, ◌&&◌, ◌++◌, ◌∙◌, append_assoc, append-nil}, specs.Prelude.⊤}
+use Rattle.std.{proofs.lemmas.Option.{none-some, same_Some}, specs.Option.option_or, proofs.lemmas.Bool.or_parts}
 use Rattle.yq_core.{specs.Answers.◌>>=◌, specs.Paths.Step, specs.Scalar.ScalarText, specs.Tree.Node, specs.Writable.can_write}
 use Rattle.yq_core.{specs.Written.double, specs.declared.style.Place.TheVariants.Block as InBlock}
-use Rattle.yq_core.{specs.declared.style.Style.TheVariants.Literal, proofs.Bools.bind_some, specs.Collections.CollPieces}
-use Rattle.yq_core.specs.NodesWritten.{flow_key, flow_of}
+use Rattle.yq_core.{specs.declared.style.Style.TheVariants.Literal, proofs.Bools.{bind_some, at_byte}, specs.Collections.CollPieces}
+use Rattle.yq_core.{specs.NodesWritten.{flow_key, flow_of}, specs.Text.{NoneIn, ends_line, front, is_empty, is_feed, is_return, is_white}}
 use Rattle.yq_text.{specs.Limit.text_limit, specs.Script.{Segment, from_first, keep, new_text}}
-use Rattle.yq_row_table.specs.Rows.{Cut, Row, cut_text}
+use Rattle.yq_row_table.{specs.Rows.{Cut, Row, cut_text, parent_indent, rows_text}, specs.Exchange.asked_after}
+use Rattle.yq_row_table.{specs.Gap.{IsComment, IsWhite}, specs.Grammar.{IsRow, IsTail, unlimited}, specs.View.slices}
 use Rattle.yq_documents.specs.Reading.{documents, read_at}
 use Rattle.yq_flow_edits.{specs.FlowEdits.{FlowEdit, appending}, specs.Removals.removing, proofs.RemoveTexts.either}
 use Rattle.yq_places.{specs.FirstPlaces.first_removal, specs.FlowNodes.flow_collection, specs.NodesAt.node_in}
 use Rattle.yq_places.{specs.PlacedRows.{PlacedPart, placed_document}, specs.RemovalPlaces.{has_others_at, removal_place}}
 use Rattle.yq_places.specs.Placements.{Held, RowsOfEntry, Placement, alone, below, beside, block, compact, entry_placement, flow_placement}
-use Rattle.yq_places.specs.Placements.{held, last_step, no_rows, rows_of_entry, root, root_placement, placement_at, under}
-use Rattle.yq_places.proofs.PrintedTexts.{map_some}
+use Rattle.yq_places.specs.Placements.{held, last_step, no_rows, rows_of_entry, root, root_placement, placement_at, under, after_entry}
+use Rattle.yq_places.{proofs.PrintedTexts.map_some, specs.CommentPlaces.{LineEnd, end_in_line}, specs.PrintedLines.last_break}
+use Rattle.yq_places.proofs.LineEndLaws.{line_tail}
 use Rattle.yq_semantics.{specs.Fits.Fits, specs.Operations.{replace, append, remove, line_comment, head_comment}, specs.Rooms.room_of}
 use Rattle.yq_edit_rules.{specs.declared.layout.Layout.Layout, specs.CommentEdits.{comment_put, head_comment_put, line_comment_put}}
 use Rattle.yq_edit_rules.specs.Edits.{part_removed, replace_segments, rows_or_sole, sole_removed}
@@ -22,9 +24,69 @@ use Rattle.yq_edit_rules.specs.EntryEdits.{block_more, one_removed}
 use Rattle.yq_edit_rules.{specs.FlowParts.{flow_more, flow_put, flow_removed, flow_segments, takes_key}, specs.Layouts.layout_of}
 use Rattle.yq_edit_rules.specs.Removing.{first_removed, rows_removed}
 use Rattle.yq_edit_rules.specs.ReplaceEdits.{block_put, has_text, held_put, literal_put, block_scalar_put, string_put, value_put}
-use Rattle.yq_edit_rules.{specs.Replacing.keeps_scalar, specs.WrittenValues.{Written, compact_text, inline, lines}}
-use Rattle.yq_edit_laws.specs.TouchedRanges.{AreInLines, EditsAreNear, IsLocalEdit}
-use Rattle.yq_edit_laws.{proofs.HeldRanges.{IsInLine, held_in_line, nothing_line}, proofs.RemovingLaws.rows_near}
+use Rattle.yq_edit_rules.{specs.ReplaceEdits.line_break, specs.Replacing.keeps_scalar}
+use Rattle.yq_edit_rules.{specs.WrittenValues.{Written, compact_text, inline, lines}, specs.PlacementLaws.HasItsRows}
+use Rattle.yq_edit_rules.{proofs.PlacementMarks.row_there, proofs.PlacementRows.rows_located, proofs.BreakLaws.{IsLfOrCrLf, last_is}}
+use Rattle.yq_edit_rules.proofs.HeldPieces.{break_cases, end_agrees}
+use Rattle.yq_edit_laws.{specs.TouchedRanges.{AreInLines, EditsAreNear, IsLocalEdit, is_one_line}, proofs.RemovingLaws.rows_near}
+
+-- ---- what is kept after the head of a key or dash is a part of its line
+
+-- ---- a part of a line
+
+byte_before : (b : ℕ) (t : List ℕ) → is_feed b ≡ false → is_one_line t ≡ true → is_one_line (b ∷ t) ≡ true
+unfolding is_one_line
+byte_before b t out h = ap (λ (x : Bool). cond x (is_empty t) (is_one_line t)) out ∙ h
+
+white_before : (w t : List ℕ) → IsWhite w → is_one_line t ≡ true → is_one_line (w ++ t) ≡ true
+white_before [] t blank h = h
+white_before (b ∷ w) t blank h = byte_before b (w ++ t) (at_byte is_white b 10 blank.0 refl) (white_before w t blank.1 h)
+
+line_before : (p rest t : List ℕ) → NoneIn ends_line p rest → is_one_line t ≡ true → is_one_line (p ++ t) ≡ true
+line_before [] rest t none h = h
+line_before (b ∷ p) rest t none h = byte_before b (p ++ t) (or_parts (is_feed b) (is_return b && front is_feed (p ++ rest)) none.0).0 (line_before p rest t none.1 h)
+
+comment_before : (comment break t : List ℕ) → IsComment comment break → is_one_line t ≡ true → is_one_line (comment ++ t) ≡ true
+comment_before [] break t as_comment h = h
+comment_before (b ∷ bs) break t as_comment h = byte_before b (bs ++ t) (ap is_feed as_comment.0) (line_before bs break t as_comment.1 h)
+
+pub nothing_line : is_one_line [] ≡ true
+unfolding is_one_line
+nothing_line = refl
+
+break_line : (b : List ℕ) → (b ≡ []) ⊎ IsLfOrCrLf b → is_one_line b ≡ true
+unfolding is_one_line
+break_line b e = search rules
+
+-- ---- a key or dash
+
+-- The white space and the comment after what a key or dash holds are a part of a line, and with the break after them.
+pub record IsInLine (h : Held) : Type 0 where
+  pub ends : is_one_line (h.white ++ h.comment) ≡ true
+  pub broken : is_one_line ((h.white ++ h.comment) ++ line_break h) ≡ true
+
+-- the break of its line
+break_there : (x : Bool) (b l : List ℕ) → is_one_line b ≡ true → is_one_line l ≡ true → is_one_line (cond (is_empty (cond x [] b)) (cond x b l) (cond x [] b)) ≡ true
+break_there x b l h k = search rules
+
+pub held_in_line : (n : ℕ) (s : Step) (ss : List Step) (c : Cut) (e : RowsOfEntry) → read_at (cut_text c) ≡ Some c → rows_of_entry n (s ∷ ss) c ≡ Some e → IsInLine (held e)
+held_in_line n s ss c e read at =
+    let there : HasItsRows n s ss c e = rows_located n s ss c e read at in
+    let row : IsRow (asked_after unlimited e.front) e.row (rows_text e.under (after_entry e)) = row_there n s ss c e there in
+    let tail : IsTail (slices e.row).tail ((slices e.row).raw ++ rows_text e.under (after_entry e)) = line_tail (parent_indent e.row) e.row.content (rows_text e.under (after_entry e)) row.content in
+    let agrees : end_in_line [] (slices e.row).tail ≡ record { before = []; white = tail.white; comment = tail.comment; after = tail.line.break } = end_agrees (slices e.row).tail _ tail in
+    let below : List ℕ = (slices e.row).raw ++ rows_text e.under [] in
+    let last : List ℕ = last_break below in
+    let own : is_one_line tail.line.break ≡ true = break_line tail.line.break (break_cases tail.line.break _ tail.line.ends) in
+    let at_end : is_one_line last ≡ true = break_line last (last_is below) in
+    record {
+      ends = subst (λ (x : LineEnd). is_one_line (x.white ++ x.comment) ≡ true) (sym agrees)
+          (white_before tail.white tail.comment tail.line.blank
+          (ap is_one_line (sym (append-nil tail.comment)) ∙ comment_before tail.comment tail.line.break [] tail.line.as_comment nothing_line));
+      broken = search (rules, is_one_line, append_assoc, white_before, comment_before, break_there);
+    }
+
+-- ---- what each operation puts is near
 
 -- between two that are exchanged no more than a part of a line is kept
 abbrev InLines : List Segment → Type 0

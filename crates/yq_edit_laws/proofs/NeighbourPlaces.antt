@@ -78,9 +78,7 @@ module _ (t : List ℕ) (k : ℕ) where
       go : (b : Bool) → cond b (option_map (remove_before t (total - length (first_ends k key n sep is rest).0)) (first_start (locate_items total k is rest)))
           (option_or (last_gone (further s) (first_ends k key n sep is rest) (locate_items total k is rest)) (remove_part t (further s) (locate_items total k is rest)))
           ≡ (cond b (Some (record { before = None; here = first_ends k key n sep is rest; next = first_text k is rest })) (around_part k (further s) (Some (first_ends k key n sep is rest)) is rest) >>= gone)
-      go true =
-          ap (option_map (remove_before t (total - length (first_ends k key n sep is rest).0))) (next_start is rest)
-          ∙ before_gone (total - length (first_ends k key n sep is rest).0) (total - length (first_ends k key n sep is rest).1) (option_map (λ (l : List ℕ). total - length l) (first_text k is rest))
+      go true = simp (next_start, before_gone) refl
       go false = after_one (further s) (first_ends k key n sep is rest) is rest
 
 -- in a collection of a text alone

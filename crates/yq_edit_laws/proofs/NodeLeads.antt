@@ -1,6 +1,6 @@
 -- The text of a row up to where something is written after its key or dash.
-use Rattle.std.proofs.Common.{◌≡◌, ℕ, ◌+◌, ◌≤◌, Bool, true, false, cond, List, [], ◌∷◌, ◌++◌, length, replicate, sym, ap, ◌∙◌, append_assoc}
-use Rattle.std.{proofs.Common.arith, proofs.lemmas.List.length-append}
+use Rattle.std.proofs.Common.{◌≡◌, ℕ, ◌+◌, ◌≤◌, Bool, true, false, cond, List, [], ◌∷◌, ◌++◌, length, replicate, sym, ap, ◌∙◌, arith}
+use Rattle.std.proofs.lemmas.List.{length-append}
 use Rattle.yq_core.specs.Text.{is_empty}
 use Rattle.yq_row_table.specs.Exchange.{row_front, with_content}
 use Rattle.yq_row_table.specs.Rows.{Content, content_text, Row, after_dashes, following_gap, after_indent, dashes_text, print_row}
@@ -9,27 +9,7 @@ use Rattle.yq_row_table.{proofs.seams.JoinLaws.dashes_text-append, proofs.SliceL
 use Rattle.yq_places.specs.RowPieces.{anchor_before, space_before}
 use Rattle.yq_edit_rules.{specs.BlockPlaces.{IsUpto, at_mark, at_dash}, specs.Local.InFirst, proofs.ItemsLocal.first_within}
 
--- it lies in the row
-pub own_lead : (r : Row) → length (row_front r ++ anchor_before (slices r)) ≤ length (print_row r [])
-own_lead r =
-    let x = content_cut r.content in
-    let more : List ℕ = x.2 ++ (x.3 ++ (x.4 ++ (x.5 ++ []))) in
-    let text : content_text r.content [] ≡ (x.0 ++ x.1) ++ more = sym (content_slices r.content []) ∙ sym (append_assoc x.0 x.1 more) in
-    omega (
-      arith,
-      ap length (row_front-append r []),
-      ap length text,
-      length-append (row_front r) (content_text r.content []),
-      length-append (x.0 ++ x.1) more,
-      length-append (row_front r) (anchor_before (slices r)),
-      held (is_empty x.1) (x.0 ++ x.1),
-    )
-  where
-    held : (b : Bool) (t : List ℕ) → length (cond b [] t) ≤ length t
-    held true t = omega arith
-    held false t = omega arith
-
--- so does that with the white space after these
+-- it lies in the row, with the white space after it
 pub own_space_lead : (r : Row) → length (row_front r ++ (anchor_before (slices r) ++ space_before (slices r))) ≤ length (print_row r [])
 own_space_lead r =
     let x = content_cut r.content in
@@ -51,6 +31,13 @@ own_space_lead r =
     spaced : (b : Bool) (p q r : List ℕ) → length (cond b [] (p ++ q)) + length (cond b p r) ≤ length p + (length q + length r)
     spaced true p q r = omega arith
     spaced false p q r = omega (arith, length-append p q)
+
+-- so does that without the white space
+pub own_lead : (r : Row) → length (row_front r ++ anchor_before (slices r)) ≤ length (print_row r [])
+own_lead r =
+    let a : List ℕ = anchor_before (slices r) in
+    let w : List ℕ = space_before (slices r) in
+    omega (arith, own_space_lead r, length-append (row_front r) a, length-append (row_front r) (a ++ w), length-append a w)
 
 -- so does the text up to a dash
 pub upto_long : {s r : Row} → IsUpto s r → length (row_front s) ≤ length (print_row r [])

@@ -1,22 +1,60 @@
 -- The rows of an item or entry in the text of a cut, and their lines.
 use Rattle.std.proofs.Common.{◌≡◌, ℕ, suc, ◌+◌, ◌≤◌, true, List, [], ◌∷◌, ◌++◌, length, Some, sym, ap, ◌∙◌, subst, arith, length-append}
-use Rattle.std.{proofs.Common.rules, specs.Str.is_utf8}
+use Rattle.std.{proofs.Common.{rules, None, append_assoc, ◌<◌}, specs.Str.is_utf8, proofs.lemmas.Bool.false≢true}
 use mathlib.Core.List.{head-eq_of_cons-eq}
 use Rattle.yq_core.{specs.Paths.Step, proofs.Bools.guard_then}
-use Rattle.yq_outline.{specs.Comments.head_comment, specs.Group.{group, is_fine, level_or}, specs.Outline.{Line, level, flatten, IsEven}}
-use Rattle.yq_outline.{specs.Places.{lines_before, lines_after, FoundLine, find}, proofs.Decides.flatten-group}
-use Rattle.yq_outline.specs.Lines.{line_mark, lines_of_rows}
+use Rattle.yq_outline.{specs.Comments.head_comment, specs.Group.{group, is_fine, level_or}}
+use Rattle.yq_outline.{specs.Outline.{Line, level, flatten, IsEven, Outline}, specs.Places.{lines_before, lines_after, FoundLine, find}}
+use Rattle.yq_outline.{proofs.Decides.flatten-group, specs.Lines.{line_mark, lines_of_rows, dash_line, lines_from, mark_line}}
 use Rattle.yq_row_table.{specs.Exchange.{allows_first, asked_after}, specs.Grammar.{Limit, unlimited, limit_after, AreRows, is_entry}}
-use Rattle.yq_row_table.specs.Rows.{Row, mark_column, rows_text, Part, part_text, Cut, cut_text}
+use Rattle.yq_row_table.specs.Rows.{Row, mark_column, rows_text, Part, part_text, Cut, cut_text, Content, Nothing, after_columns}
 use Rattle.yq_documents.{specs.Documents.document_parts, specs.Reading.{part_outline, read_at}, proofs.PartRows.each}
 use Rattle.yq_documents.proofs.ReadLaws.{text_takes}
-use Rattle.yq_places.proofs.RowPathLaws.{StartsAt, document_fine, found_starts}
+use Rattle.yq_places.{proofs.RowPathLaws.{StartsAt, document_fine, found_starts}, specs.Placements.{RowsOfEntry, after_entry}}
 use Rattle.yq_edit_rules.{specs.Changed.put_document, specs.DocumentRows.{IsDocumentPart, after_document}, specs.LineRows.Begins}
-use Rattle.yq_edit_rules.{proofs.AppendLaws.around, proofs.InlineReplaceLaws.{next_by, own_rows}, proofs.LineLaws.dashes_count}
-use Rattle.yq_edit_rules.{proofs.PartLaws.document_known, proofs.PlacedLaws.{found_is_entry, rows_in_parts, same_parts, whole_line}}
-use Rattle.yq_edit_rules.{proofs.UnderLaws.{line_with, dashes_of}, proofs.FirstReplaceLaws.rows_after, specs.BlockPlaces.IsUpto}
-use Rattle.yq_edit_laws.proofs.RowLines.{lines_upto}
+use Rattle.yq_edit_rules.{proofs.AppendLaws.around, proofs.InlineReplaceLaws.{next_by, own_rows}}
+use Rattle.yq_edit_rules.{proofs.LineLaws.{dashes_count, above_mark}, proofs.PartLaws.document_known}
+use Rattle.yq_edit_rules.proofs.PlacedLaws.{found_is_entry, rows_in_parts, same_parts, whole_line}
+use Rattle.yq_edit_rules.{proofs.UnderLaws.{line_with, dashes_of, gone_lines}, proofs.FirstReplaceLaws.rows_after}
+use Rattle.yq_edit_rules.{specs.BlockPlaces.{IsUpto, at_mark, at_dash}, specs.PlacementLaws.HasItsRows}
+use Rattle.yq_edit_rules.{proofs.PlacementMarks.{after_there, entry_there}, proofs.AppendEntryLaws.none_uncommented, specs.Moved.dash_lines}
+use Rattle.yq_edit_rules.specs.Siblings.{HasEntries, IsEntry}
 use Rattle.yq_outline.specs.Outline as outline
+use Rattle.yq_row_table.specs.Rows as rows
+
+-- ---- the lines of a row up to a key or dash, and those after it
+
+following_lines : (above : List (List ℕ)) (column : ℕ) (ns : List ℕ) (n : ℕ) (ms : List ℕ) (m : rows.RowMark) (x : Content) →
+    lines_from above column (ns ++ (n ∷ ms)) m x ≡ dash_lines above column ns ++ (mark_line (above_mark above ns) (after_columns column ns) rows.Dash (Nothing []) ∷ lines_from [] (suc (after_columns column ns + n)) ms m x)
+following_lines above column [] n ms m x = λ i. record { column = column; mark = outline.Dash; anchor = None; head = None; head_comment = above; line_comment = sym none_uncommented i } ∷ lines_from [] (suc (column + n)) ms m x
+following_lines above column (k ∷ []) n ms m x = ap (λ (ls : List Line). dash_line above column ∷ ls) (following_lines [] (suc (column + k)) [] n ms m x)
+following_lines above column (k ∷ (j ∷ ns)) n ms m x = ap (λ (ls : List Line). dash_line above column ∷ ls) (following_lines [] (suc (column + k)) (j ∷ ns) n ms m x)
+
+pub lines_upto : {s r : Row} → IsUpto s r → (under : List Row) → (more : List Line) × (lines_of_rows (r ∷ under) ≡ dashes_of s ++ (line_with s s.content ∷ more))
+lines_upto (at_mark {r} entry) under = (lines_of_rows under, gone_lines r under)
+lines_upto (at_dash {r} {ns} n ms is) under =
+    let line : Line = mark_line (above_mark (head_comment r.gap) ns) (after_columns r.column ns) rows.Dash (Nothing []) in
+    let more : List Line = lines_from [] (suc (after_columns r.column ns + n)) ms r.mark r.content in (
+      more ++ lines_of_rows under,
+      ap (λ ks. lines_from (head_comment r.gap) r.column ks r.mark r.content ++ lines_of_rows under) is
+          ∙ (ap (λ ls. ls ++ lines_of_rows under) (following_lines (head_comment r.gap) r.column ns n ms r.mark r.content) ∙ append_assoc (dash_lines (head_comment r.gap) r.column ns) (line ∷ more) (lines_of_rows under)),
+    )
+
+-- the lines after a dash begin with an item or entry
+entry_after : (above : List (List ℕ)) (column : ℕ) (ns : List ℕ) (m : rows.RowMark) (x : Content) (more : List Line) (u : Outline) → is_entry m ≡ true → lines_from above column ns m x ++ more ≡ flatten u → HasEntries u
+entry_after above column [] m x more outline.end entry e = absurd (cc)
+entry_after above column (n ∷ ns) m x more outline.end entry e = absurd (cc)
+entry_after above column [] rows.Bare x more (outline.row l u after) entry e = absurd (false≢true entry)
+entry_after above column [] rows.Dash x more (outline.row l u after) entry e = subst (λ (k : Line). IsEntry k.mark) (head-eq_of_cons-eq e) tt
+entry_after above column [] (rows.Key key colon) x more (outline.row l u after) entry e = subst (λ (k : Line). IsEntry k.mark) (head-eq_of_cons-eq e) tt
+entry_after above column (n ∷ ns) m x more (outline.row l u after) entry e = subst (λ (k : Line). IsEntry k.mark) (head-eq_of_cons-eq e) tt
+
+pub entries_under : {s r : Row} (u : IsUpto s r) (under : List Row) (o : Outline) → is_entry r.mark ≡ true → length s.dashes < length r.dashes → (lines_upto u under).0 ≡ flatten o → HasEntries o
+unfolding lines_upto
+entries_under (at_mark {r} entry) under o h less e = absurd (omega (arith, less))
+entries_under (at_dash {r} {ns} n ms is) under o h less e = entry_after [] (suc (after_columns r.column ns + n)) ms r.mark r.content (lines_of_rows under) o h e
+
+-- ---- the rows of an item or entry in the text of a cut, and their lines
 
 -- The rows of an item or entry in the text of a cut: the row of its key or dash, and those under it, between others in front and others after; and that row up to its key or dash.
 pub record NodeRows (doc : ℕ) (s : Step) (ss : List Step) (c : Cut) : Type 0 where
@@ -98,3 +136,34 @@ module _ (doc : ℕ) (s : Step) (ss : List Step) (c : Cut) (h : NodeRows doc s s
 
   pub back_there : AreRows (asked_after (limit_after h.row) h.under) h.back h.p.end (after_document doc c)
   back_there = rows_after (limit_after h.row) h.under h.back h.p.end (after_document doc c) rows_there.1
+
+-- ---- of an item or entry that is found
+
+module _ (n : ℕ) (s : Step) (ss : List Step) (c : Cut) (e : RowsOfEntry) (there : HasItsRows n s ss c e) where
+  -- up to the key or dash of the line
+  abbrev pub node_upto : (mark : Row) → IsUpto mark e.row → length mark.dashes ≡ e.line → NodeRows n s ss c
+  node_upto mark upto line = record {
+    p = there.part;
+    old = there.old;
+    found = there.found;
+    is = there.is;
+    front = e.front;
+    row = e.row;
+    under = e.under;
+    back = e.back;
+    rows_are = there.rows_are;
+    mark = mark;
+    upto = upto;
+    number = ap (λ (k : ℕ). length (lines_of_rows e.front) + k) line ∙ there.number;
+    count = there.count ∙ ap (λ (k : ℕ). k + suc (length (flatten there.found.under))) (sym line);
+    start = e.start;
+    put = there.put;
+  }
+
+  -- the last line of the row
+  abbrev pub mark_node : (last : e.line ≡ length e.row.dashes) → NodeRows n s ss c
+  mark_node last = node_upto e.row (at_mark (entry_there n s ss c e there last)) (sym last)
+
+  -- the text after these rows
+  pub following_is : (last : e.line ≡ length e.row.dashes) → after_entry e ≡ rest n s ss c (mark_node last)
+  following_is last = after_there n s ss c e there

@@ -1,6 +1,6 @@
 -- The rows of an item or entry are replaced by rows that are written for a value: the document with that value there.
 use Rattle.std.proofs.Common.{◌≡◌, ℕ, suc, ◌<◌, ◌≤◌, Bool, true, false, List, [], ◌∷◌, ◌++◌, length, Option, Some, refl, sym, ap, ◌∙◌}
-use Rattle.std.{proofs.Common.{subst, arith, append-nil, rules}, proofs.lemmas.Bool.{false≢true, ltb-true}}
+use Rattle.std.{proofs.Common.{subst, arith, append-nil, rules, inl}, proofs.lemmas.Bool.{false≢true, ltb-true}}
 use Rattle.yq_core.{specs.Paths.{Step, changed_at}, specs.Tree.{Node, anchor_of}, specs.Alike.Alike}
 use Rattle.yq_outline.{specs.LineAnchors.HaveOneAnchorEach, specs.Comments.line_comment}
 use Rattle.yq_outline.specs.Outline.{Line, level, Outline, flatten, IsEven, IsOpen, anchored, head_or, label, value}
@@ -8,9 +8,9 @@ use Rattle.yq_outline.{specs.Places.content_under, specs.Lines.{content_anchor, 
 use Rattle.yq_row_table.{specs.Exchange.{allows_first, asked_after}, specs.Gap.IsGap, specs.Grammar.{Limit, allows, AreRows, no_rows}}
 use Rattle.yq_row_table.specs.Rows.{Content, Row, mark_column, print_row, rows_text, Part, Cut, cut_text}
 use Rattle.yq_row_table.{specs.Splices.{after_first, first_gap}, proofs.seams.SeamLaws.rows_text-append}
-use Rattle.yq_row_table.proofs.splices.SpliceTexts.{own_gap, own_end, first_text, first_is}
+use Rattle.yq_row_table.{proofs.splices.SpliceTexts.{own_gap, own_end, first_text, first_is}, specs.Items.rows_items}
 use Rattle.yq_documents.{specs.Documents.{HaveFitKeys, lead_of}, specs.TreeEdits.{led, replaced_node}, specs.Ready.begins_no_node}
-use Rattle.yq_documents.specs.Reading.{root_of}
+use Rattle.yq_documents.specs.Reading.{root_of, read_at}
 use Rattle.yq_places.{specs.RowPaths.IsReadable, proofs.RunSpans.rows_then}
 use Rattle.yq_edit_rules.{specs.Appends.inserted, specs.Changed.{IsChanged, put_document}, specs.DocumentRows.after_document}
 use Rattle.yq_edit_rules.{specs.Edited.LineFits, specs.Replaces.{RowsReplace, TakesLines}, specs.Rooms.is_block_root}
@@ -18,10 +18,12 @@ use Rattle.yq_edit_rules.{specs.SoundRoots.MayReplace, proofs.AppendLaws.around,
 use Rattle.yq_edit_rules.{proofs.PlacedLaws.rows_in_parts, proofs.ReplaceLaws.{node_rows_replaced, rows_before_some}}
 use Rattle.yq_edit_rules.{proofs.UnderLaws.{line_with, dashes_of}, proofs.UnbrokenLaws.gap_same, proofs.MarkFirst.no_node_first}
 use Rattle.yq_edit_rules.{specs.BlockPlaces.Replaces, proofs.LaidRows.rows_append, specs.ReadsAfter.ReadsAfter}
-use Rattle.yq_edit_rules.proofs.DoneLaws.{document_done}
+use Rattle.yq_edit_rules.{proofs.DoneLaws.document_done, specs.Local.InFirst, specs.EditLaws.CarriedOut, proofs.LastRows.lines_local}
+use Rattle.yq_edit_rules.{proofs.OneLines.is_one_line, proofs.LocalLaws.{RowsGiveWay, cut_known}}
 use Rattle.yq_semantics.specs.Operations.{replace}
+use Rattle.yq_text.specs.Script.{Segment, old_text, new_text, are_kept, kept_front, kept_back}
 use Rattle.yq_edit_laws.proofs.NodeRowLaws.{NodeRows, back_there, before_are, known_lines, limit, line_is, near, old_lines, rest, size_is}
-use Rattle.yq_edit_laws.proofs.RowLines.{lines_upto}
+use Rattle.yq_edit_laws.proofs.NodeRowLaws.{lines_upto}
 use Rattle.yq_outline.specs.Outline as outline
 
 follow_first : (limit : Limit) (column : ℕ) (bs : List Row) → ((k : ℕ) → k ≤ column → allows limit k ≡ true) → allows_first (record { column = Some (suc column) }) bs ≡ true → allows_first limit bs ≡ true
@@ -51,6 +53,17 @@ pub record TakesNode (doc : ℕ) (s : Step) (ss : List Step) (c : Cut) (h : Node
   pub lines : lines_of_rows new ≡ dashes_of h.mark ++ (line_with h.mark content ∷ flatten under)
   pub keys : HaveFitKeys new
   pub anchors : HaveOneAnchorEach (line_with h.mark content ∷ flatten under)
+
+-- Segments of the text keep it up to bytes of the first one of these rows, and from the end of the line that ends them on.
+pub record KeepsNode (doc : ℕ) (s : Step) (ss : List Step) (c : Cut) (h : NodeRows doc s ss c) (us : List Segment) : Type 0 where
+  pub lead : List ℕ
+  pub trail : List ℕ
+  pub before_is : kept_front us ≡ (h.start ++ rows_text h.front []) ++ lead
+  pub following_is : kept_back us ≡ trail ++ rows_text h.back (h.p.end ++ after_document doc c)
+  pub one : is_one_line trail ≡ true
+  pub begins : length lead ≤ length (print_row h.row [])
+  pub puts : are_kept us ≡ false
+  pub old_is : old_text us ≡ cut_text c
 
 module _ (doc : ℕ) (s : Step) (ss : List Step) (c : Cut) (h : NodeRows doc s ss c) (v : Node) (new : List Row) (t : TakesNode doc s ss c h v new) where
   abbrev z : List ℕ
@@ -101,10 +114,7 @@ module _ (doc : ℕ) (s : Step) (ss : List Step) (c : Cut) (h : NodeRows doc s s
       let now : Line = line_with h.mark t.content in
       let was : Line = line_with h.mark h.mark.content in
       let lines : lines_of_rows q.rows ≡ (lines_of_rows h.front ++ dashes_of h.mark) ++ ((now ∷ flatten t.under) ++ lines_of_rows h.back) =
-      ap lines_of_rows q_rows
-      ∙ (rows_in_parts h.front new h.back
-      ∙ (ap (λ (ls : List Line). lines_of_rows h.front ++ (ls ++ lines_of_rows h.back)) t.lines
-      ∙ sym (around (lines_of_rows h.front) (dashes_of h.mark) (now ∷ flatten t.under) (lines_of_rows h.back)))) in
+      search (rules, q_rows, rows_in_parts, t.lines, around) in
       ap begins_no_node lines
       ∙ (no_node_first (lines_of_rows h.front ++ dashes_of h.mark) now was (flatten t.under ++ lines_of_rows h.back) ((lines_upto h.upto h.under).0 ++ lines_of_rows h.back) refl ∙ sym (ap begins_no_node (old_lines doc s ss c h)))
 
@@ -128,3 +138,40 @@ module _ (doc : ℕ) (s : Step) (ss : List Step) (c : Cut) (h : NodeRows doc s s
         block = λ keeps. same_block;
         equal_room = λ sets. absurd sets;
       })
+
+  -- ---- segments
+
+  pub node_carried : (us : List Segment) (n : KeepsNode doc s ss c h us) → MayReplace v (content_under h.found.line h.found.under) (root_of h.p) (length (s ∷ ss)) → IsReadable (new_text us) →
+      cut_text (put_document doc (inserted h.front new h.back h.p) c) ≡ new_text us → InFirst n.lead (rows_items new []) → CarriedOut (replace doc (s ∷ ss) v) c us
+  node_carried us n may readable text begins =
+      let there : IsReadable (cut_text (put_document doc (inserted h.front new h.back h.p) c)) = subst IsReadable (sym text) readable in
+      let read = (node_changed may there).read in
+      let e : RowsGiveWay us c doc (inserted h.front new h.back h.p) = record {
+        p = h.p;
+        there = h.old.there;
+        start = h.start;
+        put = h.put;
+        front = h.front;
+        gone = h.row ∷ h.under;
+        come = new;
+        back = h.back;
+        rows_are = h.rows_are;
+        come_are = q_rows;
+        end_is = own_end h.back h.p.end;
+        lead = n.lead;
+        trail = n.trail;
+        before_is = n.before_is;
+        following_is = n.following_is;
+        puts = n.puts;
+        old_is = n.old_is;
+        new_is = sym text;
+      } in
+      record {
+        reads = subst (ReadsAfter (replace doc (s ∷ ss) v) c) text (node_reads may there);
+        local = inl (cut_known us c (put_document doc (inserted h.front new h.back h.p) c) read text (lines_local us c doc (inserted h.front new h.back h.p) e h.old.read read n.one n.begins begins));
+      }
+
+  -- the cut of the text that they make
+  pub node_made : (us : List Segment) → MayReplace v (content_under h.found.line h.found.under) (root_of h.p) (length (s ∷ ss)) → IsReadable (new_text us) → cut_text (put_document doc (inserted h.front new h.back h.p) c) ≡ new_text us →
+      read_at (new_text us) ≡ Some (put_document doc (inserted h.front new h.back h.p) c)
+  node_made us may readable text = ap read_at (sym text) ∙ (node_changed may (subst IsReadable (sym text) readable)).read

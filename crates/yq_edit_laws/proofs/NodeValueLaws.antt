@@ -1,27 +1,35 @@
 -- The rows that are written for a value in the place of those of an item or entry: after its key or dash, or under it.
-use Rattle.std.proofs.Common.{◌≡◌, ℕ, suc, ◌<◌, ◌≤◌, true, false, List, [], ◌∷◌, ◌++◌, Option, Some, None, refl, sym, ap, ◌∙◌, subst, rules}
-use Rattle.std.proofs.lemmas.Bool.{false≢true}
-use Rattle.yq_core.{specs.Paths.Step, specs.Piece.deeper, specs.Plain.ends_plain, specs.Text.separates, specs.Tree.{Node, anchor_of}}
-use Rattle.yq_outline.{specs.LineAnchors.HaveOneAnchorEach, specs.Comments.line_comment}
-use Rattle.yq_outline.{specs.Outline.{end, IsOpen, level, head_or, IsLocatedAt, value}, specs.Places.content_under}
-use Rattle.yq_outline.{proofs.ByRules.rules_give, specs.Lines.{content_anchor, head_of, tail_of, lines_of_rows}}
-use Rattle.yq_row_table.{specs.Alone.holds_nothing, specs.Exchange.with_content, specs.Grammar.{IsContent, IsTail}}
+use Rattle.std.proofs.Common.{◌≡◌, ℕ, suc, ◌≤◌, true, List, [], ◌∷◌, ◌++◌, Some, refl, sym, ap, subst, arith, rules, ◌<◌, false, Option}
+use Rattle.std.{proofs.Common.{None, ◌∙◌}, proofs.lemmas.Bool.{lt-ltb, false≢true}}
+use Rattle.yq_core.{specs.Paths.Step, specs.Text.separates, specs.Tree.{Node, anchor_of}, specs.Piece.deeper, specs.Plain.ends_plain}
+use Rattle.yq_outline.{specs.Comments.line_comment, specs.Outline.{end, IsOpen, head_or, value, level, IsLocatedAt}}
+use Rattle.yq_outline.{specs.Places.content_under, specs.Lines.{content_anchor, head_of, tail_of, lines_of_rows}}
+use Rattle.yq_outline.{specs.LineAnchors.HaveOneAnchorEach, proofs.ByRules.rules_give}
+use Rattle.yq_row_table.{specs.Exchange.with_content, specs.Grammar.{allows, limit_after_content, IsContent, IsTail}}
 use Rattle.yq_row_table.specs.Rows.{Content, content_text, Row, mark_column, parent_indent, rows_text, Cut, cut_text}
-use Rattle.yq_row_table.{specs.Seams.is_block, proofs.NodeExchange.{inline_starts, space_apart}, proofs.splices.PartPlaces.part_ends}
-use Rattle.yq_documents.{specs.Documents.ContentHasFitKeys, specs.PartNumbers.part_number}
-use Rattle.yq_edit_rules.{specs.DocumentRows.after_document, specs.InlineRows.IsValueNode, proofs.CoreLaws.{put_core, recore}}
+use Rattle.yq_row_table.{specs.Alone.holds_nothing, specs.Seams.is_block, proofs.NodeExchange.{inline_starts, space_apart}}
+use Rattle.yq_row_table.proofs.splices.PartPlaces.{part_ends}
+use Rattle.yq_documents.{specs.Documents.{MarkIsFit, ContentHasFitKeys, HaveFitKeys}, specs.PartNumbers.part_number}
+use Rattle.yq_edit_rules.{specs.DocumentRows.after_document, proofs.AnchorLaws.fit_parts, proofs.ContentLaws.free_alone}
 use Rattle.yq_edit_rules.{proofs.InlineReplaceLaws.{deeper_entry, tail_ends_plain}, proofs.PartLaws.document_known}
-use Rattle.yq_edit_rules.proofs.UnderLaws.{line_with, gone_lines}
+use Rattle.yq_edit_rules.{proofs.UnderLaws.{line_with, gone_lines}, specs.BlockPlaces.{IsUpto, Replaces, IsAbove}}
+use Rattle.yq_edit_rules.{proofs.LaidRows.{no_gap_here, AreLaid}, proofs.PlaceLaws.{upto_row, under_laid}, specs.InlineRows.IsValueNode}
+use Rattle.yq_edit_rules.proofs.CoreLaws.{put_core, recore}
 use Rattle.yq_edit_rules.proofs.ValueContentLaws.{content_is, content_head, content_named, content_tail, content_keys}
-use Rattle.yq_edit_rules.{specs.declared.layout.Layout.Layout, specs.BlockPlaces.IsAbove, specs.BlockRows.{column_below, node_rows}}
+use Rattle.yq_edit_rules.{specs.declared.layout.Layout.Layout, specs.BlockRows.{column_below, node_rows}}
 use Rattle.yq_edit_rules.{specs.BlockValues.{HasNearKeys, IsFilledValue, IsEnd, level_at}, proofs.FitLaws.{anchors_fit, keys_fit, node_fit}}
-use Rattle.yq_edit_rules.{proofs.LaidRows.AreLaid, proofs.BlockLineLaws.{lines_deeper, node_is_there}, proofs.PlaceLaws.under_laid}
-use Rattle.yq_edit_rules.proofs.RowLaws.{deeper_laid}
-use Rattle.yq_edit_laws.{proofs.ContentRows.{IsContentFor, mark_fit, takes_content, upto_gap}, proofs.MarkContentLaws.laid_free}
-use Rattle.yq_edit_laws.{proofs.NodeRowLaws.{NodeRows, back_there, entry, limit, near, rest, rows_there}, proofs.NodeTaken.TakesNode}
-use Rattle.yq_core.specs.Nodes as inline
+use Rattle.yq_edit_rules.{proofs.BlockLineLaws.{lines_deeper, node_is_there}, proofs.RowLaws.deeper_laid}
+use Rattle.yq_edit_laws.{proofs.NodeRowLaws.{NodeRows, entry, limit, rest, rows_there, back_there, near}, proofs.NodeTaken.TakesNode}
+use Rattle.yq_edit_laws.proofs.MarkContentLaws.{laid_free}
 use Rattle.yq_outline.specs.Outline as outline
+use Rattle.yq_core.specs.Nodes as inline
 use Rattle.yq_row_table.specs.Rows as rows
+
+upto_fit : {s r : Row} → IsUpto s r → MarkIsFit r.mark → MarkIsFit s.mark
+upto_fit e h = search rules
+
+pub upto_gap : {s r : Row} → IsUpto s r → s.gap ≡ r.gap
+upto_gap e = search rules
 
 -- ---- marks
 
@@ -38,6 +46,50 @@ nothing_is : (x : Content) → holds_nothing x ≡ true → (head_of x ≡ None)
 nothing_is x h1 = search (rules, false≢true)
 
 module _ (doc : ℕ) (s : Step) (ss : List Step) (c : Cut) (h : NodeRows doc s ss c) where
+  pub mark_fit : MarkIsFit h.mark.mark
+  mark_fit = let keys = (document_known (cut_text c) c doc h.p h.old).document.keys in upto_fit h.upto (fit_parts h.front (h.row ∷ (h.under ++ h.back)) (subst HaveFitKeys h.rows_are keys)).1.0
+
+  -- A content that may come after the key or dash alone: it means the value, after the old anchor and before the old comment.
+  pub record IsContentFor (v : Node) (new : Content) : Type 0 where
+    pub is_located : IsContent (parent_indent h.mark) new (rest doc s ss c h)
+    pub apart : separates (content_text new (rest doc s ss c h)) ≡ true
+    pub head : head_of new ≡ Some v
+    pub comment : line_comment (tail_of new) ≡ line_comment (tail_of h.mark.content)
+    pub anchor : content_anchor new ≡ anchor_of (content_under h.found.line h.found.under)
+    pub keys : ContentHasFitKeys new
+
+  -- what is after it may begin at any column up to that of the key or dash
+  follow : (x : Content) (k : ℕ) → k ≤ mark_column h.mark → allows (limit_after_content (parent_indent h.mark) x) k ≡ true
+  follow x k h1 = search (rules, deeper_entry, entry, lt-ltb)
+
+  module _ (v : Node) (new : Content) (is : IsContentFor v new) where
+    replaces : Replaces (limit doc s ss c h) (mark_column h.mark) h.row (rows_text (h.under ++ h.back) (h.p.end ++ after_document doc c)) (with_content new h.mark ∷ []) (rest doc s ss c h)
+    replaces =
+        let row = upto_row new (rest doc s ss c h) (rows_there doc s ss c h).0 h.upto is.is_located is.apart in
+        record { rows = (row.0, no_gap_here (rest doc s ss c h)); alike = row.1; follow = follow new }
+
+    pub takes_content : TakesNode doc s ss c h v (with_content new h.mark ∷ [])
+    unfolding outline.level
+    takes_content = record {
+      first = with_content new h.mark;
+      more = [];
+      new_is = refl;
+      gap_is = upto_gap h.upto;
+      replaces = replaces;
+      content = new;
+      level = suc (outline.level (line_with h.mark new));
+      under = end;
+      comment = is.comment;
+      anchor = is.anchor;
+      open' = subst (λ o. IsOpen o end) (sym is.head) tt;
+      value_is = ap (λ o. head_or o (value end)) is.head;
+      even = tt;
+      deep = omega arith;
+      lines = gone_lines (with_content new h.mark) [];
+      keys = (mark_fit, is.keys, tt);
+      anchors = (free_alone (content_anchor new), tt);
+    }
+
   -- the end of a line before the rows after ends what is written in the place
   pub end_is : (tail : List ℕ) → IsTail tail (rest doc s ss c h) → IsEnd (mark_column h.mark) tail (rest doc s ss c h)
   end_is tail ends =
@@ -114,7 +166,7 @@ module _ (doc : ℕ) (s : Step) (ss : List Step) (c : Cut) (h : NodeRows doc s s
           even = is_located.even;
           deep = deep;
           lines = gone_lines (with_content x h.mark) rs ∙ ap (λ ls. Rattle.yq_edit_rules.proofs.UnderLaws.dashes_of h.mark ++ (line_with h.mark x ∷ ls)) (sym is_located.lines_are);
-          keys = (mark_fit doc s ss c h, (nothing_is x held.holds).1, keys_fit rs fit);
+          keys = (mark_fit, (nothing_is x held.holds).1, keys_fit rs fit);
           anchors = subst (λ ls. HaveOneAnchorEach (line_with h.mark x ∷ ls)) (sym is_located.lines_are) (laid_free (content_anchor x) below rs z laid, anchors_fit rs fit);
         }
 
@@ -123,7 +175,7 @@ module _ (doc : ℕ) (s : Step) (ss : List Step) (c : Cut) (h : NodeRows doc s s
   -- a content that is no block scalar, with the node of a value in the place of its own
   module _ (v : Node) (node : inline.FlowNode) (is : IsValueNode v node) (x : Content) (block : is_block x ≡ false) where
     pub content_for : IsContent (parent_indent h.mark) x (rest doc s ss c h) → separates (content_text x (rest doc s ss c h)) ≡ true → line_comment (tail_of x) ≡ line_comment (tail_of h.mark.content) →
-        content_anchor x ≡ anchor_of (content_under h.found.line h.found.under) → IsContentFor doc s ss c h v (put_core node x)
+        content_anchor x ≡ anchor_of (content_under h.found.line h.found.under) → IsContentFor v (put_core node x)
     content_for is_located apart comment anchor = record {
       is_located = content_is v node is (parent_indent h.mark) x (rest doc s ss c h) block is_located
           (λ tail ends. subst (λ n. ends_plain false (Some n) (tail ++ rest doc s ss c h) ≡ true) (sym (deeper_entry h.mark.mark (mark_column h.mark) (entry doc s ss c h))) (end_is tail ends).plain);
@@ -135,11 +187,11 @@ module _ (doc : ℕ) (s : Step) (ss : List Step) (c : Cut) (h : NodeRows doc s s
     }
 
   module _ (v : Node) (node : inline.FlowNode) (is : IsValueNode v node) (x : Content) (held : IsHolding x (rest doc s ss c h)) where
-    pub content_beside : IsContentFor doc s ss c h v (put_core node x)
+    pub content_beside : IsContentFor v (put_core node x)
     content_beside = content_for v node is x (nothing_is x held.holds).2 held.is_located held.apart held.comment held.anchor
 
     abbrev pub rows_beside : List Row
     rows_beside = with_content (put_core node x) h.mark ∷ []
 
     pub takes_beside : TakesNode doc s ss c h v rows_beside
-    takes_beside = takes_content doc s ss c h v (put_core node x) content_beside
+    takes_beside = takes_content v (put_core node x) content_beside

@@ -68,11 +68,7 @@ module _ (h : Held) (v : Node) (some : is_empty h.head ≡ false) (none : h.brea
   one_put = record {
     old_is = (λ i. h.before ++ (h.space ++ (h.head ++ (h.white ++ (h.comment ++ (none i ++ (no_lines i ++ (h.last ++ append-nil h.after i)))))))) ∙ sym (append_assoc h.before h.space (h.head ++ after));
     new_is = (λ i. h.before ++ (h.space ++ (text_is i ++ (h.white ++ (h.comment ++ (h.last ++ append-nil h.after i)))))) ∙ sym (append_assoc h.before h.space (t ++ after));
-    changes_are =
-        first_keep h.before (merged (keep h.space ∷ (put h.head (spaced_text h.head t) ∷ left)))
-        ∙ (after_keep (length h.before) h.space (merged (put h.head (spaced_text h.head t) ∷ left))
-        ∙ (put_quiet (length h.before + length h.space) h.head (spaced_text h.head t) left (none, refl, (no_lines, refl, tt))
-        ∙ (λ i. splice_at (sym (length-append h.before h.space) i) h.head (text_is i))));
+    changes_are = search (rules, first_keep, after_keep, put_quiet, none, no_lines, length-append, text_is);
   }
 
 pub inline_puts : InlinePutsOne
@@ -116,18 +112,7 @@ lines_put_one h new =
 
 pub lines_put_after : (w : LinesIn) (new : List ℕ) → PutsOne (after_lines w new) (w.before ++ (w.lines ++ w.last)) [] new w.after
 unfolding changes
-lines_put_after w new =
-    let last : List Segment = put [] new ∷ (keep w.after ∷ []) in
-    record {
-      old_is = simp (append_assoc, append-nil) refl;
-      new_is = simp (append_assoc, append-nil) refl;
-      changes_are =
-          first_keep w.before (merged (keep w.lines ∷ (keep w.last ∷ last)))
-          ∙ (after_keep (length w.before) w.lines (merged (keep w.last ∷ last))
-          ∙ (after_keep (length w.before + length w.lines) w.last (merged last)
-          ∙ (put_quiet (length w.before + length w.lines + length w.last) [] new (keep w.after ∷ []) tt
-          ∙ ap (λ (m : ℕ). splice_at m [] new) (omega (arith, length-append w.before (w.lines ++ w.last), length-append w.lines w.last)))));
-    }
+lines_put_after w new = search (rules, append_assoc, append-nil, first_keep, after_keep, put_quiet, length-append)
 
 -- ---- a line comment
 

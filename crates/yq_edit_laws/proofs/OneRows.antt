@@ -10,11 +10,12 @@ use Rattle.yq_documents.{specs.Documents.lead_of, specs.Reading.{read_at, root_o
 use Rattle.yq_places.{specs.RowPaths.IsReadable, specs.Placements.RowsOfEntry}
 use Rattle.yq_edit_rules.{specs.Appends.inserted, specs.Changed.{IsChanged, put_document}}
 use Rattle.yq_edit_rules.{specs.DocumentRows.{IsDocumentPart, after_document}, specs.Done.ArePieces, specs.EditLaws.CarriedOut}
-use Rattle.yq_edit_rules.{specs.Local.IsLocal, specs.ReadsAfter.ReadsAfter, specs.Rooms.{EqualRoom, LeadGoes, is_block_root, row_shape}}
-use Rattle.yq_edit_rules.{specs.Siblings.HasEntries, specs.PlacementLaws.HasItsRows, proofs.AfterLaws.end_is_change}
-use Rattle.yq_edit_rules.{proofs.CommentRowLaws.{lines_some, rows_front}, proofs.DoneLaws.document_done}
-use Rattle.yq_edit_rules.{proofs.LeadLaws.{block_entries, block_lead_goes}, proofs.LocalLaws.{cut_known, row_by_size}}
-use Rattle.yq_edit_rules.{proofs.ReplaceLaws.rows_before_some, proofs.SegmentLaws.segments_readable, proofs.ShapeLaws.shapes_are_alike}
+use Rattle.yq_edit_rules.{specs.Local.IsLocal, specs.ReadsAfter.ReadsAfter, specs.RowChanges.ChangesRow}
+use Rattle.yq_edit_rules.{specs.Rooms.{EqualRoom, LeadGoes, is_block_root, row_shape}, specs.Siblings.HasEntries}
+use Rattle.yq_edit_rules.{specs.PlacementLaws.HasItsRows, proofs.AfterLaws.end_is_change, proofs.CommentRowLaws.{lines_some, rows_front}}
+use Rattle.yq_edit_rules.{proofs.DoneLaws.document_done, proofs.LeadLaws.{block_entries, block_lead_goes}}
+use Rattle.yq_edit_rules.{proofs.LocalLaws.{cut_known, row_by_size}, proofs.ReplaceLaws.rows_before_some}
+use Rattle.yq_edit_rules.{proofs.SegmentLaws.segments_readable, proofs.ShapeLaws.shapes_are_alike}
 use Rattle.yq_semantics.{specs.After.{op_document, root_after}, specs.Operations.Operation, specs.RoomsKept.SetsComment}
 
 -- A row of document k of a cut.
@@ -90,6 +91,21 @@ module _ (op : Operation) (c : Cut) (h : RowIn (op_document op) c) (new : Row) w
     -- the cut of the text that they make
     pub row_made : read_at (new_text us) ≡ Some (put_document (op_document op) row_put c)
     row_made = ap read_at k.text ∙ changed.read
+
+    -- in it the row of an item or entry has given way to that one
+    pub row_changes : (e : RowsOfEntry) → length h.front ≡ length e.front → row_shape new ≡ row_shape h.row → ChangesRow (op_document op) c e us
+    row_changes e front shape = record {
+      part = h.part;
+      there = h.old.there;
+      front = h.front;
+      row = h.row;
+      new = new;
+      back = h.back;
+      rows_are = h.rows_are;
+      front_size = front;
+      shape = shape;
+      read = row_made;
+    }
 
     pub row_carried : CarriedOut op c us
     row_carried = record {

@@ -8,7 +8,7 @@ use Rattle.yq_row_table.{specs.Gap.{IsComment, IsGapLine, AreGapLines, IsGap}, p
 use Rattle.yq_row_table.{proofs.NothingLaws.line_end_other, proofs.seams.GapFronts.gap_lines, proofs.GapLaws.some_more}
 use Rattle.yq_edit_rules.{proofs.EndLaws.comment_is, specs.ClosedTexts.is_closed_text, proofs.BreakLaws.break_is as break_kind}
 use Rattle.yq_edit_rules.{proofs.BrokenTails.comment_other, proofs.CommentReadLaws.break_is}
-use Rattle.yq_edit_laws.proofs.ClosedTexts.{closed_after, closed_end}
+use Rattle.yq_edit_laws.proofs.UnwrittenRootLaws.{closed_after, closed_end}
 
 -- lines, of which the last one gets a break
 abbrev pub broken_lines : List (List ℕ) → List ℕ → List (List ℕ)

@@ -1,10 +1,10 @@
 -- Where the root of a document comes that has no rows, after a text that doesn't end in a break: on a line of its own, after a break that comes first.
 use Rattle.std.proofs.Common.{◌≡◌, inl, inr, ℕ, ◌≤◌, List, [], ◌∷◌, ◌++◌, length, Some, true, false, refl, sym, ap, ◌∙◌, subst, arith}
-use Rattle.std.proofs.Common.{append_assoc, append-nil, length-append, rules}
+use Rattle.std.proofs.Common.{append_assoc, append-nil, length-append, rules, map}
 use Rattle.std.{proofs.lemmas.Bool.{false≢true, cond-true, false_from_ne_true, and_parts}, proofs.lemmas.Str.is_utf8-from_IsUtf8}
-use Rattle.std.{specs.List.list_all, specs.Str.{chars, is_utf8}}
+use Rattle.std.{specs.List.{list_all, slice_get}, specs.Str.{chars, is_utf8}}
 use Rattle.yq_core.{specs.BlockWritten.break_text, specs.Characters.{is_text, is_text_char, pairs_returns}, specs.Text.{is_empty, is_line}}
-use Rattle.yq_core.{specs.Tree.Node, specs.declared.block_types.Break.Break, proofs.Bools.guard_then}
+use Rattle.yq_core.{specs.Tree.Node, specs.declared.block_types.Break.Break, proofs.Bools.guard_then, specs.Answers.◌>>=◌}
 use Rattle.yq_text.{specs.Limit.text_limit, specs.Script.{Segment, new_text, kept_front, kept_back}}
 use Rattle.yq_flow_edits.specs.Valued.{IsValueTree}
 use Rattle.yq_outline.specs.Comments.{head_comment}
@@ -13,8 +13,9 @@ use Rattle.yq_row_table.{specs.Rows.{Row, Part, part_text, Cut, cut_text}, proof
 use Rattle.yq_row_table.{proofs.splices.MarkerLaws.marker_appended, proofs.GapLaws.some_more}
 use Rattle.yq_row_table.specs.Items.{Item, end_item, rows_items, items_of_cut, items_text}
 use Rattle.yq_row_table.proofs.ItemLaws.{items_of_text, items_text-append}
-use Rattle.yq_documents.{specs.Pieces.TextPiece, specs.Reading.{all_documents, is_document, read_at}}
-use Rattle.yq_documents.proofs.ReadLaws.{text_again, text_takes}
+use Rattle.yq_documents.{specs.Pieces.TextPiece, specs.Reading.{all_documents, is_document, read_at, documents_of}}
+use Rattle.yq_documents.{proofs.ReadLaws.{text_again, text_takes}, specs.Documents.document_parts, specs.Ready.part_is_block}
+use Rattle.yq_documents.specs.LinesInRows.{row_line_of, row_line_has_room}
 use Rattle.yq_places.{specs.PlacedRows.PlacedPart, specs.RowPaths.IsReadable, proofs.RemovalLines.LineSeam}
 use Rattle.yq_edit_rules.{specs.declared.layout.Layout.Layout, specs.BlockText.block_value, proofs.LaidRows.no_gap_here}
 use Rattle.yq_edit_rules.{specs.PlacedParts.IsDocumentAt, specs.TextPieces.IsPiece, proofs.PlacedPartLaws.document_is_there_at}
@@ -22,16 +23,36 @@ use Rattle.yq_edit_rules.{proofs.TextPieceLaws.pieces_joined, specs.ClosedTexts.
 use Rattle.yq_edit_rules.{specs.Replaces.rooted, specs.Local.IsLocal, specs.ReadsAfter.ReadsAfter, specs.EditLaws.CarriedOut}
 use Rattle.yq_edit_rules.{proofs.ItemsLocal.last_nothing, proofs.LocalLaws.cut_known, proofs.AppendAtEnd.nothing_tail}
 use Rattle.yq_edit_rules.{proofs.AppendEntryLaws.none_uncommented, proofs.BreakLaws.break_is as break_kind}
-use Rattle.yq_edit_rules.{proofs.CommentPieceLaws.break_piece, proofs.CommentReadLaws.break_is}
-use Rattle.yq_semantics.specs.Operations.{replace}
-use Rattle.yq_edit_laws.{proofs.FirstRows.empty_cases, proofs.ClosedTexts.{closed_after, closed_end, closed_line, open_some}}
-use Rattle.yq_edit_laws.{proofs.OpenGapLaws.open_gap, proofs.OpenMarkerLaws.{broken_before, IsAfterMarker, after_marker}}
-use Rattle.yq_edit_laws.{proofs.RootFits.{FitsPart, value_carried}, proofs.RootLocalLaws.gap_moves}
-use Rattle.yq_edit_laws.{proofs.RootReadLaws.{TakesValue, are, text_is, root_read, root_reads}, proofs.RootRows.{root_rows, HasRoom}}
-use Rattle.yq_edit_laws.{proofs.SameDocuments.same_reads, proofs.PlacementRoots.IsUnwrittenRoot}
-use Rattle.yq_edit_laws.proofs.UnwrittenRootLaws.{long_some, is_located, there, cut, gap_is, part_is, seam, pieces, no_rows_there, lead_is}
-use Rattle.yq_edit_laws.proofs.UnwrittenRootLaws.{starts_at, takes_unwritten}
+use Rattle.yq_edit_rules.{proofs.CommentPieceLaws.break_piece, proofs.CommentReadLaws.break_is, proofs.DoneLaws.read_cut}
+use Rattle.yq_semantics.{specs.Operations.{replace, Operation}, specs.After.after_op, specs.Changes.Room}
+use Rattle.yq_semantics.{specs.Rooms.{comment_part, room_of}, specs.RoomsKept.LeavesRooms}
+use Rattle.yq_edit_laws.proofs.UnwrittenRootLaws.{closed_after, closed_end, closed_line, open_some, long_some, is_located, there, cut}
+use Rattle.yq_edit_laws.proofs.UnwrittenRootLaws.{gap_is, part_is, seam, pieces, no_rows_there, lead_is, starts_at, takes_unwritten}
+use Rattle.yq_edit_laws.{proofs.BlockRootLaws.empty_cases, proofs.OpenGapLaws.open_gap}
+use Rattle.yq_edit_laws.proofs.OpenMarkerLaws.{broken_before, IsAfterMarker, after_marker}
+use Rattle.yq_edit_laws.proofs.RootReadLaws.{FitsPart, value_carried, TakesValue, are, text_is, root_read, root_reads}
+use Rattle.yq_edit_laws.{proofs.RootRows.{gap_moves, root_rows, HasRoom}, proofs.PlacementRoots.IsUnwrittenRoot}
 use Rattle.yq_edit_laws.proofs.UnwrittenRootLaws as unwritten_root
+use Rattle.yq_documents.specs.Reading as reading
+
+-- ---- two texts with the same parts that are documents: what an operation makes of the one it makes of the other
+
+-- what documents have room for, by their parts
+abbrev rooms : List Part → ℕ → Room
+rooms ps i = record { block = part_is_block (slice_get ps i); has = λ place steps. row_line_has_room (comment_part place) (slice_get ps i >>= λ p. row_line_of steps p.rows) }
+
+pub same_reads : (op : Operation) (b c : Cut) (new : List ℕ) → read_at (cut_text b) ≡ Some b → read_at (cut_text c) ≡ Some c → document_parts b ≡ document_parts c → ReadsAfter op b new → ReadsAfter op c new
+same_reads op b c new other read same h = record {
+  cut = h.cut;
+  read = h.read;
+  documents_are = h.documents_are ∙ (λ i. after_op (room_is i) op (map reading.part_document (same i)));
+  room = subst (λ (r : ℕ → Room). LeavesRooms op r (room_of new) (documents_of new)) room_is h.room;
+}
+  where
+    room_is : room_of (cut_text b) ≡ room_of (cut_text c)
+    room_is = ap rooms (ap document_parts (read_cut (cut_text b) b other) ∙ (same ∙ ap document_parts (sym (read_cut (cut_text c) c read))))
+
+-- ---- where the root of a document comes that has no rows, after a text that doesn't end in a break: on a line of its own, after a break that comes first
 
 -- rows come after a gap, at the end of a text
 room_at_end : (gap : List ℕ) → ((x : List ℕ) → is_empty x ≡ false → IsGap gap x) → HasRoom gap [] [] []
@@ -178,9 +199,7 @@ module _ (n : ℕ) (c : Cut) (w : TextPiece) (read : read_at (cut_text c) ≡ So
           lead = lead;
           trail = [];
           old_are = old_are;
-          new_are = ap items_of_cut (m.put q)
-              ∙ (m.new_are q
-              ∙ ap (λ xs. front ++ xs) (ap (λ xs. end_item m.gap (last_marker c ++ break_text br) ∷ rows_items xs (end_item [] [] ∷ [])) (append-nil rs) ∙ sym (append-nil (end_item m.gap (last_marker c ++ break_text br) ∷ last))));
+          new_are = search (rules, m.put, q, m.new_are, front, append-nil, rs, last);
           before_is = before ∙ (sym (append-nil w.before)
               ∙ (ap (λ t. w.before ++ t) (sym (h.following_is ∙ nothing_after))
               ∙ (unwritten_root.whole n c w read h ∙ (sym (items_of_text c) ∙ (ap (λ xs. items_text xs []) old_are ∙ front_text)))));

@@ -1,10 +1,9 @@
 -- What putting a value at an item or entry of a flow collection comes to, where that is read alone.
-use Rattle.std.proofs.Common.{rules, ◌≡◌, ℕ, true, List, [], ◌++◌, length, take, drop, Option, Some, None, option_map, sym, ap, ◌∙◌}
-use Rattle.std.{proofs.Common.length-append, specs.Prelude.String, specs.declared.alloc.Global.Global}
-use Rattle.yq_core.{specs.Answers.◌>>=◌, specs.Paths.Step, specs.declared.style.Place.TheVariants.Flow as InFlow}
-use Rattle.yq_core.{specs.Collections.CollPieces, specs.Entries.EntryPieces, specs.Nodes.{FlowNode, node_text, without_anchor}}
-use Rattle.yq_core.{specs.Trees.placed_tree, specs.View.inline_view, proofs.Bools.bind_some, proofs.NodesWrittenLaws.node_then}
-use Rattle.yq_core.proofs.TreeLaws.{node_tree}
+use Rattle.std.proofs.Common.{rules, ◌≡◌, ℕ, true, List, [], ◌++◌, length, take, drop, Option, Some, None, sym, ap, ◌∙◌, length-append}
+use Rattle.std.{specs.Prelude.String, specs.declared.alloc.Global.Global}
+use Rattle.yq_core.{specs.Answers.◌>>=◌, specs.Paths.Step, specs.declared.style.Place.TheVariants.Flow as InFlow, specs.Entries.EntryPieces}
+use Rattle.yq_core.{specs.Nodes.{FlowNode, node_text, without_anchor}, specs.Trees.placed_tree, specs.View.inline_view}
+use Rattle.yq_core.{proofs.Bools.bind_some, proofs.NodesWrittenLaws.node_then, proofs.TreeLaws.node_tree}
 use Rattle.yq_flow_edits.{specs.FlowEdits.{FlowEdit, replacing}, specs.FlowPlaces.{edit_view, place_edit, replace_place}}
 use Rattle.yq_flow_edits.{specs.declared.flow_place.EditPlace.EditPlace, proofs.PlacedEdits.replace_placed}
 use Rattle.yq_row_table.specs.Rows.{Cut, cut_text}
@@ -15,7 +14,7 @@ use Rattle.yq_inline.specs.declared.along.NodeAlong.{NodeAlong}
 use Rattle.yq_lookup.specs.PartNodes.{IsPartNode, PartAgrees, part_at}
 use Rattle.yq_edit_rules.{specs.Replacing.keeps_scalar, specs.WrittenValues.value_text}
 use Rattle.yq_edit_laws.{specs.PartPuts.{IsPlaceOf, IsValuePut, IsWrittenIn, place_after, put_edit}, proofs.CutLaws.text_read}
-use Rattle.yq_edit_laws.{proofs.FlowAnswers.bounds_lie, proofs.FlowLonger.{edit_more, place_moved}, proofs.FlowPartNodes.part_node}
+use Rattle.yq_edit_laws.{proofs.FlowAnswers.bounds_lie, proofs.FlowHeads.{edit_more, place_moved}, proofs.FlowPartNodes.part_node}
 use Rattle.yq_edit_laws.{proofs.FlowPutLaws.{bounds, e, m, there}, proofs.FlowPlacements.EntryAt, proofs.FlowWholeLaws.content_split}
 use Rattle.yq_edit_laws.proofs.PutAnswers.{old_at, value_is, written_found}
 use Rattle.yq_core.specs.Tree as tree
@@ -57,9 +56,7 @@ module _ (c : Cut) (n : ℕ) (path init : List Step) (s : Step) (x : NodeAlong �
   z = record { step = s; collection = a.coll; part = f.item }
 
   placement_there : flow_placement n c (last_step path) ≡ Some z
-  placement_there =
-      part_placement c n path init s last
-      ∙ (ap (λ (o : Option CollPieces). o >>= flow_part s) a.found ∙ ap (option_map {U = FlowPart} (λ (y : EntryPieces). record { step = s; collection = a.coll; part = y })) a.at)
+  placement_there = search (rules, last, a.found, a.at)
 
   node_there : node_in n path c ≡ Some (placed_tree (inline_view x.0.node))
   node_there = part_node c n path a f.read ∙ ap Some (sym (ap placed_tree h.view ∙ node_tree (length row) f.item.node h.rest))

@@ -1,10 +1,9 @@
 -- Where edits of a flow collection are in a text, by their places in a piece of that.
-use Rattle.std.proofs.Common.{rules, ◌≡◌, ℕ, ◌≤◌, true, not, List, [], ◌∷◌, ◌++◌, length, map, take, Option, Some, refl, sym, ap, ◌∙◌}
-use Rattle.std.proofs.Common.{subst, option_map}
+use Rattle.std.proofs.Common.{rules, ◌≡◌, ℕ, ◌≤◌, true, not, List, [], ◌∷◌, ◌++◌, length, map, Option, Some, refl, sym, ap, ◌∙◌, subst}
+use Rattle.std.proofs.Common.{option_map}
 use denote.Bor.{Bor}
 use Rattle.yq_core.{specs.Collections.{CollAt, CollPieces, IsCollAt, coll_along, coll_in}, specs.Entries.tree_step, specs.Paths.Step}
-use Rattle.yq_core.specs.declared.style.Place.TheVariants.{Block}
-use Rattle.yq_core.specs.Nodes.{FlowNode, alias, anchored, coll, empty, is_empty_node, node_text, scalar}
+use Rattle.yq_core.{specs.declared.style.Place.TheVariants.Block, specs.Nodes.{FlowNode, coll, empty, is_empty_node, node_text}}
 use Rattle.yq_flow_edits.{specs.FlowEdits.FlowEdit, specs.FlowPlaces.{PlacedEdit, place_edit}}
 use Rattle.yq_inline.{specs.Along.front_read, specs.Neighbours.coll_read, specs.declared.before_offset.LeadingNode.LeadingNode}
 use Rattle.yq_row_table.specs.Rows.{Cut, cut_text, parent_indent}
@@ -13,25 +12,18 @@ use Rattle.yq_places.{specs.FlowNodes.flow_collection, proofs.FlowNodeLaws.{cont
 use Rattle.yq_lookup.specs.RowFronts.{IsFlowFront}
 use Rattle.yq_edit_rules.specs.FlowParts.{flow_segments}
 use Rattle.yq_edit_laws.{specs.EditPlaces.{LiesIn, edit_segments, moved_on}, proofs.CutLaws.text_read}
-use Rattle.yq_edit_laws.{proofs.FlowAnswers.{EditFound, HasBounds, bounds_lie, segments_at}, proofs.FlowLonger.{edit_more, place_moved}}
+use Rattle.yq_edit_laws.{proofs.FlowAnswers.{EditFound, HasBounds, bounds_lie, segments_at}, proofs.FlowHeads.{edit_more, place_moved}}
 use Rattle.yq_core.specs.declared.path.Step as declared
 
 -- a collection is something
 some_coll : (node : FlowNode) (rest : List ℕ) (w : CollPieces) → coll_in node rest ≡ Some w → not (is_empty_node node) ≡ true
-some_coll empty rest w e = cc
-some_coll (alias n) rest w e = refl
-some_coll (scalar p) rest w e = refl
-some_coll (coll k g is) rest w e = refl
-some_coll (anchored n g node) rest w e = refl
+some_coll node rest w e = search rules
 
 -- a node in which steps lead to a collection is something
 some_node : (ss : List Step) (node : FlowNode) (rest : List ℕ) (w : CollPieces) → coll_along ss node rest ≡ Some w → not (is_empty_node node) ≡ true
 some_node [] node rest w e = some_coll node rest w e
 some_node (s ∷ ss) empty rest w e = cc
-some_node (s ∷ ss) (alias n) rest w e = refl
-some_node (s ∷ ss) (scalar p) rest w e = refl
-some_node (s ∷ ss) (coll k g is) rest w e = refl
-some_node (s ∷ ss) (anchored n g node) rest w e = refl
+some_node (s ∷ ss) _ rest w e = refl
 
 -- The flow collection at a path is in a piece of the text, before which so many bytes are: the piece begins with a node that could be alone, and
 -- steps lead to the collection in it.
@@ -82,15 +74,4 @@ module _ (t : List ℕ) (n : ℕ) (steps : List Step) (x : Front) (w : IsFlowFro
   at_front z = record { place = Block; indent = parent_indent w.row; around = 0; node = w.front.head.node; rest = w.front.head.rest; steps = ss; coll = z }
 
   pub piece_found : read_at t ≡ Some (cut_of t) → (z : CollPieces) → front_coll x ≡ Some z → PieceFound (cut_of t) n steps x.0.text.now x.1 w.after (at_front z)
-  piece_found read z there =
-      let found = sym in_row ∙ there in
-      let same = sym (text_read t (cut_of t) read) in
-      record {
-        read = subst (λ (u : List ℕ). read_at u ≡ Some (cut_of t)) same read;
-        front = take x.1 t;
-        text = sym same ∙ w.front.is_located;
-        start_is = w.front.begins;
-        found = all_is ∙ ap (option_map (with_more w.after)) there;
-        is_located = record { inline = record { valid = w.front.head.valid; something = some_node ss w.front.head.node w.front.head.rest z found }; found = found };
-        node_is = w.front.text;
-      }
+  piece_found read z there = search (rules, in_row, text_read, all_is, with_more, some_node)

@@ -19,8 +19,8 @@ use Rattle.yq_edit_laws.specs.EditPlaces.{edit_segments}
 use Rattle.yq_edit_laws.specs.PartPuts.{IsPlaceOf, IsValuePut, IsWrittenFor, IsWrittenIn, IsWrittenPart, part_put, part_replaced}
 use Rattle.yq_edit_laws.specs.PartPuts.{place_after, put_edit}
 use Rattle.yq_edit_laws.proofs.FlowAnswers.{CollFound, edit_lies, edit_moved, entry_found, part_in, segments_at, placement_is}
-use Rattle.yq_edit_laws.{proofs.FlowHeads.{replace_found, replaced_within, whole_is}, proofs.FlowLonger.edit_more}
-use Rattle.yq_edit_laws.{proofs.FlowPartNodes.part_node, proofs.FlowPutLaws.{bounds, e, m, there}, proofs.FlowPlacements.EntryAt}
+use Rattle.yq_edit_laws.{proofs.FlowHeads.{replace_found, replaced_within, whole_is, edit_more}, proofs.FlowPartNodes.part_node}
+use Rattle.yq_edit_laws.{proofs.FlowPutLaws.{bounds, e, m, there}, proofs.FlowPlacements.EntryAt}
 use Rattle.yq_edit_laws.proofs.FlowWholeLaws.{IsPlacedBefore, replaced_is_there}
 use Rattle.yq_core.specs.Tree as tree
 use Rattle.yq_core.specs.Nodes as inline

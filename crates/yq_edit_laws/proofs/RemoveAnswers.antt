@@ -16,7 +16,7 @@ use Rattle.yq_lookup.{specs.declared.node_at.FoundNode.TheVariants.InFlow, proof
 use denote.Bor.{Bor}
 use Rattle.yq_edit_rules.{specs.Edits.part_removed, specs.FlowParts.{flow_removed, flow_segments}}
 use Rattle.yq_edit_laws.{specs.EditPlaces.{IsFoundAbove, edit_segments, moved_on, remove_around}, proofs.FlowAnswers.EditFound}
-use Rattle.yq_edit_laws.{proofs.FlowHeads.removed_within, proofs.FlowLonger.{edit_more, removing_more}, proofs.NeighbourPlaces.around_gone}
+use Rattle.yq_edit_laws.{proofs.FlowHeads.{removed_within, edit_more, removing_more}, proofs.NeighbourPlaces.around_gone}
 use Rattle.yq_edit_laws.proofs.PiecePlaces.{Front, PieceFound, all_is, at_front, front_coll, piece_found, place_found}
 use Rattle.yq_edit_laws.proofs.FlowRemoveLaws.{bounds, bytes, texts}
 use Rattle.yq_core.specs.declared.path.Step as declared

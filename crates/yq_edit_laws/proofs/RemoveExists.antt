@@ -7,16 +7,34 @@ use Rattle.yq_outline.{specs.Ends.{found_line, line_at_steps, lines_end}, specs.
 use Rattle.yq_outline.{specs.Places.{FoundLine, find, lines_after, lines_before}, specs.Lines.lines_of_rows}
 use Rattle.yq_row_table.specs.Rows.{Part, Cut, cut_text}
 use Rattle.yq_documents.{specs.declared.path.Part.TheVariants.Entry, specs.Pieces.TextPiece, specs.Reading.read_at}
-use Rattle.yq_documents.specs.LinesInRows.{RowLine, row_line, row_line_of}
+use Rattle.yq_documents.{specs.LinesInRows.{RowLine, row_line, row_line_of}, specs.Documents.document_parts}
 use Rattle.yq_places.specs.FirstPlaces.{first_entry, first_out, first_removal}
 use Rattle.yq_places.specs.PathPieces.{BlockEntry, PrintedDocument, entry_piece, found_entry, piece_in, piece_in_entry, printed_document}
 use Rattle.yq_places.{specs.PrintedLines.line_in, specs.RemovalPlaces.{OwnRows, in_three, removal_place, row_count, rows_out}}
 use Rattle.yq_places.{specs.Placements.{RowsOfEntry, rows_of_entry}, proofs.FoundEntries.{entry_there, middle}}
-use Rattle.yq_places.{proofs.PrintedLaws.lines_are, proofs.RowPathLaws.found_lines, proofs.DashLineLaws.row_line_found}
+use Rattle.yq_places.{proofs.PrintedLaws.{lines_are, IsPrintedDocument, document_is}, proofs.RowPathLaws.found_lines}
+use Rattle.yq_places.proofs.DashLineLaws.{row_line_found}
 use Rattle.yq_edit_rules.{specs.PlacementLaws.HasItsRows, proofs.PlacementRows.rows_located, specs.EntryEdits.one_removed}
-use Rattle.yq_edit_rules.specs.Removing.{first_removed, rows_removed}
+use Rattle.yq_edit_rules.{specs.Removing.{first_removed, rows_removed}, proofs.PartLaws.document_known, proofs.PlaceTextLaws.around}
 use Rattle.yq_text.specs.Script.{Segment}
-use Rattle.yq_edit_laws.{proofs.PrintedDocuments.printed_at, proofs.PlacementExists.placed_there}
+use Rattle.yq_edit_laws.proofs.PlacementExists.{placed_there}
+
+-- ---- the lines of a document of a cut that has a reading
+
+-- The lines of document doc, which has part p.
+pub record IsPrintedAt (c : Cut) (doc : ℕ) (p : Part) : Type 0 where
+  pub document : PrintedDocument
+  pub is : printed_document doc c ≡ Some document
+  pub printed : IsPrintedDocument p document
+
+pub printed_at : (c : Cut) (doc : ℕ) (p : Part) → read_at (cut_text c) ≡ Some c → slice_get (document_parts c) doc ≡ Some p → IsPrintedAt c doc p
+printed_at c doc p read there =
+    let s = around doc c p there in
+    let known = document_known (cut_text c) c doc p (record { read = read; there = there }) in
+    let q = document_is doc c _ known.cut.parts s.printed in
+    record { document = _; is = s.printed; printed = record { lines = refl; as_printed = q.2.as_printed } }
+
+-- ---- an item or entry that is in rows can be taken out
 
 module _ (n : ℕ) (s : Step) (ss : List Step) (c : Cut) (e : RowsOfEntry) (read : read_at (cut_text c) ≡ Some c) (x : HasItsRows n s ss c e) where
   abbrev p : Part

@@ -72,14 +72,10 @@ gap_new (Some s) gap = lines_new s (text_lines gap)
 -- ---- what is taken out
 
 removed_old : (x : Removal) → old_text (rows_removed x) ≡ x.before ++ (x.gone ++ (x.gap ++ x.after))
-removed_old x =
-    ap (λ (t : List ℕ). x.before ++ (x.gone ++ t))
-    (old_both (gap_mended x.seam x.gap) (keep x.after ∷ []) ∙ (ap (λ (t : List ℕ). t ++ (x.after ++ [])) (gap_old x.seam x.gap) ∙ ap (λ (t : List ℕ). x.gap ++ t) (append-nil x.after)))
+removed_old x = search (rules, x.gone, old_both, x.seam, gap_old, append-nil)
 
 removed_new : (x : Removal) → new_text (rows_removed x) ≡ x.before ++ (mended x.seam x.gap ++ x.after)
-removed_new x =
-    ap (λ (t : List ℕ). x.before ++ t)
-    (new_both (gap_mended x.seam x.gap) (keep x.after ∷ []) ∙ (ap (λ (t : List ℕ). t ++ (x.after ++ [])) (gap_new x.seam x.gap) ∙ ap (λ (t : List ℕ). mended x.seam x.gap ++ t) (append-nil x.after)))
+removed_new x = search (rules, new_both, x.seam, gap_new, append-nil)
 
 -- ---- the documents after it
 

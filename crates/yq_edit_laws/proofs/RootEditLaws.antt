@@ -16,10 +16,9 @@ use Rattle.yq_edit_rules.proofs.SegmentLaws.{segments_readable}
 use Rattle.yq_semantics.{specs.Fits.Fits, specs.Operations.replace, specs.Rooms.room_of}
 use Rattle.yq_edit_laws.specs.RootEdits.{NoRowsArePut, RootsArePut}
 use Rattle.yq_edit_laws.proofs.BlockRootLaws.{IsBlockRoot, block_root_at, takes_value, before_piece, last_piece, after_piece}
-use Rattle.yq_edit_laws.{proofs.OpenRootLaws.open_carried, proofs.RootFits.{FitsPart, LocalRoot, fits_part, value_carried}}
-use Rattle.yq_edit_laws.{proofs.RootLocalLaws.{gap_moves, root_first}, proofs.RootReadLaws.are, proofs.RootRows.root_rows}
-use Rattle.yq_edit_laws.{proofs.PlacementRoots.{IsUnwrittenRoot, has_root, has_no_rows}, proofs.HeldLines.block_piece}
-use Rattle.yq_edit_laws.proofs.UnwrittenRootLaws.{is_located, whole, pieces, takes_unwritten}
+use Rattle.yq_edit_laws.{proofs.OpenRootLaws.open_carried, proofs.RootReadLaws.{FitsPart, LocalRoot, fits_part, value_carried, are}}
+use Rattle.yq_edit_laws.{proofs.RootRows.{gap_moves, root_first, root_rows}, proofs.PlacementRoots.{IsUnwrittenRoot, has_root, has_no_rows}}
+use Rattle.yq_edit_laws.{proofs.HeldLines.block_piece, proofs.UnwrittenRootLaws.{is_located, whole, pieces, takes_unwritten}}
 
 -- ---- in the place of a block collection
 

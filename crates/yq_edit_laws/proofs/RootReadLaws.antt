@@ -1,13 +1,13 @@
 -- A value as the root of a document in which that is a block collection, or isn't written: what the text then reads as.
 use Rattle.std.proofs.Common.{Some, ◌≡◌, ℕ, ◌≤◌, List, [], ◌∷◌, ◌++◌, map, replicate, None, true, false, sym, ap, ◌∙◌, subst, append-nil}
-use Rattle.std.{proofs.Common.rules, proofs.lemmas.Bool.false≢true}
+use Rattle.std.{proofs.Common.rules, proofs.lemmas.Bool.false≢true, proofs.lemmas.Option.same_Some, specs.List.slice_get}
 use Rattle.yq_core.{specs.Paths.within, specs.Tree.{Node, children_of, anchor_of}, specs.Anchors.names_of}
 use Rattle.yq_flow_edits.specs.Valued.{IsValueTree}
 use Rattle.yq_outline.{specs.Comments.head_comment, specs.Outline.anchored, proofs.NodeLaws.anchored_none}
 use Rattle.yq_row_table.{specs.Grammar.{unlimited, AreRows, no_rows}, specs.Rows.{Row, rows_text, Part, Cut, cut_text}}
 use Rattle.yq_row_table.{specs.SpliceFits.is_after, specs.Splices.{first_gap, marker_before}}
 use Rattle.yq_documents.{specs.Documents.{Document, document_parts, lead_of}, specs.TreeEdits.{headed, lead_by, led, replaced_node}}
-use Rattle.yq_documents.{specs.Reading.{root_of, read_at}, specs.PartNumbers.part_number}
+use Rattle.yq_documents.{specs.Reading.{root_of, read_at, documents}, specs.PartNumbers.part_number}
 use Rattle.yq_places.{specs.PlacedRows.PlacedPart, specs.RowPaths.IsReadable}
 use Rattle.yq_edit_rules.{specs.declared.layout.Layout.Layout, specs.BlockText.block_value, specs.BlockValues.HasNearKeys}
 use Rattle.yq_edit_rules.{specs.Changed.{changed as part_changed, IsChanged, KeepsRows, put_document}, specs.Conditions.AreSpared}
@@ -15,9 +15,11 @@ use Rattle.yq_edit_rules.{specs.DocumentRows.{IsDocumentPart, after_document}, s
 use Rattle.yq_edit_rules.{specs.Replaces.{TakesRoot, rooted}, specs.Rooms.{is_block_root, LeadGoes}}
 use Rattle.yq_edit_rules.{specs.SoundRoots.{inner_names, IsNewValue}, proofs.AfterLaws.nth_is, proofs.ChangedLaws.document_put}
 use Rattle.yq_edit_rules.{proofs.EditedLaws.led_same, proofs.RootLaws.root_rows_replaced, specs.ReadsAfter.ReadsAfter}
-use Rattle.yq_edit_rules.proofs.DoneLaws.{document_done}
-use Rattle.yq_semantics.specs.Operations.{replace}
+use Rattle.yq_edit_rules.{proofs.DoneLaws.document_done, specs.EditLaws.CarriedOut, specs.Local.IsLocal, proofs.LocalLaws.cut_known}
+use Rattle.yq_edit_rules.proofs.EditsFitLaws.{fits_replace}
+use Rattle.yq_semantics.{specs.Operations.replace, specs.Fits.Fits, specs.Rooms.room_of}
 use Rattle.yq_edit_laws.{proofs.RootRows.{root_rows, HasRoom, AreRootRows}, proofs.RootValues.value_root_rows}
+use Rattle.yq_text.specs.Script.{Segment, new_text}
 use Rattle.yq_documents.specs.Reading as reading
 
 block_unnamed : (p : Part) → is_block_root p ≡ true → anchor_of (root_of p) ≡ None
@@ -115,3 +117,28 @@ module _ (n : ℕ) (c : Cut) (d : PlacedPart) (gap last back : List ℕ) (h : Ta
           block = λ keeps. absurd keeps;
           equal_room = λ sets. absurd sets;
         })
+
+-- ---- a value that fits as the root of a document: what that says of it, and the text in which it comes there
+
+-- A value may be in the place of the root of a part.
+pub record FitsPart (v : Node) (p : Part) : Type 0 where
+  pub near : HasNearKeys v
+  pub value_is : IsNewValue v 0
+  pub spared : AreSpared (inner_names (root_of p)) [] (names_of (root_of p))
+
+pub fits_part : (n : ℕ) (v : Node) (c : Cut) (p : Part) → slice_get (document_parts c) n ≡ Some p → IsValueTree v → Fits (room_of (cut_text c)) (replace n [] v) (documents c) → FitsPart v p
+fits_part n v c p there value_tree fits =
+    let f = fits_replace n [] v c p there value_tree fits in
+    record { near = f.near; value_is = f.may.value_is; spared = subst (λ m. AreSpared (inner_names m) [] (names_of (root_of p))) (sym (same_Some _ _ f.there)) f.may.spared }
+
+-- what is asked of segments that write the root, besides that they make this text
+abbrev pub LocalRoot : (n : ℕ) (c : Cut) (d : PlacedPart) (rs : List Row) (back : List ℕ) (ss : List Segment) → Type 0
+LocalRoot n c d rs back ss =
+    new_text ss ≡ cut_text (put_document n (rooted rs back d.part) c) →
+    read_at (cut_text (put_document n (rooted rs back d.part) c)) ≡ Some (put_document n (rooted rs back d.part) c) →
+    IsLocal ss c (put_document n (rooted rs back d.part) c)
+
+pub value_carried : (n : ℕ) (c : Cut) (d : PlacedPart) (gap last back : List ℕ) (v : Node) (l : Layout) (column : ℕ) (ss : List Segment) → TakesValue n c d gap last back → 1 ≤ l.mapping → IsValueTree v → FitsPart v d.part →
+    d.before ++ (gap ++ (replicate column 32 ++ (block_value l column v ++ (last ++ (back ++ d.after))))) ≡ new_text ss → IsReadable (new_text ss) → LocalRoot n c d (root_rows l gap column last v) back ss → CarriedOut (replace n [] v) c ss
+value_carried n c d gap last back v l column ss takes step value_tree fits text readable local =
+    search (rules, text_is, root_rows, root_read, root_reads, cut_known)

@@ -1,6 +1,7 @@
 -- The rows in which a value is written as a root.
 use Rattle.std.proofs.Common.{◌≡◌, ℕ, suc, ◌<◌, ◌≤◌, true, false, List, [], ◌∷◌, ◌++◌, replicate, Option, Some, None, refl, sym, ap, ◌∙◌}
-use Rattle.std.{proofs.Common.{subst, arith, rules}, proofs.Math.Bool.and-false, proofs.lemmas.Bool.false≢true}
+use Rattle.std.{proofs.Common.{subst, arith, rules, append-nil, length}, proofs.Math.Bool.and-false, proofs.lemmas.Bool.false≢true}
+use Rattle.std.{proofs.lemmas.List.length-append, specs.List.slice_get}
 use Rattle.yq_core.{specs.Paths.within, specs.Plain.ends_plain, specs.Text.{is_empty, separates}, specs.Tree.Node, specs.Nodes.node_text}
 use Rattle.yq_core.proofs.NodesWrittenLaws.{node_then}
 use Rattle.yq_flow_edits.specs.Valued.{IsValueTree}
@@ -8,15 +9,20 @@ use Rattle.yq_outline.{specs.LineAnchors.HaveOneAnchorEach, specs.Comments.{head
 use Rattle.yq_outline.{specs.Outline.{Line, level, Outline, end, row, flatten, IsEven, IsLocatedAt, value}, proofs.ByRules.rules_give}
 use Rattle.yq_outline.{proofs.NodeLaws.anchored_none, specs.Lines.{mark_line, lines_from, lines_of_rows}}
 use Rattle.yq_row_table.{specs.Gap.IsGap, specs.Grammar.{is_entry, IsTail, IsRow, unlimited, AreRows, no_rows, ends_part}}
-use Rattle.yq_row_table.{specs.Rows.{Bare, Inline, Row, following_gap, rows_text}, specs.Splices.{with_first_gap, with_row_gap, first_gap}}
-use Rattle.yq_row_table.{proofs.PlainEnds.{tail_ends, gap_line}, proofs.seams.FrontSeams.after_row_some, proofs.seams.SeamLaws.part_line}
-use Rattle.yq_documents.{specs.Documents.{HaveFitKeys, HasShortRoot, is_long_plain}, specs.TreeEdits.headed}
+use Rattle.yq_row_table.specs.Rows.{Bare, Inline, Row, following_gap, rows_text, Cut, Part, cut_text, part_text}
+use Rattle.yq_row_table.{specs.Splices.{with_first_gap, with_row_gap, first_gap}, proofs.PlainEnds.{tail_ends, gap_line}}
+use Rattle.yq_row_table.{proofs.seams.FrontSeams.after_row_some, proofs.seams.SeamLaws.part_line, specs.Items.{end_item, rows_items, Item}}
+use Rattle.yq_documents.{specs.Documents.{HaveFitKeys, HasShortRoot, is_long_plain, document_parts}, specs.TreeEdits.headed}
 use Rattle.yq_edit_rules.{specs.declared.layout.Layout.Layout, specs.BlockRows.{inline_of, node_rows}, specs.BlockText.block_node}
 use Rattle.yq_edit_rules.{specs.BlockValues.{HasNearKeys, IsFilled, level_at}, proofs.FitLaws.{RowsAreFit, anchors_fit, keys_fit, node_fit}}
-use Rattle.yq_edit_rules.{proofs.LaidRows.{AreLaid, laid_rows, no_gap_here}, proofs.BlockLineLaws.node_is_there, proofs.RowLaws.value_laid}
-use Rattle.yq_edit_rules.{proofs.TextLaws.node_spelled, specs.Edited.with_lead, specs.InlineRows.IsValueNode, specs.Siblings.HasEntries}
-use Rattle.yq_edit_rules.{proofs.ContentLaws.{free_alone, alone_even, alone_value}, proofs.EditedLaws.lead_is_above}
-use Rattle.yq_edit_rules.{proofs.NodeLineLaws.low_level, proofs.AppendEntryLaws.rows_gap}
+use Rattle.yq_edit_rules.{proofs.LaidRows.{AreLaid, laid_rows, no_gap_here}, proofs.BlockLineLaws.{node_is_there, node_begun}}
+use Rattle.yq_edit_rules.{proofs.RowLaws.value_laid, proofs.TextLaws.node_spelled, specs.Edited.with_lead, specs.InlineRows.IsValueNode}
+use Rattle.yq_edit_rules.{specs.Siblings.HasEntries, proofs.ContentLaws.{free_alone, alone_even, alone_value}}
+use Rattle.yq_edit_rules.{proofs.EditedLaws.lead_is_above, proofs.NodeLineLaws.low_level, proofs.AppendEntryLaws.rows_gap}
+use Rattle.yq_edit_rules.{specs.Changed.put_document, specs.DocumentRows.after_document, specs.Replaces.rooted}
+use Rattle.yq_edit_rules.{specs.Local.{InFirst, IsLocal}, proofs.ItemsLocal.rows_last, proofs.LocalLaws.{above_is, h}}
+use Rattle.yq_edit_rules.proofs.DocumentItemLaws.{rows_before}
+use Rattle.yq_text.specs.Script.{Segment, kept_front, kept_back}
 use Rattle.yq_core.specs.Nodes as inline
 use Rattle.yq_outline.specs.Outline as outline
 use Rattle.yq_row_table.specs.Rows as rows
@@ -184,3 +190,42 @@ module _ (v : Node) (l : Layout) (gap : List ℕ) (column : ℕ) (last back rest
       where
         line_short : is_long_plain Bare (Inline [] node last) ≡ false
         line_short = search (rules, false≢true)
+
+-- ---- rows of a root come in the place of others, or after the gap of a document that has none: which items they exchange
+
+-- ---- the first row
+
+lone_first : (gap : List ℕ) (column : ℕ) (node : inline.FlowNode) (last : List ℕ) → InFirst (gap ++ replicate column 32) (rows_items (lone_row gap column node last ∷ []) [])
+lone_first gap column node last = search (rules, arith, length-append, lone_row)
+
+pub root_first : (v : Node) (l : Layout) (gap : List ℕ) (column : ℕ) (last : List ℕ) → IsValueTree v → InFirst (gap ++ replicate column 32) (rows_items (root_rows l gap column last v) [])
+root_first v l gap column last h1 = search (rules, h, lone_first, length-append, node_begun)
+
+-- bytes that begin its gap
+gap_first : (rs : List Row) (xs : List Item) (g u : List ℕ) → no_rows rs ≡ false → first_gap rs [] ≡ g ++ u → InFirst g (rows_items rs xs)
+gap_first [] xs g u some e = absurd (false≢true (sym some))
+gap_first (r ∷ rs) xs g u some e = omega (arith, ap length e, length-append g u, length-append r.gap (following_gap r []))
+
+-- ---- a document without rows
+
+-- Rows come where a document has none, and the gap at its end ends up in front of them.
+pub gap_moves : (n : ℕ) (c : Cut) (p : Part) (there : slice_get (document_parts c) n ≡ Some p) (start : List ℕ)
+    (put : (x : Part) → cut_text (put_document n x c) ≡ start ++ part_text x (after_document n c)) (ss : List Segment) (rs : List Row)
+    (u : List ℕ) → p.rows ≡ [] → no_rows rs ≡ false → first_gap rs [] ≡ p.end ++ u → kept_front ss ≡ start ++ p.end → kept_back ss ≡ after_document n c → IsLocal ss c (put_document n (rooted rs [] p) c)
+gap_moves n c p there start put ss rs u none some gap before after =
+    let k = h c n p there start put in
+    record {
+      front = k.above;
+      gone = end_item p.end k.marker ∷ [];
+      come = rows_items rs (end_item [] k.marker ∷ []);
+      back = k.below;
+      lead = p.end;
+      trail = k.marker;
+      old_are = k.old ∙ ap (λ xs. k.above ++ rows_items xs (end_item p.end k.marker ∷ k.below)) none;
+      new_are = k.put (rooted rs [] p)
+          ∙ ap (λ is. k.above ++ is) (ap (λ xs. rows_items xs (end_item [] k.marker ∷ k.below)) (append-nil rs) ∙ rows_before rs (end_item [] k.marker ∷ []) k.below);
+      before_is = before ∙ sym (above_is c n p there start put p.end);
+      following_is = after ∙ k.after;
+      begins = (omega (arith, length-append p.end k.marker), gap_first rs (end_item [] k.marker ∷ []) p.end u some gap);
+      ends = (omega (arith, length-append p.end k.marker), rows_last rs (end_item [] k.marker) k.marker (omega arith));
+    }

@@ -1,6 +1,6 @@
 -- What operations exchange that change one row.
-use Rattle.std.proofs.Common.{rules, ◌≡◌, Bool, true, false, cond, eq-eqb, ℕ, List, [], ◌∷◌, length, Option, Some, None, option_map, ap}
-use Rattle.std.{proofs.Common.{◌∙◌, subst}, proofs.lemmas.Bool.false≢true, specs.Option.option_or}
+use Rattle.std.proofs.Common.{rules, ◌≡◌, Bool, false, cond, eq-eqb, ℕ, List, [], ◌∷◌, Option, Some, None, option_map, ap, ◌∙◌, subst}
+use Rattle.std.{proofs.lemmas.Bool.false≢true, specs.Option.option_or}
 use Rattle.yq_core.{specs.Answers.◌>>=◌, specs.Paths.Step, specs.declared.style.Place.TheVariants.Block as InBlock}
 use Rattle.yq_core.{specs.BlockWritten.break_text, specs.Text.is_empty, specs.Tree.Node}
 use Rattle.yq_row_table.specs.Rows.{Cut, cut_text}
@@ -8,12 +8,10 @@ use Rattle.yq_documents.specs.Pieces.{TextPiece}
 use Rattle.yq_places.{specs.FirstBreak.first_break, specs.NodesAt.node_in}
 use Rattle.yq_places.specs.Placements.{RowsOfEntry, alone, beside, entry_placement, flow_placement, held, last_step, placement_at}
 use Rattle.yq_text.specs.Script.{Segment, keep}
-use Rattle.yq_edit_rules.specs.CommentEdits.{above_rows, comment_put, head_comment_put, head_comment_segments, line_comment_put}
-use Rattle.yq_edit_rules.{specs.FlowParts.flow_put, specs.Layouts.layout_of, specs.Edits.op_edits}
-use Rattle.yq_edit_rules.specs.ReplaceEdits.{has_text, held_put, lone_put, spaced_text, value_put, value_put_at}
-use Rattle.yq_edit_rules.specs.Replacing.{keeps_scalar}
+use Rattle.yq_edit_rules.{specs.CommentEdits.{above_rows, head_comment_put, head_comment_segments}, specs.FlowParts.flow_put}
+use Rattle.yq_edit_rules.{specs.Edits.op_edits, specs.ReplaceEdits.{lone_put, spaced_text, value_put_at}, specs.Replacing.keeps_scalar}
 use Rattle.yq_edit_rules.specs.RowChanges.{CommentEdits, HeadCommentEdits, HoldsInline, InlineEdits, PutsOne, RowEdits, inline_put}
-use Rattle.yq_edit_rules.specs.WrittenValues.{collection_at, inline, value_text}
+use Rattle.yq_edit_rules.specs.WrittenValues.{value_text}
 use Rattle.yq_semantics.specs.Operations.{replace}
 use Rattle.yq_edit_laws.proofs.OnePutLaws.{comment_puts, inline_puts, piece_puts}
 
@@ -24,15 +22,11 @@ beside_there e h = search (rules, false≢true)
 inline_edits : InlineEdits
 inline_edits n s ss v c e at h plain =
     let is_located : placement_at n (s ∷ ss) c ≡ Some (beside (held e)) = ap (option_map entry_placement) at ∙ ap Some (beside_there e h) in
-    let put : value_put_at n (s ∷ ss) v c ≡ Some (inline_put v (held e)) =
-    ap (option_map (value_put (has_text (node_in n (s ∷ ss) c)) (layout_of n c) v)) is_located
-    ∙ ap (λ (b : Bool). Some (held_put (break_text (layout_of n c).br) (held e) (cond b (collection_at (layout_of n c) (held e).mark v) (inline (value_text InBlock (held e).head v))))) plain in
+    let put : value_put_at n (s ∷ ss) v c ≡ Some (inline_put v (held e)) = search (rules, is_located) in
     ap (λ (o : Option (List Segment)). cond (keeps_scalar (node_in n (s ∷ ss) c) v) (Some (keep (cut_text c) ∷ [])) (option_or o (option_map (flow_put (cut_text c) v) (flow_placement n c (last_step (s ∷ ss)))))) put
 
 comment_edits : CommentEdits
-comment_edits n steps text c e at last =
-    ap (λ (o : Option RowsOfEntry). o >>= line_comment_put text) at
-    ∙ ap (λ (b : Bool). cond b (Some (comment_put text (held e))) None) (eq-eqb e.line (length e.row.dashes) last)
+comment_edits n steps text c e at last = search (rules, e.row.dashes)
 
 head_comment_edits : HeadCommentEdits
 head_comment_edits n steps text c e at first =
@@ -43,9 +37,7 @@ head_comment_edits n steps text c e at first =
 -- what a Replace exchanges of a node that is alone on its line, by whether its value is the scalar that is there
 pub lone_edits : (n : ℕ) (steps : List Step) (v : Node) (c : Cut) (w : TextPiece) → placement_at n steps c ≡ Some (alone w) →
     op_edits (replace n steps v) c ≡ cond (keeps_scalar (node_in n steps c) v) (Some (keep (cut_text c) ∷ [])) (Some (lone_put w v))
-lone_edits n steps v c w is_located =
-    let put : value_put_at n steps v c ≡ Some (lone_put w v) = ap (option_map (value_put (has_text (node_in n steps c)) (layout_of n c) v)) is_located in
-    ap (λ (o : Option (List Segment)). cond (keeps_scalar (node_in n steps c) v) (Some (keep (cut_text c) ∷ [])) (option_or o (option_map (flow_put (cut_text c) v) (flow_placement n c (last_step steps))))) put
+lone_edits n steps v c w is_located = search rules
 
 -- a value in the place of a node that is alone on its line is one text in the place of another
 pub lone_puts : (w : TextPiece) (v : Node) → is_empty w.text ≡ false → PutsOne (lone_put w v) w.before w.text (value_text InBlock w.text v) w.after

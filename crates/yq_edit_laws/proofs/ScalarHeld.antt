@@ -1,19 +1,33 @@
--- What a key or dash holds that has a block scalar: its header's line, and the lines below.
+-- A block scalar that a key or dash holds: its header's line, the lines below, and a value on one line in their place.
 use Rattle.std.proofs.Common.{◌≡◌, inl, inr, ℕ, cond, List, [], ◌++◌, length, Option, None, Some, true, false, ◌&&◌, ◌||◌, refl, sym, ap}
-use Rattle.std.{proofs.Common.{◌∙◌, subst, append_assoc, append-nil, rules}, proofs.lemmas.Bool.{false≢true, and_parts}}
+use Rattle.std.{proofs.Common.{◌∙◌, subst, append_assoc, append-nil, rules, ◌≤◌, not, ◌∷◌}, proofs.lemmas.Bool.{false≢true, and_parts}}
 use Rattle.yq_core.{specs.Block.{BlockText, block_text}, specs.Lines.{is_blank, is_hash}, specs.Paths.Step}
 use Rattle.yq_core.specs.Text.{front, is_empty, is_line, is_white, past_white, separates}
-use Rattle.yq_core.{specs.declared.block_types.Break.TheVariants.{Lf, CrLf}, specs.Tree.anchor_of}
-use Rattle.yq_outline.{specs.Places.content_under, specs.Lines.{block_anchor, content_anchor}}
-use Rattle.yq_row_table.{specs.Exchange.{row_front, with_content}, specs.Gap.IsBreak, specs.Grammar.{IsContent, IsTail}}
-use Rattle.yq_row_table.specs.Rows.{Anchor, Block, anchor_text, content_text, Row, parent_indent, rows_text, Cut, cut_text}
-use Rattle.yq_row_table.{specs.View.slices, proofs.LineEnds.{comment_none, text_line, white_none}}
+use Rattle.yq_core.{specs.declared.block_types.Break.TheVariants.{Lf, CrLf}, specs.Tree.{anchor_of, Node}, specs.BlockWritten.break_text}
+use Rattle.yq_core.{specs.Piece.deeper, specs.Plain.ends_plain, specs.declared.block_types.Break.Break, specs.Nodes.{node_text, IsFlowNode}}
+use Rattle.yq_core.specs.Trees.{node_anchor}
+use Rattle.yq_outline.{specs.Places.content_under, specs.Lines.{block_anchor, content_anchor}, specs.Comments.line_comment}
+use Rattle.yq_row_table.{specs.Exchange.{row_front, with_content}, specs.Gap.IsBreak, specs.Grammar.{IsContent, IsTail, IsAnchor}}
+use Rattle.yq_row_table.specs.Rows.{Anchor, Block, anchor_text, content_text, Row, parent_indent, rows_text, Cut, cut_text, Content, Inline}
+use Rattle.yq_row_table.{specs.Rows.mark_column, specs.View.slices, proofs.LineEnds.{comment_none, text_line, white_none, none_in_white}}
+use Rattle.yq_row_table.{proofs.NodeExchange.space_apart, proofs.PlaceLaws.row_front-append, proofs.seams.RowSeams.block_no_space}
 use Rattle.yq_places.{specs.CommentPlaces.{LineEnd, end_in_line}, specs.PrintedLines.{last_break, less_break}}
-use Rattle.yq_places.{specs.RowPieces.{anchor_before, space_before}, specs.Placements.{RowsOfEntry, before_entry, held}}
-use Rattle.yq_edit_rules.{specs.PlacementLaws.HasItsRows, specs.TextPieces.IsPiece, specs.ReplaceEdits.{line_break, raw_last}}
-use Rattle.yq_edit_rules.{proofs.BreakLaws.{IsLfOrCrLf, break_is}, proofs.CommentPieceLaws.break_piece, proofs.CommentRowLaws.end_parts}
-use Rattle.yq_edit_laws.{proofs.HeadPuts.{apart_there, content_there}, proofs.HeldKnown.KnowsHeld, proofs.HeldRows.{mark_end, mark_tail}}
-use Rattle.yq_edit_laws.{proofs.NodeRowLaws.rest, proofs.PlacementNodes.mark_node}
+use Rattle.yq_places.{specs.RowPieces.{anchor_before, space_before}, specs.Placements.{RowsOfEntry, before_entry, held, Held}}
+use Rattle.yq_edit_rules.{specs.PlacementLaws.HasItsRows, specs.TextPieces.IsPiece}
+use Rattle.yq_edit_rules.{specs.ReplaceEdits.{line_break, raw_last, spaced_text, held_put}, proofs.BreakLaws.{IsLfOrCrLf, break_is}}
+use Rattle.yq_edit_rules.{proofs.CommentPieceLaws.break_piece, proofs.CommentRowLaws.end_parts, specs.InlineRows.IsValueNode}
+use Rattle.yq_edit_rules.proofs.CoreLaws.{recore, anchored_node, core_anchor, core_bare, core_head, core_keys}
+use Rattle.yq_edit_rules.{proofs.InlineReplaceLaws.deeper_entry, proofs.PathTailLaws.anchor_other, proofs.ValueContentLaws.more_some}
+use Rattle.yq_edit_rules.{specs.EditLaws.CarriedOut, proofs.EditsFitLaws.FitsReplace, proofs.ValueTexts.IsWrittenFor}
+use Rattle.yq_edit_rules.proofs.PlacementMarks.{entry_there}
+use Rattle.yq_text.{specs.Limit.text_limit, specs.Script.new_text}
+use Rattle.yq_documents.proofs.RowLineLaws.{tail_is as content_tail}
+use Rattle.yq_semantics.specs.Operations.{replace}
+use Rattle.yq_edit_laws.{proofs.HeldInline.{apart_there, content_there, head_carried}, proofs.HeldCarried.{KnowsHeld, regroup}}
+use Rattle.yq_edit_laws.{proofs.HeldRows.{mark_end, mark_tail}, proofs.NodeRowLaws.{rest, NodeRows, mark_node}}
+use Rattle.yq_edit_laws.proofs.NodeValueLaws.{IsContentFor, end_is}
+use Rattle.yq_core.specs.Nodes as inline
+use Rattle.yq_edit_rules.specs.WrittenValues as written
 
 -- ---- the break of a header's line
 
@@ -52,6 +66,27 @@ front_with : (base space : List ℕ) (anchor : Option Anchor) (block : BlockText
     (base ++ anchor_before s) ++ (space_before s ++ u) ≡ base ++ (space ++ anchor_text anchor u)
 front_with base space None block r u = ap (λ t. t ++ (space ++ u)) (append-nil base)
 front_with base space (Some a) block r u = simp append_assoc refl
+
+-- ---- an inline node after the anchor of a block scalar
+
+-- a node that has that anchor
+abbrev carrier : Option Anchor → inline.FlowNode
+carrier None = inline.coll 93 [] inline.none
+carrier (Some a) = inline.anchored a.name a.gap (inline.coll 93 [] inline.none)
+
+carrier_anchor : (a : Option Anchor) → node_anchor (carrier a) ≡ block_anchor a
+carrier_anchor a = search rules
+
+named_node : (anchor : Option Anchor) (v : Node) (node : inline.FlowNode) (spaces : Option ℕ) (d : ℕ) (old u : List ℕ) → IsAnchor anchor old →
+    IsValueNode v node → IsFlowNode false spaces d node u → IsFlowNode false spaces d (recore node (carrier anchor)) u
+named_node None v node spaces d old u h is is_located = is_located
+named_node (Some a) v node spaces d old u h is is_located =
+    anchored_node spaces d node u is.unnamed (more_some node is.more) is.takes is_located a.name a.gap (inline.coll 93 [] inline.none) (91 ∷ []) refl
+    (anchor_other (Some a) old (91 ∷ []) h).0 (inl ((none_in_white a.gap (91 ∷ []) h.1, refl), refl)) (ap not h.2)
+
+named_text : (anchor : Option Anchor) (node : inline.FlowNode) (u : List ℕ) → node_text (recore node (carrier anchor)) u ≡ anchor_text anchor (node_text node u)
+unfolding node_text
+named_text anchor node u = search rules
 
 -- ---- a key or dash
 
@@ -109,3 +144,55 @@ module _ (n : ℕ) (s : Step) (ss : List Step) (c : Cut) (e : RowsOfEntry) (ther
   -- the old text
   pub raw_old : (held e).before ++ ((held e).space ++ ((held e).head ++ ((held e).white ++ ((held e).comment ++ (line_break (held e) ++ ((held e).lines ++ (raw_last (held e) ++ ((held e).after ++ [])))))))) ≡ cut_text c
   raw_old = search (rules, line_is, append-nil, lines_old, break_there)
+
+  -- ---- a value on one line in the place of header and lines
+
+  module _ (br : Break) (v : Node) (f : FitsReplace n (s ∷ ss) v c there.part) (t : List ℕ) (for : IsWrittenFor v t) where
+    abbrev w : Held
+    w = held e
+
+    abbrev h : NodeRows n s ss c
+    h = mark_node n s ss c e there last
+
+    abbrev tail : List ℕ
+    tail = w.white ++ (w.comment ++ w.last)
+
+    abbrev node : inline.FlowNode
+    node = recore for.node (carrier anchor)
+
+    abbrev new : Content
+    new = Inline space (recore for.node (carrier anchor)) (w.white ++ (w.comment ++ w.last))
+
+    plain : ends_plain false (Some (deeper (parent_indent e.row))) (tail ++ z) ≡ true
+    plain = subst (λ m. ends_plain false (Some m) (tail ++ z) ≡ true) (sym (deeper_entry e.row.mark (mark_column e.row) (entry_there n s ss c e there last))) (end_is n s ss c h tail knows.ended).plain
+
+    is_for : IsContentFor n s ss c h v new
+    is_for =
+        let old = valid in
+        record {
+          is_located = (
+            old.0,
+            record {
+              valid = named_node anchor v for.node _ _ (block_text block z) (tail ++ z) old.1 for.is (for.is.is_located (parent_indent e.row) (tail ++ z) plain).valid;
+              something = ap not (core_bare for.node (carrier anchor) (more_some for.node for.is.more));
+            },
+            knows.ended,
+          );
+          apart = space_apart space (anchor_text anchor (block_text block z)) (node_text node (tail ++ z)) old.0 apart_is (block_no_space anchor block z);
+          head = core_head for.node (carrier anchor) ∙ for.is.head;
+          comment = knows.ended_comment ∙ ap line_comment (content_tail e.row.content);
+          anchor = core_anchor for.node (carrier anchor) for.is.unnamed ∙ (carrier_anchor anchor ∙ sym anchor_is);
+          keys = core_keys for.node (carrier anchor) for.is.keys;
+        }
+
+    spelled : (u : List ℕ) → e.start ++ (rows_text e.front [] ++ rows_text (with_content new e.row ∷ []) u) ≡ w.before ++ (w.space ++ spaced_text w.head (node_text for.node (tail ++ u)))
+    spelled u =
+        let b : List ℕ = rows_text e.front [] in
+        ap (λ r. e.start ++ (b ++ r)) (row_front-append (with_content new e.row) u)
+        ∙ (regroup e.start b (row_front e.row) (content_text new u)
+        ∙ (ap (λ r. ((e.start ++ b) ++ row_front e.row) ++ (space ++ r)) (named_text anchor for.node (tail ++ u))
+        ∙ (sym (front_text (node_text for.node (tail ++ u)))
+        ∙ ap (λ b. w.before ++ (w.space ++ cond b (32 ∷ node_text for.node (tail ++ u)) (node_text for.node (tail ++ u)))) (sym headed))))
+
+    pub scalar_inline : length (new_text (held_put (break_text br) w (written.inline t))) ≤ text_limit → CarriedOut (replace n (s ∷ ss) v) c (held_put (break_text br) w (written.inline t))
+    scalar_inline = head_carried n s ss c e there last knows br v f t for new is_for spelled

@@ -1,6 +1,6 @@
 -- A collection in another one, in the head of a row, that has no more than one item or entry: it is an item or entry there, which an empty collection replaces.
-use Rattle.std.proofs.Common.{◌≡◌, ℕ, suc, ◌+◌, length, length-append, Bool, true, false, cond, eqb, List, [], ◌∷◌, ◌++◌, Option, Some}
-use Rattle.std.{proofs.Common.{None, refl, sym, ap, ◌∙◌, subst, append_assoc}, proofs.lemmas.Bool.false≢true}
+use Rattle.std.proofs.Common.{rules, ◌≡◌, ℕ, suc, ◌+◌, length, length-append, Bool, true, false, cond, eqb, List, [], ◌∷◌, ◌++◌, Option}
+use Rattle.std.{proofs.Common.{Some, None, refl, sym, ap, ◌∙◌, append_assoc}, proofs.lemmas.Bool.false≢true}
 use Rattle.std.{proofs.lemmas.Option.{none-some, same_Some}, specs.Prelude.nat_lt}
 use Rattle.yq_core.{specs.Paths.Step, specs.Collections.{CollPieces, coll_along, coll_in}, specs.Entries.{EntryPieces, item_at}}
 use Rattle.yq_core.specs.Nodes.{FlowNode, IsFlowNode, Items, alias, anchored, coll, empty, flow_items_text, node_text, scalar, takes_anchor}
@@ -102,10 +102,7 @@ unfolding tree_of
 node_emptied empty rest z e few = absurd (none-some _ e)
 node_emptied (alias n) rest z e few = absurd (none-some _ e)
 node_emptied (scalar p) rest z e few = absurd (none-some _ e)
-node_emptied (coll k gap is) rest z e few =
-    let same = same_Some _ _ e in
-    subst (λ (w : CollPieces). IsEmptiedBy (empty_tree w.close) (tree_collection k (items_tree is))) same
-    (collection_emptied k (items_tree is) (ap (λ (w : CollPieces). nat_lt 1 (count (items_tree w.items))) same ∙ few))
+node_emptied (coll k gap is) rest z e few = search (rules, same_Some, e, collection_emptied, few)
 node_emptied (anchored n gap node) rest z e few =
     let h = node_emptied node rest z e few in
     (named_empty n (tree_of node) ∙ h.0, named_several n (tree_of node) ∙ h.1)

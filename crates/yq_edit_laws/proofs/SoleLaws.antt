@@ -1,11 +1,11 @@
 -- A sole item or entry taken out: an empty collection in the place of its own is what is left of that.
 use Rattle.std.proofs.Common.{rules, ◌≡◌, ℕ, zero, suc, ◌+◌, ◌≤◌, cond, ltb, Bool, false, List, [], ◌∷◌, ◌++◌, length, Option, Some, None}
 use Rattle.std.{proofs.Common.{option_and_then, refl, sym, ap, ◌∙◌, subst, arith, append-nil}, proofs.lemmas.Bool.{le-ltb, ltb-false}}
-use Rattle.std.{proofs.lemmas.Option.{none-some, same_Some}, specs.List.{list_any, slice_get}}
+use Rattle.std.{proofs.lemmas.Option.{none-some, same_Some}, specs.List.slice_get}
 use Rattle.yq_core.{specs.Answers.◌>>=◌, specs.Keys.depth}
 use Rattle.yq_core.specs.Paths.{Step, changed_at, change_child, child_at, further, is_here, node_at, remove_child, within}
 use Rattle.yq_core.{specs.Shapes.IsTree, specs.Tree.{Label, Node, Children, none, child, children_of}, proofs.Bools.bind_some}
-use Rattle.yq_core.{specs.Inline.depth_limit, specs.Anchors.{names_in, names_of}}
+use Rattle.yq_core.{specs.Inline.depth_limit, specs.Anchors.names_of}
 use Rattle.yq_flow_edits.specs.Valued.{IsValueTree}
 use Rattle.yq_outline.specs.Counts.{count}
 use Rattle.yq_row_table.specs.Rows.{Cut, cut_text}
@@ -15,8 +15,8 @@ use Rattle.yq_places.{specs.RemovalPlaces.{has_others_at, has_several}, specs.No
 use Rattle.yq_edit_rules.{proofs.AfterLaws.end_is_change, proofs.PartLaws.document_known, proofs.SoundRootLaws.depth_at}
 use Rattle.yq_edit_rules.{proofs.RemovalChangeLaws.take_init, specs.EditLaws.{IsEdit, SoleIsRemoved}, specs.Edits.empty_collection}
 use Rattle.yq_edit_rules.{specs.ReadsAfter.ReadsAfter, proofs.DoneLaws.read_cut}
-use Rattle.yq_semantics.{specs.After.{done_to, root_after}, specs.Changes.{has_long_key, is_deep, is_used, is_used_in}}
-use Rattle.yq_semantics.{specs.Fits.{Fits, IsBelow}, specs.Operations.{replace, remove}, specs.Rooms.room_of, specs.RoomsKept.HasSome}
+use Rattle.yq_semantics.{specs.After.{done_to, root_after}, specs.Changes.{has_long_key, is_deep, is_used_in}, specs.Fits.{Fits, IsBelow}}
+use Rattle.yq_semantics.{specs.Operations.{replace, remove}, specs.Rooms.room_of, specs.RoomsKept.HasSome}
 use Rattle.yq_text.specs.Script.{new_text}
 use Rattle.yq_edit_laws.{proofs.FlowSoundLaws.{above_is, last_is}, proofs.DocumentParts.part_of}
 use Rattle.yq_core.specs.Tree as tree
@@ -119,19 +119,10 @@ module _ (doc : ℕ) (init : List Step) (s : Step) (v : Node) (c : Cut) (h : Rem
       le-ltb depth_limit (length init + depth v) (omega (arith, limit, inside, h.empty.flat))
 
   fits : Fits (room_of (cut_text c)) (replace doc init v) (documents c)
-  fits = (
-    h.d,
-    h.document,
-    (
-      (h.empty.shape, h.empty.short, not_deep),
-      (h.old, at_init, (ap (list_any (is_used (names_of h.d.root))) (ap names_in is_sole.is ∙ append-nil (names_of h.node)) ∙ h.unused)),
-    ),
-  )
+  fits = search (rules, h.document, h.empty.shape, h.empty.short, not_deep, at_init, is_sole.is, append-nil, h.unused)
 
   same_root : (block : Bool) (lead : List (List ℕ)) → root_after block lead (replace doc init v) h.d.root ≡ root_after block lead (remove doc (init ++ (s ∷ []))) h.d.root
-  same_root block lead =
-      ap (λ (n : Node). changed_at init (replaced_node n) h.d.root) (h.empty.led_same block lead init)
-      ∙ (change_alike init (replaced_node v) (within (remove_child s)) h.d.root h.old at_init (h.empty.left s is_sole.gone) ∙ sym (end_is_change remove_child init s h.d.root))
+  same_root block lead = search (rules, h.empty.led_same, change_alike, at_init, h.empty.left, is_sole.gone, end_is_change)
 
   same_document : (block : Bool) → done_to block (replace doc init v) h.d ≡ done_to block (remove doc (init ++ (s ∷ []))) h.d
   same_document block = ap (λ (n : Node). Rattle.yq_documents.specs.TreeEdits.with_tree block n h.d) (same_root block h.d.lead)
@@ -169,18 +160,8 @@ sole_removed n steps init s v c ss read last others empty edit =
     subst (λ (z : List Step). IsEdit (remove n z) c ss) (sym path) (record {
       old = edit.old;
       carried = λ operand fits_it size.
-          let h : RemovalMeans n init s v c = record {
-            read = read;
-            others = ap (λ z. has_others_at n z c) (sym path) ∙ others;
-            d = fits_it.0;
-            document = fits_it.1;
-            old = o.0;
-            there = o.1;
-            empty = is_emptied o.0 v o.2;
-            node = fits_it.2.1.0;
-            node_is = fits_it.2.1.1;
-            unused = fits_it.2.1.2;
-          } in
+          let h : RemovalMeans n init s v c =
+          search (rules, path, fits_it.0, fits_it.1, o.0, o.1, is_emptied, o.2, fits_it.2.1.0, fits_it.2.1.1, fits_it.2.1.2) in
           let done = edit.carried h.empty.value (fits n init s v c h) size in
           record { reads = read_so n init s v c h (new_text ss) done.reads; local = done.local };
     })

@@ -13,12 +13,11 @@ use Rattle.yq_documents.specs.Reading.{documents, part_outline, read_at}
 use Rattle.yq_places.specs.FlowNodes.{content_flow, find_head, flow_collection, head_line, line_collection, part_collection}
 use Rattle.yq_places.{specs.RemovalPlaces.{has_others_at, has_several}, specs.Placements.last_step}
 use Rattle.yq_semantics.{specs.Fits.Fits, specs.Operations.{remove, replace}, specs.Rooms.room_of}
-use Rattle.yq_edit_rules.{proofs.RemovalChangeLaws.take_init, specs.FlowParts.{flow_removed, flow_segments}, specs.EntryEdits.one_removed}
-use Rattle.yq_edit_rules.specs.Edits.{empty_collection, op_edits, or_stay, part_removed, replace_segments, rows_or_sole, sole_removed}
-use Rattle.yq_text.specs.Script.{Segment}
+use Rattle.yq_edit_rules.{proofs.RemovalChangeLaws.take_init, specs.FlowParts.{flow_removed, flow_segments}}
+use Rattle.yq_edit_rules.specs.Edits.{empty_collection, op_edits, part_removed, replace_segments, sole_removed}
 use Rattle.yq_edit_laws.{proofs.EntryLines.found_at, proofs.FlowPartNodes.{LineAt, line_at, part_node}, proofs.FlowSoundLaws.last_is}
 use Rattle.yq_edit_laws.{proofs.FlowPlacements.{EntryAt, coll_entry}, proofs.SoleLaws.sole_fits, proofs.StepsOn.head_on}
-use Rattle.yq_edit_laws.{specs.Carried.{carried, carry_one}, specs.Edit.{by_reading, edit_of_segments}, specs.Theorems.IsFitting}
+use Rattle.yq_edit_laws.{specs.Carried.carried, specs.Theorems.IsFitting}
 use Rattle.yq_core.specs.Tree as tree
 
 -- ---- the collection that an item or entry is
@@ -115,20 +114,14 @@ module _ (d : Cut) (n : ℕ) (path : List Step) (s : Step) (v : Node) (read : re
       go (Some w) e = ap (option_map (flow_segments (cut_text d))) (sole_node a.item.node a.item.rest w s h.1 e)
 
   sole : sole_removed n d (last_step gone) ≡ replace_segments n path v d
-  sole =
-      ap (sole_removed n d) (last_of path s)
-      ∙ (ap (λ (o : Option Node). o >>= empty_collection >>= λ x. replace_segments n path x d) (part_node d n path a read) ∙ ap (λ (o : Option Node). o >>= λ x. replace_segments n path x d) h.0)
+  sole = search (rules, last_of, part_node, read, h.0)
 
   same_edits : op_edits (remove n gone) d ≡ op_edits (replace n path v) d
-  same_edits =
-      ap (λ (o : Option (List Segment)). option_or o (rows_or_sole n gone d)) no_part
-      ∙ (ap (λ (b : Bool). cond b (one_removed n gone d) (sole_removed n d (last_step gone))) others ∙ sole)
+  same_edits = simp (no_part, others, sole) refl
 
   -- what a removal of it comes to
   pub sole_comes : carried (remove n gone) (cut_text d) ≡ carried (replace n path v) (cut_text d)
-  sole_comes =
-      ap (by_reading (carry_one (remove n gone))) read
-      ∙ (ap (λ (o : Option (List Segment)). edit_of_segments (or_stay d o)) same_edits ∙ sym (ap (by_reading (carry_one (replace n path v))) read))
+  sole_comes = search (rules, read, same_edits)
 
   pub sole_fitting : IsFitting (remove n gone) (cut_text d) → IsFitting (replace n path v) (cut_text d)
   sole_fitting f =

@@ -92,11 +92,4 @@ local_touches ss c new h =
     let old_back : in_back m h.back ≡ in_back m (items_of_cut c) = sym (ap (in_back m) h.old_are ∙ back_of h.gone h.ends.0) in
     let split : (is : List Item) → h.front ++ (is ++ h.back) ≡ before_offset n (items_of_cut c) ++ ((f.0 ++ (is ++ z.0)) ++ in_back m (items_of_cut c)) =
     λ is. (λ i. f.1 i ++ (is ++ z.1 i)) ∙ (five (before_offset n h.front) f.0 is z.0 (in_back m h.back) ∙ (λ i. old_front i ++ ((f.0 ++ (is ++ z.0)) ++ old_back i))) in
-    record {
-      touched = f.0 ++ (h.gone ++ z.0);
-      written = f.0 ++ (h.come ++ z.0);
-      old_are = h.old_are ∙ split h.gone;
-      new_are = h.new_are ∙ split h.come;
-      front_same = ap (before_offset n) h.new_are ∙ (front_of h.come h.begins.1 ∙ old_front);
-      back_same = ap (in_back m) h.new_are ∙ (back_of h.come h.ends.1 ∙ old_back);
-    }
+    search (rules, f.0, h.gone, z.0, h.come, h.old_are, split, h.new_are, n, front_of, h.begins.1, old_front, m, back_of, h.ends.1, old_back)

@@ -1,21 +1,17 @@
 -- One entry more on a line after those under a key or dash.
-use Rattle.std.proofs.Common.{◌≡◌, ℕ, Bool, true, false, cond, eq-eqb, not, List, [], ◌∷◌, ◌++◌, length, Option, Some, None, option_map}
-use Rattle.std.{proofs.Common.{refl, rules, sym, ap, ◌∙◌, subst, append_assoc}, proofs.lemmas.Bool.{cond-false, false≢true}}
-use Rattle.std.specs.Option.{option_or}
+use Rattle.std.proofs.Common.{◌≡◌, ℕ, true, false, not, List, [], ◌∷◌, ◌++◌, length, Some, None, refl, rules, sym, ap, ◌∙◌, subst}
+use Rattle.std.{proofs.Common.append_assoc, proofs.lemmas.Bool.{cond-false, false≢true}}
 use Rattle.yq_text.specs.Script.{Segment}
 use Rattle.yq_core.{specs.Answers.◌>>=◌, specs.Paths.Step, specs.Text.is_empty, specs.Tree.Node}
 use Rattle.yq_outline.specs.Outline.{null_node}
-use Rattle.yq_row_table.{specs.Rows.{Block, Content, Cut, Inline, Nothing, Row, cut_text, print_row, rows_text}, specs.Seams.is_block}
-use Rattle.yq_row_table.specs.View.{slices}
+use Rattle.yq_row_table.{specs.Rows.{Cut, Row, cut_text, print_row, rows_text}, specs.Seams.is_block, specs.View.slices}
 use Rattle.yq_documents.specs.Reading.{read_at}
 use Rattle.yq_semantics.specs.Operations.{append}
-use Rattle.yq_places.{specs.CollectionEnds.CollectionEnd, specs.CommentPlaces.text_to_line_end, specs.FlowNodes.flow_collection}
-use Rattle.yq_places.{specs.PrintedLines.last_break, proofs.CommentEndLaws.row_text_parts}
-use Rattle.yq_places.specs.Placements.{RowsOfEntry, Placement, alone, before_entry, after_entry, past_mark, below, beside, compact_in}
-use Rattle.yq_places.specs.Placements.{entry_placement, held, is_alone, lone, rows_of_entry, under}
-use Rattle.yq_edit_rules.{specs.declared.layout.Layout.Layout, specs.Edits.op_edits, specs.FlowParts.flow_more}
-use Rattle.yq_edit_rules.{specs.EntryEdits.{after_held, block_more, more_lines}, specs.Layouts.layout_of, specs.RowChanges.PutsOne}
-use Rattle.yq_edit_rules.specs.PlacementLaws.{HasItsRows}
+use Rattle.yq_places.{specs.CollectionEnds.CollectionEnd, specs.CommentPlaces.text_to_line_end, specs.PrintedLines.last_break}
+use Rattle.yq_places.proofs.CommentEndLaws.{row_text_parts}
+use Rattle.yq_places.specs.Placements.{RowsOfEntry, before_entry, after_entry, entry_placement, held, is_alone, rows_of_entry, under}
+use Rattle.yq_edit_rules.{specs.declared.layout.Layout.Layout, specs.Edits.op_edits, specs.EntryEdits.{after_held, more_lines}}
+use Rattle.yq_edit_rules.{specs.Layouts.layout_of, specs.RowChanges.PutsOne, specs.PlacementLaws.HasItsRows}
 use Rattle.yq_edit_laws.{proofs.CollectionIsThere.{end_at, front_there, headless_mark}, proofs.EntryAdds.AddsEntry}
 use Rattle.yq_edit_laws.{proofs.FinalBreaks.{feed_last, last_feed}, proofs.MoreLaws.{below_some, there, under_end, under_spelled}}
 use Rattle.yq_edit_laws.proofs.OnePutLaws.{lines_put_one}
@@ -23,15 +19,7 @@ use Rattle.yq_edit_laws.proofs.OnePutLaws.{lines_put_one}
 -- rows under a key or dash after which nothing is written are its collection
 pub under_there : (e : RowsOfEntry) (r : Row) (rs : List Row) → e.line ≡ length e.row.dashes → is_block e.row.content ≡ false → is_empty (slices e.row).head ≡ true → e.under ≡ r ∷ rs → is_alone r ≡ false →
     entry_placement e ≡ under (held e) r.column
-under_there e r rs last plain none is single = ap (λ (b : Bool). cond b (past_mark e e.row.content) (compact_in e)) (eq-eqb e.line (length e.row.dashes) last) ∙ go e.row.content refl
-  where
-    rows : below e e.under ≡ under (held e) r.column
-    rows = ap (below e) is ∙ ap (λ (b : Bool). cond b (alone (lone (before_entry e ++ print_row e.row []) r (rows_text rs (after_entry e)))) (under (held e) r.column)) single
-
-    go : (x : Content) → e.row.content ≡ x → past_mark e x ≡ under (held e) r.column
-    go (Nothing tail) same = rows
-    go (Inline space node tail) same = ap (λ (b : Bool). cond b (below e e.under) (beside (held e))) none ∙ rows
-    go (Block space anchor b) same = absurd (false≢true (sym plain ∙ ap is_block same))
+under_there e r rs last plain h5 is single = search (rules, false≢true)
 
 -- the lines under it, and what is in front of them
 module _ (m : ℕ) (s : Step) (ss : List Step) (d : Cut) (e : RowsOfEntry) (r : Row) (rs : List Row) (read : read_at (cut_text d) ≡ Some d)
@@ -46,9 +34,7 @@ module _ (m : ℕ) (s : Step) (ss : List Step) (d : Cut) (e : RowsOfEntry) (r : 
   some = below_some m s ss None null_node d e read found r rs is single
 
   parts : before_entry e ++ print_row e.row (rows_text e.under []) ≡ lead ++ own
-  parts =
-      ap (λ (t : List ℕ). before_entry e ++ t) (row_text_parts e.row (rows_text e.under []) ∙ sym (append_assoc (text_to_line_end e.row) (slices e.row).tail own))
-      ∙ sym (append_assoc (before_entry e) (text_to_line_end e.row ++ (slices e.row).tail) own)
+  parts = search (rules, row_text_parts, append_assoc)
 
   last_is : (held e).last ≡ last_break own
   last_is = cond-false _ _ _ some
@@ -84,10 +70,7 @@ module _ (m : ℕ) (s : Step) (ss : List Step) (key : List ℕ) (v : Node) (d : 
   more_is = search rules
 
   edited : op_edits (append m (s ∷ ss) (Some key) v) d ≡ Some segments
-  edited =
-      ap (λ (o : Option Placement). option_or (o >>= block_more l (Some key) v) (flow_collection m (s ∷ ss) d >>= flow_more (cut_text d) (Some key) v))
-      (ap (option_map entry_placement) found ∙ ap Some (under_there e r rs last plain none is single))
-      ∙ ap (λ (t : List ℕ). Some (after_held (held e) t)) more_is
+  edited = search (rules, under_there, more_is)
 
   abbrev x : CollectionEnd
   x = end_at m s ss d e is_located r.column (not (is_empty (held e).last))

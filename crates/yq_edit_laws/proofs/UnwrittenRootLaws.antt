@@ -16,14 +16,43 @@ use Rattle.yq_edit_rules.{proofs.BlockEndLaws.break_tail, proofs.LaidRows.no_gap
 use Rattle.yq_edit_rules.{specs.PlacedParts.IsDocumentAt, specs.Rooms.is_block_root, specs.TextPieces.IsPiece}
 use Rattle.yq_edit_rules.{proofs.PartLaws.{document_known, part_numbered}, proofs.PlacedPartLaws.document_is_there_at}
 use Rattle.yq_edit_rules.{proofs.TextPieceLaws.text_is_piece, proofs.RemovalPieceLaws.seam_pieces, proofs.BlockLineLaws.break_uncommented}
-use Rattle.yq_edit_rules.specs.ClosedTexts.{is_closed_text}
+use Rattle.yq_edit_rules.{specs.ClosedTexts.is_closed_text, proofs.BreakLaws.IsLfOrCrLf}
 use Rattle.yq_documents.{specs.Documents.lead_of, specs.Pieces.TextPiece, specs.Reading.read_at, specs.Ready.begins_no_node}
 use Rattle.yq_documents.specs.PartNumbers.{part_number}
 use Rattle.yq_places.{specs.PlacedRows.{PlacedPart, before_part, placed_document}, proofs.CommentPieceLaws.gap_end}
 use Rattle.yq_places.{proofs.PlacedPartLaws.part_is_there, proofs.RemovalLines.{LineSeam, LiesIn, lies_in, seam_join}}
-use Rattle.yq_edit_laws.{proofs.FirstRows.empty_cases, proofs.ClosedTexts.closed_after, proofs.RootReadLaws.TakesValue}
-use Rattle.yq_edit_laws.{proofs.RootRows.HasRoom, proofs.PlacementRoots.IsUnwrittenRoot}
+use Rattle.yq_edit_laws.{proofs.BlockRootLaws.empty_cases, proofs.RootReadLaws.TakesValue, proofs.RootRows.HasRoom}
+use Rattle.yq_edit_laws.proofs.PlacementRoots.{IsUnwrittenRoot}
 use Rattle.yq_core.specs.declared.block_types.Break.TheVariants as breaks
+
+-- ---- texts that end in a break, and those that don't
+
+-- the end of a text tells
+pub closed_after : (a b : List ℕ) → is_empty b ≡ false → is_closed_text (a ++ b) ≡ is_closed_text b
+unfolding is_closed_text
+closed_after [] b some = refl
+closed_after (x ∷ []) [] some = absurd (false≢true (sym some))
+closed_after (x ∷ []) (y ∷ b) some = refl
+closed_after (x ∷ (z ∷ a)) b some = closed_after (z ∷ a) b some
+
+-- with a break after it a text ends in one
+pub closed_end : (a b : List ℕ) → IsLfOrCrLf b → is_closed_text (a ++ b) ≡ true
+unfolding is_closed_text
+closed_end (x ∷ (y ∷ a)) b h = closed_end (y ∷ a) b h
+closed_end a b h = search rules
+
+-- a line with its break ends in one
+pub closed_line : (m : List ℕ) → is_line m ≡ true → is_closed_text m ≡ true
+unfolding is_line is_closed_text
+closed_line [] h = refl
+closed_line (b ∷ []) h = search (rules, false≢true)
+closed_line (b ∷ (d ∷ t)) h = search (rules, false≢true, closed_line (d ∷ t))
+
+-- a text that doesn't end in a break isn't empty
+pub open_some : (t : List ℕ) → is_closed_text t ≡ false → is_empty t ≡ false
+unfolding is_closed_text
+open_some [] h = absurd (false≢true (sym h))
+open_some (b ∷ t) h = refl
 
 -- ---- texts that end in a break
 

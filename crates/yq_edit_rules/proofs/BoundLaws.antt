@@ -2,7 +2,7 @@
 use Rattle.std.proofs.Common.{◌≡◌, ◌⊎◌, ℕ, List, [], ◌∷◌, ◌++◌, Option, Some, None, option_and_then, Bool, true, false, cond, refl, sym, ap}
 use Rattle.std.{proofs.Common.{◌∙◌, subst, inl, inr, ⊎_elim, append_assoc, append-nil, rules}, proofs.lemmas.Option.{none-some, same_Some}}
 use mathlib.Core.List.{cons≢nil}
-use Rattle.yq_core.specs.Paths.{Step, is_here, further, child_at, node_at, change_child, within, changed_at}
+use Rattle.yq_core.specs.Paths.{Step, is_here, further, child_at, node_at, change_child, remove_child, within, changed_at}
 use Rattle.yq_core.specs.Tree.{Node, alias, scalar, list, map, Children, none, child, children_of}
 use Rattle.yq_core.specs.Anchors.{Name, Anchors, Refers, anchor_names, names_of, names_in, IsAmong, AreBound}
 use Rattle.yq_edit_rules.specs.Conditions.{anchors_in, aliases_in, known_after, BoundStays, Around, NamesAround, BoundChanged}
@@ -55,14 +55,15 @@ no_alias_bound known [] e = tt
 no_alias_bound known (Anchors a ∷ names) e = no_alias_bound (a ∷ known) names e
 no_alias_bound known (Refers a ∷ names) e = absurd (cons≢nil e)
 
--- the names around an item or entry
-record AroundChild (s : Step) (cs : Children) (m : Node) : Type 0 where
+-- the names around an item or entry, which may change, or be gone
+pub record AroundChild (s : Step) (cs : Children) (m : Node) : Type 0 where
   pub front : List Name
   pub back : List Name
   pub old : names_in cs ≡ front ++ (names_of m ++ back)
   pub new : (f : Node → Node) → names_in (change_child s f cs) ≡ front ++ (names_of (f m) ++ back)
+  pub gone : names_in (remove_child s cs) ≡ front ++ back
 
-around_child : (s : Step) (cs : Children) (m : Node) → child_at s cs ≡ Some m → AroundChild s cs m
+pub around_child : (s : Step) (cs : Children) (m : Node) → child_at s cs ≡ Some m → AroundChild s cs m
 around_child s none m e = absurd (none-some _ e)
 around_child s (child l n cs) m e = go (is_here s l) refl e (around_child (further s) cs m)
   where
@@ -73,6 +74,7 @@ around_child s (child l n cs) m e = go (is_here s l) refl e (around_child (furth
           back = names_in cs;
           old = ap (λ x. names_of x ++ names_in cs) (same_Some _ _ e);
           new = λ f. rw h (ap (λ x. names_of (f x) ++ names_in cs) (same_Some _ _ e));
+          gone = rw h refl;
         }
     go false h e ih =
         let r = ih e in
@@ -81,6 +83,7 @@ around_child s (child l n cs) m e = go (is_here s l) refl e (around_child (furth
           back = r.back;
           old = ap (λ x. names_of n ++ x) r.old ∙ sym (append_assoc (names_of n) r.front (names_of m ++ r.back));
           new = λ f. rw h (ap (λ x. names_of n ++ x) (r.new f) ∙ sym (append_assoc (names_of n) r.front (names_of (f m) ++ r.back)));
+          gone = rw h (ap (λ x. names_of n ++ x) r.gone ∙ sym (append_assoc (names_of n) r.front r.back));
         }
 
 pub anchor_front : (a : Option (List ℕ)) (xs : List Name) → anchor_names a xs ≡ anchor_names a [] ++ xs

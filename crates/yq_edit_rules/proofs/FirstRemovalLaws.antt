@@ -21,13 +21,12 @@ use Rattle.yq_edit_rules.{specs.Appends.inserted, specs.Changed.{IsChanged, put_
 use Rattle.yq_edit_rules.{specs.DocumentRows.{IsDocumentPart, Known, after_document}, specs.Moved.{emptied_row, moved_up}}
 use Rattle.yq_edit_rules.{specs.PathRows.IsEntryLine, specs.RemovalChanges.{IsTakenOut, MayTakeOut}, specs.Siblings.HasEntries}
 use Rattle.yq_edit_rules.{specs.TextPieces.IsPiece, proofs.AfterLaws.end_is_change}
-use Rattle.yq_edit_rules.proofs.FirstBreakLaws.{IsOneBreak, break_ascii, break_cut}
+use Rattle.yq_edit_rules.proofs.FirstBreakLaws.{IsOneBreak, break_ascii, break_cut, ascii_break, dash_first, dashes_first, entries_first}
+use Rattle.yq_edit_rules.proofs.FirstBreakLaws.{first_stays, last_dash}
 use Rattle.yq_edit_rules.proofs.FirstChangeLaws.{dash_front, dash_less, dashes_front, dropped_changed, dropped_text, front_text}
 use Rattle.yq_edit_rules.proofs.FirstChangeLaws.{inserted_text, moved_changed, moved_text, NoGap, no_gap, row_from}
-use Rattle.yq_edit_rules.proofs.FirstEntryLaws.{FirstRows, first_rows}
-use Rattle.yq_edit_rules.proofs.FirstLineLaws.{ascii_break, dash_first, dashes_first, entries_first, first_stays, last_dash}
-use Rattle.yq_edit_rules.{proofs.FirstOutLaws.{IsFirstOut, out_is, piece_is_there}, proofs.FirstReplaceLaws.rows_after}
-use Rattle.yq_edit_rules.{proofs.FirstTextLaws.{FirstText, first_text}, proofs.OwnRowLaws.lines_counted}
+use Rattle.yq_edit_rules.{proofs.FirstEntryLaws.{FirstRows, first_rows}, proofs.FirstOutLaws.{IsFirstOut, out_is, piece_is_there}}
+use Rattle.yq_edit_rules.{proofs.FirstReplaceLaws.rows_after, proofs.FirstTextLaws.{FirstText, first_text}, proofs.OwnRowLaws.lines_counted}
 use Rattle.yq_edit_rules.{proofs.PartLaws.{document_known, part_rows}, proofs.PathLaws.path_is_entry}
 use Rattle.yq_edit_rules.proofs.PlaceTextLaws.{IsAround, around}
 use Rattle.yq_edit_rules.proofs.RemovalChangeLaws.{snoc, may_go, FirstEntry, first_group, group_begins, keeps, root_entries}

@@ -22,8 +22,7 @@ use Rattle.yq_places.{proofs.FlowPieces.{named_is, none_anchored, twice}, proofs
 use Rattle.yq_edit_rules.{specs.DocumentRows.{Known, after_document}, specs.FlowChanges.with_head}
 use Rattle.yq_edit_rules.{specs.FlowRows.{InlineRow, row_collection, with_node, IsFlowAt, FlowIsThere, FlowEdited}, specs.Moved.dash_lines}
 use Rattle.yq_edit_rules.{specs.RowComments.TakesRow, proofs.AnchorLaws.{fit_parts, fit_from}, proofs.FirstRowLaws.short_first}
-use Rattle.yq_edit_rules.{proofs.FlowChangeLaws.none_under, proofs.FlowLineLaws.{head_whole, flow_line_changed}}
-use Rattle.yq_edit_rules.proofs.LineLaws.{above_mark, dashes_count}
+use Rattle.yq_edit_rules.{proofs.FlowLineLaws.{none_under, flow_line_changed, head_whole}, proofs.LineLaws.{above_mark, dashes_count}}
 use Rattle.yq_edit_rules.{proofs.PartLaws.{document_known, drop_front, take_front, is_put, part_rows}, proofs.PlacedLaws.same_parts}
 use Rattle.yq_edit_rules.{proofs.CommentPutLaws.last_lines, proofs.ReplaceLaws.document_replaced, proofs.RowCommentLaws.row_replaces}
 use Rattle.yq_core.specs.Tree as tree

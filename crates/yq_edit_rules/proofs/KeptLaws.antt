@@ -1,17 +1,28 @@
 -- A scalar that is put in its own place changes nothing.
-use Rattle.std.proofs.Common.{◌≡◌, ℕ, List, [], Option, Some, Bool, true, false, sym, ap, ◌∙◌, subst, append-nil, rules}
-use Rattle.std.{proofs.lemmas.Bool.false≢true, specs.List.slice_get}
-use Rattle.yq_core.{specs.Paths.{Step, changed_at, node_at}, specs.Scalar.ScalarText, specs.Tree.Node}
+use Rattle.std.proofs.Common.{◌≡◌, ℕ, List, [], Option, Some, Bool, true, false, sym, ap, ◌∙◌, subst, append-nil, rules, eqb-true}
+use Rattle.std.{proofs.lemmas.Bool.{false≢true, and_parts}, specs.List.slice_get, proofs.lemmas.Slice.Eq.bytes_eq-Decides}
+use Rattle.yq_core.{specs.Paths.{Step, changed_at, node_at}, specs.Scalar.ScalarText, specs.Tree.Node, specs.declared.kind.Kind.Kind}
 use Rattle.yq_flow_edits.specs.Valued.{IsValueTree}
 use Rattle.yq_row_table.specs.Rows.{Part, Cut, cut_text}
 use Rattle.yq_documents.{specs.Documents.{document_parts, lead_of}, specs.Reading.{documents, read_at, root_of}}
 use Rattle.yq_documents.specs.TreeEdits.{led, replaced_node}
 use Rattle.yq_edit_rules.{specs.Changed.{changed, IsChanged, put_document}, proofs.LeadLaws.same_lead_goes, specs.Replacing.are_same}
 use Rattle.yq_edit_rules.{specs.EditLaws.EqualScalarsStay, specs.ReadsAfter.ReadsAfter, proofs.DoneLaws.{nth_map, document_done, part_of}}
-use Rattle.yq_edit_rules.{proofs.SameLaws.same_is, proofs.SamePlaceLaws.{put_own, nth_own, change_own}}
+use Rattle.yq_edit_rules.{proofs.SamePlaceLaws.{change_own, nth_own, put_own}, specs.Style.{table_row, is_same}}
 use Rattle.yq_semantics.specs.Operations.{replace}
 use Rattle.yq_places.specs.NodesAt.{scalar_in}
 use Rattle.yq_documents.specs.Reading as reading
+
+-- ---- scalars that are tested to be equal are
+
+same_kind : (a b : Kind) → table_row a ≡ table_row b → a ≡ b
+same_kind a b h = search rules
+
+-- scalars that are tested to be equal are
+pub same_is : (a b : ScalarText) → is_same a b ≡ true → a ≡ b
+same_is a b h = search (rules, and_parts, same_kind, eqb-true, bytes_eq-Decides)
+
+-- ---- a scalar that is put in its own place changes nothing
 
 pub led_same : (block : Bool) (lead : List (List ℕ)) (steps : List Step) (v : Node) → (steps ≡ [] → block ≡ false) → led block lead steps v ≡ v
 led_same block lead steps v h1 = search (rules, false≢true)

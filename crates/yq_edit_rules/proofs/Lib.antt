@@ -12,7 +12,6 @@ pub mod EditedLaws
 pub mod BlockChangeLaws
 pub mod PlacedLaws
 pub mod AfterLaws
-pub mod FlowChangeLaws
 pub mod PartLaws
 pub mod LineLaws
 pub mod CommentPutLaws
@@ -51,7 +50,6 @@ pub mod FirstBreakLaws
 pub mod FirstTextLaws
 pub mod FirstOutLaws
 pub mod FirstChangeLaws
-pub mod FirstLineLaws
 pub mod FirstRemovalLaws
 pub mod AppendPlaceLaws
 pub mod EndedRowLaws
@@ -79,9 +77,7 @@ pub mod FitLaws
 pub mod PlaceLaws
 pub mod ReadLaws
 pub mod ListLaws
-mod PrintLaws
 pub mod StyleLaws
-pub mod SameLaws
 pub mod DoneLaws
 pub mod SegmentLaws
 pub mod CommentPieceLaws

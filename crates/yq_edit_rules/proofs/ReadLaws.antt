@@ -1,6 +1,6 @@
 -- A collection that is written alone is read as one document.
 use Rattle.std.proofs.Common.{◌≡◌, ℕ, ◌≤◌, true, false, List, [], ◌∷◌, ◌++◌, length, refl, subst, append-nil, rules, sym, ap, ◌∙◌, not}
-use Rattle.std.{proofs.lemmas.Bool.or_right, proofs.lemmas.Str.is_utf8-from_IsUtf8}
+use Rattle.std.{proofs.Common.arith, proofs.lemmas.Bool.or_right, proofs.lemmas.Str.is_utf8-from_IsUtf8}
 use Rattle.yq_text.specs.Limit.{text_limit}
 use Rattle.yq_core.{specs.Text.is_marker, specs.Nodes.node_text, proofs.NodesWrittenLaws.node_then, specs.BlockWritten.break_text}
 use Rattle.yq_core.proofs.Alikes.{no_first}
@@ -15,7 +15,7 @@ use Rattle.yq_edit_rules.proofs.CharacterLaws.{IsUtf8Text, break_sound, value_so
 use Rattle.yq_edit_rules.proofs.BlockEndLaws.{break_ends, break_tail, line_ends}
 use Rattle.yq_edit_rules.{proofs.FitLaws.{RowsAreFit, all_bound, anchors_fit, keys_fit, node_fit}, proofs.LaidRows.{laid_rows, no_gap_here}}
 use Rattle.yq_edit_rules.{proofs.BlockLineLaws.{break_uncommented, unanchored, node_is_there}, proofs.RowLaws.node_laid}
-use Rattle.yq_edit_rules.{proofs.ScalarLaws.heads, proofs.TextLaws.node_spelled}
+use Rattle.yq_edit_rules.{proofs.ScalarLaws.heads, proofs.TextLaws.node_spelled, specs.Print.{print_layout, print_text}}
 use Rattle.yq_core.specs.Tree as tree
 use Rattle.yq_core.specs.Nodes as inline
 use Rattle.yq_row_table.specs.Rows as rows
@@ -88,3 +88,13 @@ pub value_read : (v : tree.Node) (l : Layout) → 1 ≤ l.mapping → IsValueTre
 value_read v l step h root size = let all = collection_all v l step root.collection h root.near in
     all_read v (block_value l 0 v ++ break_text l.br) all.0 all.1 (sound_join _ (break_text l.br) (value_sound v l 0 h) (break_sound l.br)) size h
     root
+
+-- ---- what is printed is read
+
+collection_text : (v : tree.Node) → IsCollection v → print_text v ≡ block_value print_layout 0 v ++ 10 ∷ []
+unfolding print_text
+collection_text v c = search rules
+
+pub printed_read : (v : tree.Node) (t : List ℕ) → (IsCollection v → IsValueTree v) → t ≡ print_text v → ReadsAlone v t
+printed_read v t valid is root =
+    subst (ReadsAlone v) (sym (is ∙ collection_text v root.collection)) (value_read v print_layout (omega arith) (valid root.collection)) root

@@ -104,9 +104,7 @@ past_other (suc i) zero q (marked p marker c) less = absurd (omega (arith, less)
 past_other (suc i) (suc j) q (marked p marker c) less = past_other i j q c (omega (arith, less))
 
 past_put : (i : ℕ) (q : Part) (c : Cut) → after_part i (put_part i q c) ≡ after_part i c
-past_put i q (last p) = refl
-past_put zero q (marked p marker c) = refl
-past_put (suc i) q (marked p marker c) = past_put i q c
+past_put i q c = past_other i i q c (omega arith)
 
 nth_other : (k m : ℕ) (q : Part) (ps : List Part) → k < m → slice_get (change_nth k (λ x. q) ps) m ≡ slice_get ps m
 nth_other k m q [] less = refl

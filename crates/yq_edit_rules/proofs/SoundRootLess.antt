@@ -8,7 +8,7 @@ use Rattle.yq_core.specs.Paths.{Step, is_here, further, child_at, relabel_child,
 use Rattle.yq_core.specs.Tree.{Label, Node, alias, scalar, list, map, Children, none, child, children_of}
 use Rattle.yq_core.{specs.Anchors.{Name, anchor_names, names_of, names_in}, specs.Text.with_first}
 use Rattle.yq_core.proofs.DistinctKeys.{distinct_is, is_distinct}
-use Rattle.yq_edit_rules.{specs.SoundRoots.{RemoveKeeps, RelabelKeeps}, proofs.BoundLaws.anchor_front}
+use Rattle.yq_edit_rules.{specs.SoundRoots.{RemoveKeeps, RelabelKeeps}, proofs.BoundLaws.{AroundChild, anchor_front, around_child}}
 use Rattle.yq_edit_rules.{proofs.TreeLaws.{max_least, max_left, max_right}, proofs.SoundRootLaws.{unique_at, depth_at, sound, same_names}}
 
 -- one less
@@ -41,29 +41,7 @@ remove_unique s (scalar a i t) h = h
 remove_unique s (list a cs) h = each_less s cs h
 remove_unique s (map a cs) h = (distinct_is (keys_of (remove_child s cs)) (distinct_less s cs (is_distinct (keys_of cs) h.0)), each_less s cs h.1)
 
--- the names around a node that is taken out
-record Without (s : Step) (cs : Children) (x : Node) : Type 0 where
-  pub front : List Name
-  pub back : List Name
-  pub old : names_in cs ≡ front ++ (names_of x ++ back)
-  pub new : names_in (remove_child s cs) ≡ front ++ back
-
-without : (s : Step) (cs : Children) (x : Node) → child_at s cs ≡ Some x → Without s cs x
-without s none x e = absurd (none-some _ e)
-without s (child l n cs) x e = go (is_here s l) refl e (without (further s) cs x)
-  where
-    go : (b : Bool) → is_here s l ≡ b → cond b (Some n) (child_at (further s) cs) ≡ Some x → (child_at (further s) cs ≡ Some x → Without (further s) cs x) → Without s (child l n cs) x
-    go true h e ih = record { front = []; back = names_in cs; old = ap (λ y. names_of y ++ names_in cs) (same_Some _ _ e); new = rw h refl }
-    go false h e ih =
-        let r = ih e in
-        record {
-          front = names_of n ++ r.front;
-          back = r.back;
-          old = ap (λ y. names_of n ++ y) r.old ∙ sym (append_assoc (names_of n) r.front (names_of x ++ r.back));
-          new = rw h (ap (λ y. names_of n ++ y) r.new ∙ sym (append_assoc (names_of n) r.front r.back));
-        }
-
--- the same for a node
+-- the names around an item or entry of a node, which is taken out
 record WithoutIn (s : Step) (n x : Node) : Type 0 where
   pub front : List Name
   pub back : List Name
@@ -71,7 +49,7 @@ record WithoutIn (s : Step) (n x : Node) : Type 0 where
   pub new : names_of (within (remove_child s) n) ≡ front ++ ([] ++ back)
 
 with_names : (a : Option (List ℕ)) (s : Step) (cs : Children) (x n : Node) → ((g : Children → Children) → names_of (within g n) ≡ anchor_names a (names_in (g cs))) →
-    names_of n ≡ anchor_names a (names_in cs) → Without s cs x → WithoutIn s n x
+    names_of n ≡ anchor_names a (names_in cs) → AroundChild s cs x → WithoutIn s n x
 with_names a s cs x n new old w =
     let put : (p q : List Name) → names_in (remove_child s cs) ≡ p ++ q → anchor_names a (names_in (remove_child s cs)) ≡ (anchor_names a [] ++ p) ++ q =
     λ p q e. anchor_front a (names_in (remove_child s cs)) ∙ (ap (λ y. anchor_names a [] ++ y) e ∙ sym (append_assoc (anchor_names a []) p q)) in
@@ -79,14 +57,14 @@ with_names a s cs x n new old w =
       front = anchor_names a [] ++ w.front;
       back = w.back;
       old = old ∙ (anchor_front a (names_in cs) ∙ (ap (λ y. anchor_names a [] ++ y) w.old ∙ sym (append_assoc (anchor_names a []) w.front (names_of x ++ w.back))));
-      new = new (remove_child s) ∙ put w.front w.back w.new;
+      new = new (remove_child s) ∙ put w.front w.back w.gone;
     }
 
 without_in : (s : Step) (n x : Node) → child_at s (children_of n) ≡ Some x → WithoutIn s n x
 without_in s (alias name) x e = absurd (none-some _ e)
 without_in s (scalar a i t) x e = absurd (none-some _ e)
-without_in s (list a cs) x e = with_names a s cs x (list a cs) (λ g. refl) refl (without s cs x e)
-without_in s (map a cs) x e = with_names a s cs x (map a cs) (λ g. refl) refl (without s cs x e)
+without_in s (list a cs) x e = with_names a s cs x (list a cs) (λ g. refl) refl (around_child s cs x e)
+without_in s (map a cs) x e = with_names a s cs x (map a cs) (λ g. refl) refl (around_child s cs x e)
 
 pub remove_keeps : RemoveKeeps
 remove_keeps steps root old x s h there is spared =

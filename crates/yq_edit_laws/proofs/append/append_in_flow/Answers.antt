@@ -1,9 +1,6 @@
-use Rattle.std.proofs.Common.{◌≡◌, List, ℕ, Option, None, Some, map, sym, subst, ap, ◌∙◌}
-use Rattle.yq_core.{specs.Answers.◌>>=◌, specs.Collections.CollPieces, specs.Entries.tree_step, specs.Values.value_node}
-use Rattle.yq_row_table.specs.Rows.{cut_text}
-use Rattle.yq_documents.specs.Reading.{cut_of}
-use Rattle.yq_places.specs.FlowNodes.{flow_collection}
-use Rattle.yq_edit_rules.{specs.FlowParts.flow_more, specs.Answers.GivesSegments}
+use Rattle.std.proofs.Common.{◌≡◌, List, ℕ, Some, map, sym, subst, ap, ◌∙◌, rules}
+use Rattle.yq_core.{specs.Answers.◌>>=◌, specs.Entries.tree_step, specs.Values.value_node}
+use Rattle.yq_edit_rules.specs.Answers.{GivesSegments}
 use Rattle.yq_text.specs.Halves.{whole}
 use Rattle.yq_flow_edits.specs.FlowPlaces.{edit_view}
 use Rattle.yq_outline.specs.Bodies.{borrowed}
@@ -13,21 +10,13 @@ use Rattle.yq_edit_laws.{proofs.FlowAnswers.whole_text, proofs.PiecePlaces.Front
 use Rattle.yq_edit_laws.proofs.append.append_in_flow.Goals as goal
 
 pub returns-in_default : goal.returns-in_default
-returns-in_default c =
-    let absent = subst (λ ss. flow_collection c.args.path.now.doc (map tree_step ss) (cut_of c.args.cut.now) ≡ None) c.deref.ensures.value (outside_there _ _ _ _ c.in_default.not-InFlow c.in_ok-found.ensures) in
-    ap (λ (o : Option CollPieces). o >>= flow_more (cut_text (cut_of c.args.cut.now)) (borrowed c.args.key) (value_node c.args.value.now)) absent
+returns-in_default c = search (rules, outside_there)
 
 pub returns-in_default-collection_end : goal.returns-in_default-collection_end
-returns-in_default-collection_end c =
-    let x : Front = (c.in-InFlow.front, c.in-InFlow.before, c.in-InFlow.left) in
-    let w = subst (λ ss. IsFlowFront c.args.cut.now c.args.path.now.doc (map tree_step ss) x) c.deref.ensures.value (leads_there c.args.cut.now c.args.path.now.doc _ _ (Some x) (ap flow_found c.in-InFlow.is) c.in_ok-found.ensures) in
-    no_collection _ _ _ x w (borrowed c.args.key) (value_node c.args.value.now) c.in_default-collection_end.ensures
+returns-in_default-collection_end c = search (rules, leads_there, no_collection)
 
 pub returns-then-not-takes_in : goal.returns-then-not-takes_in
-returns-then-not-takes_in c =
-    let x : Front = (c.in-InFlow.front, c.in-InFlow.before, c.in-InFlow.left) in
-    let w = subst (λ ss. IsFlowFront c.args.cut.now c.args.path.now.doc (map tree_step ss) x) c.deref.ensures.value (leads_there c.args.cut.now c.args.path.now.doc _ _ (Some x) (ap flow_found c.in-InFlow.is) c.in_ok-found.ensures) in
-    kept_apart _ _ _ x w (borrowed c.args.key) (value_node c.args.value.now) c.in-Some.end c.in-Some.ensures (sym c.takes_in.ensures ∙ c.if-not-takes_in.true)
+returns-then-not-takes_in c = search (rules, leads_there, kept_apart)
 
 pub edit_at-requires : goal.edit_at-requires
 edit_at-requires c =

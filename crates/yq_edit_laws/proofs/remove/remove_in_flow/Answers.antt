@@ -1,4 +1,4 @@
-use Rattle.std.proofs.Common.{◌∙◌, List, ℕ, map, Some, sym, ap, subst}
+use Rattle.std.proofs.Common.{◌∙◌, List, ℕ, map, Some, sym, ap, subst, rules}
 use Rattle.yq_text.specs.Halves.{whole}
 use Rattle.yq_core.specs.Entries.{tree_step}
 use Rattle.yq_flow_edits.specs.FlowPlaces.{edit_view}
@@ -11,9 +11,7 @@ use Rattle.yq_edit_laws.proofs.RemoveAnswers.{before_offset, no_part, outside_fl
 use Rattle.yq_edit_laws.proofs.remove.remove_in_flow.Goals as goal
 
 pub returns-in_default-above : goal.returns-in_default-above
-returns-in_default-above c =
-    let last = c.in-Some.ensures ∙ ap (λ ss. last_step (map tree_step ss)) c.deref.ensures.value in
-    outside_flow c.args.cut.now c.args.path.now _ (tree_step c.in-Some.last.now) c.args.above.now last c.requires c.in_default-above.not-InFlow
+returns-in_default-above c = search (rules, outside_flow)
 
 pub returns-in_default-part_neighbours : goal.returns-in_default-part_neighbours
 returns-in_default-part_neighbours c =

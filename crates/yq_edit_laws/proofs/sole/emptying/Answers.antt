@@ -1,4 +1,4 @@
-use Rattle.std.proofs.Common.{map, option_map, sym, ap, ◌∙◌, rules}
+use Rattle.std.proofs.Common.{map, ap, ◌∙◌, rules}
 use Rattle.yq_core.specs.Entries.{tree_step}
 use Rattle.yq_documents.{specs.Located.steps_of, specs.Reading.cut_of}
 use Rattle.yq_places.{specs.NodesAt.node_view, specs.Placements.last_step}
@@ -9,10 +9,7 @@ pub returns-in_default : goal.returns-in_default
 returns-in_default c = λ t above. ap (emptying c.args.path.now.doc (cut_of t)) (c.in_default.ensures ∙ ap (λ ss. last_step (map tree_step ss)) c.deref.ensures.value)
 
 pub returns-in_default-emptied : goal.returns-in_default-emptied
-returns-in_default-emptied c =
-    let last = c.in-Some.ensures ∙ ap (λ ss. last_step (map tree_step ss)) c.deref.ensures.value in
-    λ t above. ap (option_map (put_at c.args.path.now.doc (map tree_step c.in-Some.above.now))) c.in_default-emptied.ensures
-    ∙ sym (emptied_above c.args.path.now.doc (cut_of t) (last_step (steps_of c.args.path.now)) _ (node_view c.args.node.now) last above)
+returns-in_default-emptied c = search (rules, put_at, emptied_above)
 
 pub returns : goal.returns
 returns c =

@@ -1,6 +1,6 @@
 use Rattle.std.proofs.Common.{◌++◌, List, [], ◌∷◌, ℕ, ap, ◌∙◌, string_bytes}
 use Rattle.yq_core.specs.Values.{value_node}
-use Rattle.yq_edit_rules.{specs.Print.{printed_value, print_text}, proofs.PrintLaws.printed_read}
+use Rattle.yq_edit_rules.{proofs.ReadLaws.printed_read, specs.Print.{print_text, printed_value}}
 use Rattle.yq_edit_rules.proofs.printing.print.Goals as goal
 
 pub returns-clause-read : goal.returns-clause-read
