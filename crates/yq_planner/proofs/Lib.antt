@@ -5,5 +5,6 @@ pub mod IndexLaws
 pub mod UsedLaws
 pub mod SubstituteLaws
 pub mod ChildDepths
+pub mod RepeatedLaws
 pub mod ListSizeLaws
 pub mod ValidLaws

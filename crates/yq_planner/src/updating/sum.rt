@@ -15,7 +15,7 @@ use yq_scalar_reader::int_value;
 use yq_semantics::{ExprError, Refusal};
 
 /// The int of a number.
-fn int(alloc: Global, number: i64) -> Result<Value, AllocError>
+pub(crate) fn int(alloc: Global, number: i64) -> Result<Value, AllocError>
     ensures { IfOk result (λ v. value_node v ≡ scalar None Int (signed_decimal number)) }
 {
     let mut digits = Buffer::new();
