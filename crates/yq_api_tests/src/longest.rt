@@ -38,7 +38,8 @@ fn is_too_long(alloc: Global, session: &mut Session, text: &str, program: &Progr
     let Some(op) = ops.first() else {
         return false;
     };
-    if !matches!(session.apply(op), Err(ExprError::Fault(Refusal::TooLarge))) {
+    if !matches!(session.apply(op), Err(ExprError::Fault(refused)) if refused.why() == Refusal::TooLarge)
+    {
         return false;
     }
     let halves = session.text();

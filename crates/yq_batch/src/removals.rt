@@ -67,7 +67,7 @@ pub(crate) fn exchange(
     run.text.exchange(end - start, new);
     run.keep = start;
     if run.text.len() > TEXT_LIMIT {
-        return Err(ExprError::Fault(Refusal::TooLarge));
+        return Err(Refusal::TooLarge.error());
     }
     Ok(push_splice(&mut run.splices, start, old, written)?)
 }

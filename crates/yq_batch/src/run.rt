@@ -114,7 +114,7 @@ impl PutRun {
         self.done = end;
         let rest = text.split_at(end).1.len();
         if rest > TEXT_LIMIT || self.text.len() > TEXT_LIMIT - rest {
-            return Err(ExprError::Fault(Refusal::TooLarge));
+            return Err(Refusal::TooLarge.error());
         }
         let old = bytes_of(alloc, between(text, start, end))?;
         Ok(push_splice(&mut self.splices, at, old, written.into_bytes())?)

@@ -3,7 +3,6 @@ use Rattle.std.proofs.Common.{rules, ◌≡◌, ℕ, suc, ◌+◌, ◌<◌, List
 use Rattle.std.{proofs.Common.{subst, append_assoc, add-one, drop-cons, ◌≤◌, append-nil}, proofs.lemmas.List.drop_all}
 use Rattle.yq_semantics.{specs.Judgement.{MatchFails, Judgement, Judges, and_then, gives, ExprError}, specs.Places.{for_each, chained}}
 use Rattle.yq_eval.specs.PlaceView.{put_after}
-use Rattle.yq_failure.specs.declared.failure.Failure.TheVariants as error
 
 -- an error on the first of two steps is one of both
 pub fails_then : {Y W : Type 0} (f : Y → Judgement W) (j : Judgement Y) (e : ExprError) → MatchFails e j → MatchFails e (and_then f j)

@@ -5,3 +5,4 @@ pub mod TreeScalarLaws
 pub mod MatchLaws
 pub mod FoundLaws
 pub mod StepLaws
+pub mod StepLists

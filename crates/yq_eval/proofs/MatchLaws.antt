@@ -15,7 +15,6 @@ use Rattle.yq_semantics.{specs.declared.refusal.Refusal.Refusal, specs.declared.
 use Rattle.yq_semantics.proofs.JudgementLaws.{then_gives, gives_same}
 use Rattle.yq_eval.{specs.PlaceView.put_after, specs.TreeScalars.{HasScalars, EachHasScalars, HaveScalars}}
 use Rattle.yq_eval.proofs.EachLaws.{fails_then, put_both}
-use Rattle.yq_core.specs.declared.kind.Kind.TheVariants as kinds
 use Rattle.yq_core.specs.Paths as paths
 use Rattle.yq_core.specs.Tree as tree
 

@@ -1,5 +1,5 @@
 -- What is missing from a place.
-use Rattle.std.proofs.Common.{rules, ◌≡◌, ℕ, ◌+◌, List, [], ◌∷◌, ◌++◌, map, refl, ◌∙◌, append_assoc, add-one, arith, Fits, w64, ◌<◌}
+use Rattle.std.proofs.Common.{rules, ◌≡◌, ℕ, ◌+◌, List, [], ◌∷◌, ◌++◌, map, refl, append_assoc, add-one, arith, Fits, w64, ◌<◌}
 use Rattle.std.proofs.lemmas.List.{map_push}
 use Rattle.yq_core.specs.Tree.{Label, Node, Children, none, child}
 use Rattle.yq_outline.{specs.Counts.count, specs.Outline.null_node}

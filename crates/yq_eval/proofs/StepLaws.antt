@@ -8,7 +8,6 @@ use Rattle.yq_eval.{specs.PlaceView.{missing_of, path_of, place_of, places_of, p
 use Rattle.yq_semantics.{specs.Judgement.{and_then, gives}, specs.Matching.{item_at_index, item_number}}
 use Rattle.yq_semantics.specs.Places.{FoundPlace, all_steps, child_place, for_each, miss, step_from, step_on, stepped}
 use Rattle.yq_semantics.{specs.Program.{PathStep, each}, specs.View.program_step}
-use Rattle.yq_core.specs.Tree as tree
 use Rattle.yq_nodes.specs.declared.nodes.node.NodeKind.TheVariants as node_kinds
 use Rattle.yq_eval.specs.declared.matching.place.FoundPlace as declared
 use Rattle.yq_semantics.specs.declared.program.PathStep as program

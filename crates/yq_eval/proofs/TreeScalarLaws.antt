@@ -8,11 +8,9 @@ use Rattle.yq_documents.{specs.Documents.Document, specs.Reading.part_document}
 use Rattle.yq_outline.{specs.Group.{deeper_lines, shallow, group}, specs.Lines.{head_of, lines_from, row_lines, lines_of_rows}}
 use Rattle.yq_outline.specs.Outline.{Line, level, Outline, end, row, anchored, head_or, shaped, children}
 use Rattle.yq_eval.specs.TreeScalars.{HasScalars, EachHasScalars}
-use Rattle.yq_core.specs.declared.kind.Kind.TheVariants as kinds
 use Rattle.yq_core.specs.Tree as tree
 use Rattle.yq_core.specs.Nodes as inline
 use Rattle.yq_row_table.specs.Rows as rows
-use Rattle.yq_outline.specs.Outline as outline
 
 -- ---- inline nodes
 

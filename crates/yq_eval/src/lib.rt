@@ -11,4 +11,4 @@ pub use matching::found::{FoundPlaces, find_places};
 pub use matching::owned;
 pub use matching::pipe::{find, pipe_on};
 pub use matching::place::{FoundPlace, Missing, NodePath, NodeStep, step_to};
-pub use matching::traverse::step_each;
+pub use matching::steps::{at_place, path_steps};

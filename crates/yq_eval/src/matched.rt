@@ -14,7 +14,7 @@ use std::alloc::Global;
 use yq_core::Value;
 use yq_documents::Documents;
 use yq_nodes::Node;
-use yq_semantics::{ExprError, Program, Stage, Syntax};
+use yq_semantics::{ExprError, Program, Stage, Syntax, in_document};
 
 /// A match: its document, counted from 0, and a copy of the value there, which
 /// has no anchors and no comments. What is missing is null.
@@ -57,7 +57,7 @@ fn push_copies(
 
 /// Puts the matches of a pipe in document `doc`, which has that root, after
 /// others.
-fn push_document(
+fn push_found(
     alloc: Global,
     doc: usize,
     pipe: &[Stage],
@@ -70,6 +70,20 @@ fn push_document(
     let bump = Bump::new(alloc);
     let places = find(alloc, &bump, doc, pipe, root)?;
     push_copies(alloc, doc, &places, matches)
+}
+
+/// The same, and a refusal is in that document.
+fn push_document(
+    alloc: Global,
+    doc: usize,
+    pipe: &[Stage],
+    root: Node<'_, '_>,
+    matches: &mut Vec<Match>,
+) -> Result<(), ExprError>
+    requires { HasScalars (node_of root) }
+    ensures { AddsMatches result matches.old matches.new (matches_below doc pipe.now root.entry) }
+{
+    in_document(doc, push_found(alloc, doc, pipe, root, matches))
 }
 
 /// The matches of a pipe in documents.

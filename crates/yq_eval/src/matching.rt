@@ -9,6 +9,7 @@ pub(crate) mod found;
 pub(crate) mod pipe;
 pub(crate) mod place;
 mod step;
+pub(crate) mod steps;
 pub(crate) mod traverse;
 
 use self::place::NodeStep;

@@ -2,10 +2,8 @@
 #![tactic(auto)]
 
 mod advice;
-mod aliases;
 mod asking;
 mod caret;
-mod changes;
 mod codes;
 mod expected;
 mod expression;
@@ -13,9 +11,7 @@ mod first_words;
 mod marks;
 mod misread;
 mod parts;
-mod right_side;
 mod rows;
-mod steps;
 mod text_place;
 mod update_parts;
 mod updates;

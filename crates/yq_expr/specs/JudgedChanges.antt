@@ -142,6 +142,10 @@ JudgesEffects e t ps result = JudgesEachVerdict e.aliases.now ps (effect_of e t)
 abbrev pub JudgesThere : {X : Type 0} → DocumentPlaces → Update → Result X ExprError → Type 0
 JudgesThere ps u result = JudgesVerdict result (changes_there ps u)
 
+-- the same of an action at places of a document (own)
+abbrev pub JudgesAction : {X : Type 0} → DocumentPlaces → effect.Action → Result X ExprError → Type 0
+JudgesAction ps a result = JudgesVerdict result (at_each (node_of ps.document.root) (action_in ps.document a) (found_places ps.places))
+
 -- a document with these aliases has none (own)
 abbrev pub HasNone : {X : Type 0} → AliasMap X → Type 0
 HasNone aliases = (names : List Name) → HasAliases names aliases → HaveNoAlias names

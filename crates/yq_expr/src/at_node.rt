@@ -9,11 +9,11 @@ ghost use Rattle.yq_eval.specs.TreeScalars.{HasScalars, HaveScalars};
 
 use crate::at_places::allowed_at;
 use crate::document::DocumentEffect;
-use crate::steps::{path_steps, step_below};
+use crate::steps::step_below;
 use std::alloc::{AllocError, Global};
 use yq_core::Step;
 use yq_documents::{Documents, Path};
-use yq_eval::{FoundPlace, NodePath, NodeStep, owned, step_to};
+use yq_eval::{FoundPlace, NodePath, NodeStep, owned, path_steps, step_to};
 use yq_lookup::CutText;
 use yq_planner::{ChangesUnder, PlacedChange};
 use yq_semantics::ExprError;

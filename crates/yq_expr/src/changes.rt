@@ -16,12 +16,11 @@ use crate::many_keys::check_depth;
 use crate::push_change;
 use crate::put::put;
 use crate::right_value::right_value;
-use crate::steps::path_steps;
 use bumpalo::Bump;
 use std::alloc::Global;
 use yq_core::Value;
 use yq_documents::Documents;
-use yq_eval::{FoundPlace, FoundPlaces, find_places};
+use yq_eval::{FoundPlace, FoundPlaces, find_places, path_steps};
 use yq_nodes::Node;
 use yq_planner::{Aliases, ChangesUnder, PlacedChange, aliases_of, has_comment};
 use yq_semantics::{Assignment, ExprError, Operator, Refusal, Stage, Term, Update};
@@ -173,7 +172,7 @@ pub(crate) fn changes(
     ensures valid { IfOk result (λ v. AreAllValid v.items) }
 {
     if !has_comment(update) {
-        return Err(ExprError::Fault(Refusal::BadCommentText));
+        return Err(Refusal::BadCommentText.error());
     }
     documents.are_ready();
     let mut changes = Vec::new(alloc);

@@ -58,7 +58,7 @@ fn remove(place: &FoundPlace<'_, '_>) -> Result<Option<Change>, ExprError>
         return Ok(None);
     }
     match place.path {
-        NodePath::Root => Err(ExprError::Fault(Refusal::RootDelete)),
+        NodePath::Root => Err(Refusal::RootDelete.error()),
         NodePath::Below(..) => Ok(Some(Change::Removes)),
     }
 }
@@ -103,10 +103,10 @@ fn set_comment(
         (string_bytes comment.now.text) (place_of place.now)) }
 {
     if let Missing::Further(..) = place.missing {
-        return Err(ExprError::Fault(Refusal::NoPlaceForComment));
+        return Err(Refusal::NoPlaceForComment.error());
     }
     if !has_room(alloc, cut, path, comment.place) {
-        return Err(ExprError::Fault(Refusal::NoPlaceForComment));
+        return Err(Refusal::NoPlaceForComment.error());
     }
     let text = String::from_str(alloc, comment.text.as_str())?;
     Ok(Some(Change::SetsComment(comment.place, text)))

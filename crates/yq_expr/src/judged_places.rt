@@ -12,12 +12,12 @@ use crate::effect::Action;
 use crate::oversized::oversized;
 use std::alloc::Global;
 use yq_documents::Documents;
-use yq_eval::{FoundPlace, FoundPlaces};
+use yq_eval::{FoundPlace, FoundPlaces, at_place};
 use yq_lookup::CutText;
 use yq_planner::Aliases;
 use yq_semantics::ExprError;
 
-/// Judges what is changed at a place.
+/// Judges what is changed at a place; a refusal is there, if its place isn't known.
 fn judge_effect<'a, 't>(
     alloc: Global,
     cut: &mut CutText<'_, '_>,
@@ -29,8 +29,8 @@ fn judge_effect<'a, 't>(
     ensures verdict { JudgesEffect effect.now cut.old (place_of place.now) result }
 {
     let mut changes = Vec::new(alloc);
-    push_effect(alloc, cut, effect, place, &mut changes)?;
-    Ok(())
+    let pushed = push_effect(alloc, cut, effect, place, &mut changes);
+    at_place(alloc, place, pushed)
 }
 
 /// The same, where the value that a place gets is found from there: by a small value, if no text can hold it.

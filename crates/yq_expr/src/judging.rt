@@ -5,12 +5,13 @@ ghost use Rattle.yq_nodes.specs.Nodes.{node_of};
 ghost use Rattle.yq_planner.{specs.Indexes.HasAliases, specs.Substitutes.IsSubstitute};
 ghost use Rattle.yq_semantics.{specs.Program.update_count, specs.View.{program_of, update_of}};
 ghost use Rattle.yq_expr.{specs.EffectView.{is_mapping, value_at}, specs.PlannedUpdates.{IsUpdateAt, plan_in}};
-ghost use Rattle.yq_expr.specs.JudgedChanges.{HasNone, JudgesEachVerdict, JudgesThere, JudgesVerdict, MaySubstitute, changes_inside};
-ghost use Rattle.yq_expr.{specs.JudgedChanges.{changes_of_all, with_right}, specs.DocumentPlaces.{AreInDocument, IsDocumentRoot}};
+ghost use Rattle.yq_expr.specs.JudgedChanges.{HasNone, JudgesAction, JudgesEachVerdict, JudgesThere, JudgesVerdict, MaySubstitute};
+ghost use Rattle.yq_expr.specs.JudgedChanges.{changes_inside, changes_of_all, with_right};
+ghost use Rattle.yq_expr.specs.DocumentPlaces.{AreInDocument, IsDocumentRoot};
 ghost use Rattle.yq_eval.{specs.FoundView.found_places, specs.TreeScalars.HaveScalars};
 ghost use Rattle.yq_semantics.specs.Program as programs;
 
-use crate::changes::{changes_at, left};
+use crate::changes::left;
 use crate::document::{DocumentPlaces, DocumentRoot};
 use crate::effect::Action;
 use crate::judged_places::judge_found;
@@ -23,7 +24,9 @@ use yq_documents::Documents;
 use yq_eval::{FoundPlace, find_places};
 use yq_nodes::Node;
 use yq_planner::{Aliases, aliases_of, has_comment, substitute};
-use yq_semantics::{Assignment, ExprError, Operator, Program, Refusal, Syntax, Term, Update};
+use yq_semantics::{
+    Assignment, ExprError, Operator, Program, Refusal, Syntax, Term, Update, in_document,
+};
 
 /// Whether a value is a mapping.
 fn is_mapping(value: &Value) -> bool
@@ -148,20 +151,23 @@ fn judge_right<'a, 't>(
     judge_value(alloc, found, aliases, adds, &value)
 }
 
-/// Judges an update at places of a document: its changes are made, and let go.
-fn judge_changes<'a, 't>(
+/// Judges an action at each of places of a document.
+fn judge_action<'a, 't>(
     alloc: Global,
     found: &DocumentPlaces<'a, 't>,
-    update: &'a Update,
+    action: Action<'a, '_>,
 ) -> Result<(), ExprError>
     requires { AreInDocument found.now }
-    ensures { JudgesThere found.now update.now result }
+    ensures { JudgesAction found.now action.entry result }
 {
-    let _changes = changes_at(alloc, found, update)?;
-    Ok(())
+    if found.places.is_empty() {
+        return Ok(());
+    }
+    let aliases = aliases_of(alloc, &found.document.root)?;
+    judge_found(alloc, found, &aliases, action)
 }
 
-/// The same, of an assignment by one value for all places.
+/// Judges an assignment by one value for all places.
 fn judge_assigned<'a, 't>(
     alloc: Global,
     found: &DocumentPlaces<'a, 't>,
@@ -207,18 +213,19 @@ fn judge_at<'a, 't>(
     requires { AreInDocument found.now }
     ensures { JudgesThere found.now update.now result }
 {
-    let Update::Assign(assignment) = update else {
-        return judge_changes(alloc, found, update);
-    };
-    match assignment.operator {
-        Operator::Set => judge_assigned(alloc, found, false, assignment),
-        Operator::Add => judge_assigned(alloc, found, true, assignment),
-        Operator::Modify => judge_modified(alloc, found, assignment),
+    match update {
+        Update::Assign(assignment) => match assignment.operator {
+            Operator::Set => judge_assigned(alloc, found, false, assignment),
+            Operator::Add => judge_assigned(alloc, found, true, assignment),
+            Operator::Modify => judge_modified(alloc, found, assignment),
+        },
+        Update::Delete(_) => judge_action(alloc, found, Action::Remove),
+        Update::Comment(comment) => judge_action(alloc, found, Action::SetComment(comment)),
     }
 }
 
 /// Judges an update in a document.
-fn judge_in<'a>(
+fn judge_inside<'a>(
     alloc: Global,
     document: DocumentRoot<'a, '_>,
     update: &'a Update,
@@ -231,12 +238,24 @@ fn judge_in<'a>(
     judge_at(alloc, &DocumentPlaces { document, places }, update)
 }
 
+/// The same, and a refusal is in that document.
+fn judge_in<'a>(
+    alloc: Global,
+    document: DocumentRoot<'a, '_>,
+    update: &'a Update,
+) -> Result<(), ExprError>
+    requires { IsDocumentRoot document }
+    ensures { JudgesVerdict result (changes_inside document.entry update.now) }
+{
+    in_document(document.doc, judge_inside(alloc, document, update))
+}
+
 /// Judges an update in each document, up to the first refusal.
 fn judge_update(alloc: Global, update: &Update, documents: &Documents<'_>) -> Result<(), ExprError>
     ensures { JudgesVerdict result (changes_of_all update.now documents.now) }
 {
     if !has_comment(update) {
-        return Err(ExprError::Fault(Refusal::BadCommentText));
+        return Err(Refusal::BadCommentText.error());
     }
     documents.are_ready();
     'documents: for doc in 0..documents.count() {
@@ -258,7 +277,8 @@ fn judge_plan(alloc: Global, update: &Update, documents: &Documents<'_>) -> Resu
     judge_update(alloc, update, documents)
 }
 
-/// Judges update `nth` of a program, counted from 0, on documents: it has a plan there, or is refused.
+/// Judges update `nth` of a program, counted from 0, on documents: it has a plan there, or is refused, with the
+/// value at which it is.
 pub fn judge(
     alloc: Global,
     program: &Program,

@@ -85,9 +85,9 @@ fn refuse(
         (spec.put_with_path (place_of place.now) (value_node value.now)))) }
 {
     if some_key_is_long(alloc, missing, value)? {
-        return Err(ExprError::Fault(Refusal::KeyTooLong));
+        return Err(Refusal::KeyTooLong.error());
     }
-    Err(ExprError::Fault(Refusal::TooDeep))
+    Err(Refusal::TooDeep.error())
 }
 
 /// Refuses what puts a value under so many missing keys at a place of document `doc`, as it would be

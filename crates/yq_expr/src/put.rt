@@ -101,7 +101,7 @@ fn put_below(
         return Ok(Change::Replaces(value));
     };
     if has_index(missing) {
-        return Err(ExprError::Fault(Refusal::IndexOutOfRange));
+        return Err(Refusal::IndexOutOfRange.error());
     }
     Ok(created(alloc, node, first, others, value)?)
 }

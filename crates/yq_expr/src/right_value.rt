@@ -10,8 +10,9 @@ ghost use Rattle.yq_semantics.specs.RightValues as spec;
 use crate::same_term::count_same;
 use bumpalo::Bump;
 use std::alloc::Global;
+use std::slice;
 use yq_core::{Kind, Scalar, Value};
-use yq_eval::{FoundPlace, copy_at, pipe_on};
+use yq_eval::{FoundPlace, at_place, copy_at, pipe_on};
 use yq_nodes::NodeKind;
 use yq_planner::{copied, scalar_sum, sum_times};
 use yq_semantics::{ExprError, Refusal, Stage, Term};
@@ -23,7 +24,8 @@ fn only(alloc: Global, places: &[FoundPlace<'_, '_>]) -> Result<Value, ExprError
 {
     match places {
         [place] => copy_at(alloc, place),
-        _ => Err(ExprError::Fault(Refusal::NotOneValue)),
+        [] => Err(Refusal::NotOneValue.error()),
+        [_, second, ..] => at_place(alloc, second, Err(Refusal::NotOneValue.error())),
     }
 }
 
@@ -75,20 +77,69 @@ pub(crate) fn term_value<'a, 't>(
     }
 }
 
-/// A value with that of a term added so many times.
+/// The pipe of the last term that has one.
+fn last_pipe(terms: &[Term]) -> Option<&[Stage]> {
+    let mut rest = terms;
+    'terms: while let [front @ .., last] = rest {
+        if let Term::Pipe(pipe) = last {
+            return Some(pipe);
+        }
+        rest = front;
+    }
+    None
+}
+
+/// A sum of terms, or its refusal: at the value that was found last for them, if no place is known for it.
+fn at_last<'a, 't>(
+    alloc: Global,
+    doc: usize,
+    terms: &'a [Term],
+    from: &FoundPlace<'a, 't>,
+    sum: Result<Value, ExprError>,
+) -> Result<Value, ExprError>
+    ensures { result ≡ sum }
+{
+    match &sum {
+        Err(ExprError::Fault(refused)) if refused.why() != Refusal::NotOneValue => {}
+        _ => return sum,
+    }
+    let (Some(pipe), Ok(mut start)) = (last_pipe(terms), Vec::with_capacity(alloc, 1)) else {
+        return sum;
+    };
+    if start.push(*from).is_err() {
+        return sum;
+    }
+    let bump = Bump::new(alloc);
+    let Ok(places) = pipe_on(alloc, &bump, doc, pipe, start) else {
+        return sum;
+    };
+    match places.as_slice() {
+        [place] => at_place(alloc, place, sum),
+        _ => sum,
+    }
+}
+
+/// A value with that of the last of terms added so many times.
 fn with_term<'a, 't>(
     alloc: Global,
     doc: usize,
     total: Value,
-    term: (&'a Term, usize),
+    term: (&'a [Term], &'a Term, usize),
     place: &FoundPlace<'a, 't>,
 ) -> Result<Value, ExprError>
     requires { HasScalars (place_of place.now).node }
     ensures { Judges value_node result
-        (found_times doc place.now term.entry.0.now term.entry.1 total) }
+        (found_times doc place.now term.entry.1.now term.entry.2 total) }
 {
-    let value = term_value(alloc, doc, term.0, place)?;
-    sum_times(alloc, total, value, term.1)
+    let (terms, term, times) = term;
+    let value = term_value(alloc, doc, term, place)?;
+    at_last(
+        alloc,
+        doc,
+        terms,
+        place,
+        sum_times(alloc, total, value, times),
+    )
 }
 
 /// A value with those of terms added, one after the other. Terms that are known to be the same are evaluated once.
@@ -107,7 +158,9 @@ fn with_terms<'a, 't>(
     let mut rest = terms;
     'terms: while let [term, after @ ..] = rest {
         let again = count_same(term, after);
-        total = with_term(alloc, doc, total, (term, again + 1), place)?;
+        let so_far = terms.len().saturating_sub(after.len());
+        let so_far = terms.get(..so_far).unwrap_or(terms);
+        total = with_term(alloc, doc, total, (so_far, term, again + 1), place)?;
         rest = &after[again..];
     }
     Ok(total)
@@ -178,11 +231,12 @@ pub fn right_value<'a, 't>(
         (place_of place.now)) }
 {
     if let Some((kind, text, added)) = scalar_terms(terms, place) {
-        return scalar_sum(alloc, kind, text, added);
+        return at_place(alloc, place, scalar_sum(alloc, kind, text, added));
     }
     let [term, others @ ..] = terms else {
         return Ok(Value::Scalar(Scalar::null(alloc)?));
     };
     let first = term_value(alloc, doc, term, place)?;
-    with_terms(alloc, doc, first, others, place)
+    let sum = with_terms(alloc, doc, first, others, place);
+    at_last(alloc, doc, slice::from_ref(term), place, sum)
 }

@@ -1,4 +1,4 @@
-//! The steps of a place, in order.
+//! The steps of a place: those that are missing, and those before the last one.
 ghost use Rattle.std.specs.Prelude.{◌≡◌, ◌++◌, ◌∷◌, [], IfOk, IfSome, IsTrue, map};
 ghost use Rattle.yq_core.specs.Entries.{tree_step};
 ghost use Rattle.yq_eval.specs.PlaceView.{missing_of, node_step_of, path_of};
@@ -6,38 +6,8 @@ ghost use Rattle.yq_semantics.specs.View.{program_step};
 
 use std::alloc::{AllocError, Global};
 use yq_core::Step;
-use yq_eval::{Missing, NodePath, NodeStep, owned};
+use yq_eval::{Missing, NodePath, NodeStep};
 use yq_semantics::PathStep;
-
-/// How many steps a path has.
-fn path_len(path: NodePath<'_>) -> usize {
-    let mut count = 0usize;
-    let mut rest = path;
-    'steps: while let NodePath::Below(front, _) = rest {
-        count = count.saturating_add(1);
-        rest = *front;
-    }
-    count
-}
-
-/// The steps of a path.
-pub fn path_steps(alloc: Global, path: NodePath<'_>) -> Result<Vec<Step>, AllocError>
-    ensures { IfOk result (λ v. map tree_step v.items ≡ path_of path.entry) }
-{
-    let mut steps = Vec::with_capacity(alloc, path_len(path))?;
-    let mut rest = path;
-    'steps: loop {
-        match rest {
-            NodePath::Root => break,
-            NodePath::Below(front, last) => {
-                steps.push(owned(alloc, last)?)?;
-                rest = *front;
-            }
-        }
-    }
-    steps.reverse();
-    Ok(steps)
-}
 
 /// Whether a step is that one.
 fn is_step(step: NodeStep<'_>, other: &Step) -> bool

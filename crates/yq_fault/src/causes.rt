@@ -54,7 +54,7 @@ impl From<ExprError> for Fault {
     fn from(error: ExprError) -> Fault {
         match error {
             ExprError::Memory => Fault::OutOfMemory,
-            ExprError::Fault(why) => Fault::Refused(why),
+            ExprError::Fault(refused) => Fault::Refused(refused.why()),
         }
     }
 }

@@ -40,7 +40,7 @@ fn change(alloc: Global, cut: &CutText<'_, '_>, op: &Op) -> Result<ChangedMiddle
 {
     let _text = cut.text();
     let segments = op_segments(alloc, cut, op)?;
-    changes(alloc, &segments)?.ok_or(ExprError::Fault(Refusal::TooLarge))
+    changes(alloc, &segments)?.ok_or(Refusal::TooLarge.error())
 }
 
 /// What an operation changes in a text with its cut, and what is known after it: of its way, and of steps.
@@ -71,7 +71,7 @@ pub fn carry_along<'d, 'o: 'd>(
 {
     on_the_way(alloc, cut, op);
     let segments = op_segments(alloc, cut, op)?;
-    exchange(alloc, &segments)?.ok_or(ExprError::Fault(Refusal::TooLarge))
+    exchange(alloc, &segments)?.ok_or(Refusal::TooLarge.error())
 }
 
 /// An operation carried out on a text with its cut.

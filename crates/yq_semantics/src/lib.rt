@@ -20,5 +20,5 @@ pub use program::{
     Assignment, Comment, CommentPlace, Comparison, Condition, Operand, Operator, PathStep, Program,
     Stage, Syntax, Term, Update, is_index, is_simple,
 };
-pub use refusal::{ExprError, Refusal};
+pub use refusal::{ExprError, Refusal, Refused, in_document};
 pub use under::{OpsUnder, push_part, push_steps, whole_ops, whole_removals};

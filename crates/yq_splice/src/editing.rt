@@ -182,7 +182,7 @@ fn edit_read(
     ensures refused { IfErr result (λ e. ProgramFails e (program_of program.now) text.now) }
 {
     if program.is_read() {
-        return Err(ExprError::Fault(Refusal::NotAnUpdate));
+        return Err(Refusal::NotAnUpdate.error());
     }
     if program.updates() == 0 {
         return Ok(unchanged(alloc, text)?);

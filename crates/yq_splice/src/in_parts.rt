@@ -62,7 +62,7 @@ pub(crate) fn carry_parts(
         let part = plan_part(alloc, program, nth, documents, doc, place)?;
         done = carry_part(alloc, done, &part.ops)?;
         if part.is_oversized {
-            return Err(ExprError::Fault(Refusal::TooLarge));
+            return Err(Refusal::TooLarge.error());
         }
         doc = part.doc;
         place = part.place;

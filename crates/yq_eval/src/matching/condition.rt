@@ -7,6 +7,7 @@ ghost use Rattle.yq_eval.specs.ConditionAnswers.{are_same_ints, is_that_scalar, 
 ghost use Rattle.yq_semantics.specs.Conditions as spec;
 
 use crate::matching::place::FoundPlace;
+use crate::matching::steps::at_place;
 use crate::matching::traverse::traverse;
 use bumpalo::Bump;
 use std::alloc::Global;
@@ -54,29 +55,33 @@ fn node_is(node: &Node<'_, '_>, scalar: &Scalar) -> Result<bool, ExprError>
     ensures { JudgesWhether result (is_that_scalar scalar.now (node_of node.now)) }
 {
     match node.kind() {
-        NodeKind::Alias => Err(ExprError::Fault(Refusal::ThroughAlias)),
+        NodeKind::Alias => Err(Refusal::ThroughAlias.error()),
         NodeKind::Scalar(kind) => Ok(same_scalar(kind, node.text(), scalar)),
         NodeKind::List | NodeKind::Map => Ok(false),
     }
 }
 
 /// Whether the value at a place is that scalar: null where a step is missing.
-fn place_is(place: &FoundPlace<'_, '_>, scalar: &Scalar) -> Result<bool, ExprError>
+fn place_is(alloc: Global, place: &FoundPlace<'_, '_>, scalar: &Scalar) -> Result<bool, ExprError>
     ensures { JudgesWhether result (is_that_scalar scalar.now (spec.value_of (place_of place.now))) }
 {
     match place.found() {
-        Some(node) => node_is(node, scalar),
+        Some(node) => at_place(alloc, place, node_is(node, scalar)),
         None => Ok(same_scalar(Kind::Null, "null", scalar)),
     }
 }
 
 /// Whether the value at the first of places is that scalar.
-fn first_is(places: &[FoundPlace<'_, '_>], scalar: &Scalar) -> Result<bool, ExprError>
+fn first_is(
+    alloc: Global,
+    places: &[FoundPlace<'_, '_>],
+    scalar: &Scalar,
+) -> Result<bool, ExprError>
     ensures { JudgesWhether result (first_is_that scalar.now (places_of places.now)) }
 {
     match places {
         [] => Ok(false),
-        [first, ..] => place_is(first, scalar),
+        [first, ..] => place_is(alloc, first, scalar),
     }
 }
 
@@ -91,10 +96,10 @@ fn value_is<'a, 't>(
     ensures { JudgesWhether result (value_equals steps.now scalar.now (place_of place.now)) }
 {
     if let [] = steps {
-        return place_is(place, scalar);
+        return place_is(alloc, place, scalar);
     }
     let places = traverse(alloc, bump, steps, place.alone(alloc)?)?;
-    first_is(&places, scalar)
+    first_is(alloc, &places, scalar)
 }
 
 /// Whether what is compared is the scalar of a comparison, at a place in document `doc`.
@@ -122,18 +127,18 @@ fn node_has(node: &Node<'_, '_>, key: &str) -> Result<bool, ExprError>
     ensures { Judges (λ b. b) result (spec.has_key key.now (node_of node.now)) }
 {
     match node.kind() {
-        NodeKind::Alias => Err(ExprError::Fault(Refusal::ThroughAlias)),
+        NodeKind::Alias => Err(Refusal::ThroughAlias.error()),
         NodeKind::Scalar(_) | NodeKind::List => Ok(false),
         NodeKind::Map => Ok(node.entry(key).is_some()),
     }
 }
 
 /// Whether the value at a place is a mapping with that key.
-fn place_has(place: &FoundPlace<'_, '_>, key: &str) -> Result<bool, ExprError>
+fn place_has(alloc: Global, place: &FoundPlace<'_, '_>, key: &str) -> Result<bool, ExprError>
     ensures { Judges (λ b. b) result (spec.has_key key.now (spec.value_of (place_of place.now))) }
 {
     match place.found() {
-        Some(node) => node_has(node, key),
+        Some(node) => at_place(alloc, place, node_has(node, key)),
         None => Ok(false),
     }
 }
@@ -153,6 +158,6 @@ pub(crate) fn holds<'a, 't>(
             let same = operand_is(alloc, bump, doc, comparison, &place)?;
             Ok(same_bool(comparison.equal, same))
         }
-        Condition::Has(key) => place_has(&place, key.as_str()),
+        Condition::Has(key) => place_has(alloc, &place, key.as_str()),
     }
 }

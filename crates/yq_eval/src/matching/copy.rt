@@ -8,6 +8,7 @@ ghost use Rattle.yq_eval.specs.MatchAnswers.{JudgesValues, JudgesFields};
 ghost use Rattle.yq_semantics.specs.Copies as spec;
 
 use crate::matching::place::FoundPlace;
+use crate::matching::steps::at_place;
 use std::alloc::{AllocError, Global};
 use yq_core::{Kind, Scalar, Value};
 use yq_nodes::{Node, NodeKind};
@@ -43,7 +44,7 @@ pub(crate) fn copy(alloc: Global, node: &Node<'_, '_>) -> Result<Value, ExprErro
     ensures { Judges value_node result (spec.copy (node_of node.now)) }
 {
     match node.kind() {
-        NodeKind::Alias => Err(ExprError::Fault(Refusal::ThroughAlias)),
+        NodeKind::Alias => Err(Refusal::ThroughAlias.error()),
         NodeKind::Scalar(kind) => Ok(Value::Scalar(scalar_of(alloc, kind, node.text())?)),
         NodeKind::List => Ok(Value::List(item_copies(alloc, node)?)),
         NodeKind::Map => Ok(Value::Map(entry_copies(alloc, node)?)),
@@ -85,7 +86,7 @@ pub fn copy_at(alloc: Global, place: &FoundPlace<'_, '_>) -> Result<Value, ExprE
     ensures { Judges value_node result (spec.copy_at (place_of place.now)) }
 {
     match place.found() {
-        Some(node) => copy(alloc, node),
+        Some(node) => at_place(alloc, place, copy(alloc, node)),
         None => Ok(Value::Scalar(Scalar::null(alloc)?)),
     }
 }

@@ -27,9 +27,9 @@ pub(crate) fn key_step<'a, 't>(
     ensures { Judges found_of result (spec.key_step key.now (node_of node.now)) }
 {
     match node.kind() {
-        NodeKind::Alias => Err(ExprError::Fault(Refusal::ThroughAlias)),
+        NodeKind::Alias => Err(Refusal::ThroughAlias.error()),
         NodeKind::Scalar(Kind::Null) => Ok(None),
-        NodeKind::Scalar(_) | NodeKind::List => Err(ExprError::Fault(Refusal::NotAMap)),
+        NodeKind::Scalar(_) | NodeKind::List => Err(Refusal::NotAMap.error()),
         NodeKind::Map => Ok(entry(node, key)),
     }
 }
@@ -44,7 +44,7 @@ fn item_number(node: &Node<'_, '_>, index: i64) -> Result<usize, ExprError>
     let all = node.count();
     let back = index.unsigned_abs() as usize;
     if all < back {
-        return Err(ExprError::Fault(Refusal::IndexOutOfRange));
+        return Err(Refusal::IndexOutOfRange.error());
     }
     Ok(all - back)
 }
@@ -71,9 +71,9 @@ pub(crate) fn index_step<'a, 't>(
     ensures { Judges found_of result (spec.index_step index (node_of node.now)) }
 {
     match node.kind() {
-        NodeKind::Alias => Err(ExprError::Fault(Refusal::ThroughAlias)),
+        NodeKind::Alias => Err(Refusal::ThroughAlias.error()),
         NodeKind::Scalar(Kind::Null) => Ok(None),
-        NodeKind::Scalar(_) | NodeKind::Map => Err(ExprError::Fault(Refusal::NotASequence)),
+        NodeKind::Scalar(_) | NodeKind::Map => Err(Refusal::NotASequence.error()),
         NodeKind::List => item(node, index),
     }
 }

@@ -9,6 +9,7 @@ ghost use Rattle.yq_semantics.specs.Places as spec;
 
 use crate::matching::place::{FoundPlace, Missing, NodePath, NodeStep};
 use crate::matching::step::{index_step, key_step};
+use crate::matching::steps::at_place;
 use bumpalo::Bump;
 use std::alloc::{AllocError, Global};
 use yq_core::Kind;
@@ -87,16 +88,16 @@ fn push_all<'a, 't>(
     ensures { AddsPlaces result places.old places.new (spec.step_there each (place_of place.now)) }
 {
     match place.node.kind() {
-        NodeKind::Alias => Err(ExprError::Fault(Refusal::ThroughAlias)),
+        NodeKind::Alias => Err(Refusal::ThroughAlias.error()),
         NodeKind::Scalar(Kind::Null) => Ok(()),
-        NodeKind::Scalar(_) => Err(ExprError::Fault(Refusal::NotASequence)),
+        NodeKind::Scalar(_) => Err(Refusal::NotASequence.error()),
         NodeKind::List | NodeKind::Map => Ok(push_children(bump, place, places)?),
     }
 }
 
 /// Puts the places to which a step leads from a place after others.
 #[tactic(auto, using(crate::proofs::PlaceLaws::missed_on))]
-fn push_step<'a, 't>(
+fn push_along<'a, 't>(
     bump: &'a Bump,
     step: &'a PathStep,
     place: &FoundPlace<'a, 't>,
@@ -115,8 +116,21 @@ fn push_step<'a, 't>(
     Ok(push_found(bump, step, place, &found, places)?)
 }
 
+/// The same, and a refusal is there.
+fn push_step<'a, 't>(
+    alloc: Global,
+    bump: &'a Bump,
+    step: &'a PathStep,
+    place: &FoundPlace<'a, 't>,
+    places: &mut Vec<FoundPlace<'a, 't>>,
+) -> Result<(), ExprError>
+    ensures { AddsPlaces result places.old places.new (step_along step.now (place_of place.now)) }
+{
+    at_place(alloc, place, push_along(bump, step, place, places))
+}
+
 /// Where a step leads from places, one after the other.
-pub fn step_each<'a, 't>(
+pub(crate) fn step_each<'a, 't>(
     alloc: Global,
     bump: &'a Bump,
     step: &'a PathStep,
@@ -126,7 +140,7 @@ pub fn step_each<'a, 't>(
 {
     let mut next = Vec::new(alloc);
     'places: for place in places {
-        push_step(bump, step, place, &mut next)?;
+        push_step(alloc, bump, step, place, &mut next)?;
     }
     Ok(next)
 }

@@ -27,7 +27,7 @@ fn to_scalar(alloc: Global, kind: Kind, text: &str, value: &Value) -> Result<Cha
     match (kind, value) {
         (Kind::Null, _) => Ok(Change::Replaces(copied(alloc, value)?)),
         (_, Value::Scalar(other)) => Ok(Change::Replaces(scalar_sum(alloc, kind, text, other)?)),
-        (_, Value::List(_) | Value::Map(_)) => Err(ExprError::Fault(Refusal::KindMismatch)),
+        (_, Value::List(_) | Value::Map(_)) => Err(Refusal::KindMismatch.error()),
     }
 }
 
@@ -91,7 +91,7 @@ fn to_map(alloc: Global, node: &Node<'_, '_>, value: &Value) -> Result<Change, E
     ensures { Judges change_of result (node_with_entries node.now value.now) }
 {
     let Value::Map(others) = value else {
-        return Err(ExprError::Fault(Refusal::KindMismatch));
+        return Err(Refusal::KindMismatch.error());
     };
     let index = index_of(alloc, node)?;
     Ok(Change::Adds(entries(alloc, &index, others)?))
@@ -103,7 +103,7 @@ pub fn added(alloc: Global, node: &Node<'_, '_>, value: &Value) -> Result<Change
     ensures { Judges change_of result (spec.added (node_of node.now) (value_node value.now)) }
 {
     match node.kind() {
-        NodeKind::Alias => Err(ExprError::Fault(Refusal::ThroughAlias)),
+        NodeKind::Alias => Err(Refusal::ThroughAlias.error()),
         NodeKind::Scalar(kind) => to_scalar(alloc, kind, node.text(), value),
         NodeKind::List => Ok(Change::Adds(to_list(alloc, value)?)),
         NodeKind::Map => to_map(alloc, node, value),

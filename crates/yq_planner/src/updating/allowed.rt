@@ -77,13 +77,13 @@ pub fn allow(
     ensures valid { IfOk result (λ _. IsValidChange (change_of change.now)) }
 {
     if is_too_long(alloc, change)? {
-        return Err(ExprError::Fault(Refusal::KeyTooLong));
+        return Err(Refusal::KeyTooLong.error());
     }
     if is_too_deep(outer, change) {
-        return Err(ExprError::Fault(Refusal::TooDeep));
+        return Err(Refusal::TooDeep.error());
     }
     if takes_used(alloc, aliases, node, change)? {
-        return Err(ExprError::Fault(Refusal::AnchorInUse));
+        return Err(Refusal::AnchorInUse.error());
     }
     Ok(())
 }

@@ -28,11 +28,11 @@ fn int_sum(alloc: Global, one: &str, other: &str) -> Result<Value, ExprError>
     ensures { Judges value_node result (sum_of_texts one.now other.now) }
 {
     let (Some(m), Some(n)) = (int_value(one), int_value(other)) else {
-        return Err(ExprError::Fault(Refusal::IntegerRange));
+        return Err(Refusal::IntegerRange.error());
     };
     match m.checked_add(n) {
         Some(total) => Ok(int(alloc, total)?),
-        None => Err(ExprError::Fault(Refusal::IntegerRange)),
+        None => Err(Refusal::IntegerRange.error()),
     }
 }
 
@@ -54,9 +54,9 @@ pub fn scalar_sum(alloc: Global, kind: Kind, text: &str, other: &Scalar) -> Resu
         (Kind::Int, Kind::Int) => int_sum(alloc, text, other.text()),
         (Kind::Text, Kind::Text) => Ok(text_sum(alloc, text, other.text())?),
         (Kind::Int, Kind::Float) | (Kind::Float, Kind::Int) | (Kind::Float, Kind::Float) => {
-            Err(ExprError::Fault(Refusal::FloatArithmetic))
+            Err(Refusal::FloatArithmetic.error())
         }
-        _ => Err(ExprError::Fault(Refusal::KindMismatch)),
+        _ => Err(Refusal::KindMismatch.error()),
     }
 }
 
@@ -151,7 +151,7 @@ fn value_sum(alloc: Global, one: Value, other: Value) -> Result<Value, ExprError
             put_entries(alloc, &mut all, added)?;
             Ok(Value::Map(all))
         }
-        _ => Err(ExprError::Fault(Refusal::KindMismatch)),
+        _ => Err(Refusal::KindMismatch.error()),
     }
 }
 

@@ -6,9 +6,10 @@ use Rattle.yq_expr.proofs.ManyKeysLaws.{deep_refusal}
 use Rattle.yq_expr.proofs.many_keys.refuse.Goals as goal
 
 pub returns-then-branch : goal.returns-then-branch
-returns-then-branch c =
-    deep_refusal (λ s. program_step s.now) c.args.missing.now (place_of c.args.place.now) (value_node c.args.value.now) true c.requires.many c.requires.steps
-    (sym c.if-branch.true ∙ c.in_ok-some_key_is_long.ensures)
+returns-then-branch c = λ root.
+    rw c.error.ensures
+    (deep_refusal (λ s. program_step s.now) c.args.missing.now (place_of c.args.place.now) (value_node c.args.value.now) true c.requires.many c.requires.steps
+    (sym c.if-branch.true ∙ c.in_ok-some_key_is_long.ensures) root)
 
 pub returns : goal.returns
 returns c = search (rules, deep_refusal)

@@ -7,8 +7,9 @@ use Rattle.yq_expr.proofs.put.put_below.Goals as goal
 
 pub returns-then-has_index : goal.returns-then-has_index
 returns-then-has_index c =
-    put_first (λ s. program_step s.now) (node_of c.args.node.now) c.args.missing.now c.first-item.result (value_node c.args.value) true
-    c.in-len1-up.len_at_least c.first-item.is (sym c.has_index.ensures ∙ c.if-has_index.true)
+    rw c.error.ensures
+    (put_first (λ s. program_step s.now) (node_of c.args.node.now) c.args.missing.now c.first-item.result (value_node c.args.value) true
+    c.in-len1-up.len_at_least c.first-item.is (sym c.has_index.ensures ∙ c.if-has_index.true))
 
 pub returns : goal.returns
 returns c =

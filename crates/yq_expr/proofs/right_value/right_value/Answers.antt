@@ -7,6 +7,7 @@ use Rattle.yq_expr.proofs.right_value.right_value.Goals as goal
 
 pub returns : goal.returns
 returns c =
-    subst (Judges value_node c.with_terms.result)
+    rw c.at_last.ensures
+    (subst (Judges value_node c.with_terms-sum.result)
     (sym (right_on term_of c.args.doc (place_of c.args.place.now) c.args.terms.now c.term-item.result (value_node c.in_ok-first.first) (omega (arith, c.in-len1-up.len_at_least)) c.term-item.is c.in_ok-first.ensures))
-    c.with_terms.ensures
+    c.with_terms-sum.ensures)

@@ -1,6 +1,5 @@
 use Rattle.std.{proofs.Common.{◌≡◌, rules, [], ◌∷◌, ap, ◌++◌, ◌∙◌}, proofs.lemmas.List.length-append}
-use Rattle.yq_expr.proofs.StepLists.{pushed_back}
-use Rattle.yq_eval.{specs.PlaceView.missing_of, specs.declared.matching.place.Missing.{Nothing, the_lemmas}}
+use Rattle.yq_eval.{proofs.StepLists.pushed_back, specs.PlaceView.missing_of, specs.declared.matching.place.Missing.{Nothing, the_lemmas}}
 use Rattle.yq_semantics.{specs.View.program_step, proofs.Lists.map_reverse}
 use Rattle.yq_expr.proofs.steps.missing_steps.Goals as goal
 

@@ -63,8 +63,9 @@ returns-then-part-clause-err c = λ u at.
     c.in_ok-part.part.place (string_bytes c.parts.done.text) c.parts.done.splices.items (c.parts.invariant.carried u at)
     (operations_of c.in_ok-part.part.ops.items) (c.in_ok-part.ensures.part u at) valid (string_bytes c.in_ok-done.done.text) c.in_ok-done.done.splices.items
     (ap (λ (x : List Op). edit_after c.parts.done.splices.items (carry_all (operations_of x) (string_bytes c.parts.done.text))) (sym c.deref.ensures.value) ∙ c.in_ok-done.ensures) in
-    oversized_fails u c.args.documents.now c.args.splices.items c.requires.read holds c.in_ok-part.part.doc c.in_ok-part.part.place
-    (string_bytes c.in_ok-done.done.text) c.in_ok-done.done.splices.items done (c.in_ok-part.ensures.large u at c.if-part.true done.rest done.left)
+    rw c.error.ensures
+    (oversized_fails u c.args.documents.now c.args.splices.items c.requires.read holds c.in_ok-part.part.doc c.in_ok-part.part.place
+    (string_bytes c.in_ok-done.done.text) c.in_ok-done.done.splices.items done (c.in_ok-part.ensures.large u at c.if-part.true done.rest done.left))
 
 pub parts-preserved : goal.parts-preserved
 parts-preserved c =

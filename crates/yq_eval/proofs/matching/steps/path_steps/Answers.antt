@@ -1,8 +1,8 @@
 use Rattle.std.{proofs.Common.{◌≡◌, rules, [], ◌∷◌, ap, ◌++◌, ◌∙◌}, proofs.lemmas.List.length-append}
-use Rattle.yq_expr.proofs.StepLists.{pushed_back}
-use Rattle.yq_eval.{specs.PlaceView.{node_step_of, path_of}, specs.declared.matching.place.NodePath.{Root, the_lemmas}}
+use Rattle.yq_eval.{proofs.StepLists.pushed_back, specs.PlaceView.{node_step_of, path_of}}
+use Rattle.yq_eval.specs.declared.matching.place.NodePath.{Root, the_lemmas}
 use Rattle.yq_semantics.proofs.Lists.{map_reverse}
-use Rattle.yq_expr.proofs.steps.path_steps.Goals as goal
+use Rattle.yq_eval.proofs.matching.steps.path_steps.Goals as goal
 
 ends : path_of Root ≡ []
 ends = search (rules, the_lemmas)

@@ -3,7 +3,7 @@ use Rattle.yq_nodes.specs.Nodes.{node_of}
 use Rattle.yq_eval.{specs.PlaceView.places_of, specs.TreeScalars.HaveScalars, proofs.MatchLaws.places_have}
 use Rattle.yq_semantics.specs.View.{stage_of}
 use Rattle.yq_eval.specs.declared.matching.place.FoundPlace as declared
-use Rattle.yq_eval.proofs.matched.push_document.Goals as goal
+use Rattle.yq_eval.proofs.matched.push_found.Goals as goal
 
 pub push_copies-requires : goal.push_copies-requires
 push_copies-requires c =

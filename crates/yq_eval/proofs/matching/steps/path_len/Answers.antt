@@ -1,6 +1,6 @@
 use Rattle.std.{proofs.Common.{◌≡◌, rules, [], ◌∷◌, ap, ◌++◌, ◌∙◌}, proofs.lemmas.List.length-append}
 use Rattle.yq_eval.{specs.PlaceView.{node_step_of, path_of}, specs.declared.matching.place.NodePath.the_lemmas}
-use Rattle.yq_expr.proofs.steps.path_len.Goals as goal
+use Rattle.yq_eval.proofs.matching.steps.path_len.Goals as goal
 
 pub steps-smaller : goal.steps-smaller
 steps-smaller c =

@@ -1,7 +1,7 @@
 use Rattle.std.proofs.Common.{ap, ◌∙◌, sym}
 use Rattle.yq_eval.{specs.PlaceView.{missing_of, place_of, places_of}, proofs.StepLaws.{one_missing, step_missed}}
 use Rattle.yq_semantics.{specs.View.program_step, specs.Judgement.gives}
-use Rattle.yq_eval.proofs.matching.traverse.push_step.Goals as goal
+use Rattle.yq_eval.proofs.matching.traverse.push_along.Goals as goal
 
 pub returns-in-Further : goal.returns-in-Further
 returns-in-Further c =
