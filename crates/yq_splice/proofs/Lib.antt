@@ -6,5 +6,6 @@ pub mod AnswerLaws
 pub mod PartLaws
 pub mod UpdateSteps
 pub mod PlanLaws
+pub mod UnderLaws
 pub mod OversizedParts
 pub mod ValidOperands

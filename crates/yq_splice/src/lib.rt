@@ -9,6 +9,7 @@ mod in_parts;
 mod others;
 mod planned;
 mod session;
+mod under;
 mod updating;
 
 pub use carrying::apply_op;

@@ -1,5 +1,5 @@
 //! Plans carried out: operations of each document at and below one node.
-ghost use Rattle.std.specs.Prelude.{◌≡◌, Some};
+ghost use Rattle.std.specs.Prelude.{◌≡◌, IfOk, Some, length, true};
 ghost use Rattle.yq_documents.specs.Reading.{cut_of, read_at};
 ghost use Rattle.yq_row_table.specs.View.{rows_view};
 ghost use Rattle.yq_semantics.specs.Under.{all_under, part_ops};
@@ -9,7 +9,8 @@ ghost use Rattle.yq_edit_laws.specs.Carried as spec;
 
 use crate::carrying::{carry_rows, edited_after};
 use crate::others::{is_worth, with_others};
-use std::alloc::Global;
+use crate::under::{carry_each_under, puts_filled};
+use std::alloc::{AllocError, Global};
 use yq_batch::{Together, carry_under};
 use yq_documents::Documents;
 use yq_lookup::CutText;
@@ -63,6 +64,43 @@ fn carry_below<'d>(
     carry_part_under(alloc, cut, part)
 }
 
+/// Whether all operations of a plan are below one node, of which the first puts a collection with items or entries.
+fn puts_filled_alone(
+    alloc: Global,
+    cut: &CutText<'_, '_>,
+    plan: &[OpsUnder],
+) -> Result<bool, AllocError>
+    ensures { IfOk result (λ b. b ≡ true → length plan.now ≡ 1) }
+{
+    let [part] = plan else {
+        return Ok(false);
+    };
+    puts_filled(alloc, cut, part)
+}
+
+/// The operations of a plan's sole part carried out one by one on a text with its rows; their splices come after
+/// others.
+fn carry_sole(
+    alloc: Global,
+    text: &str,
+    rows: Rows<'_>,
+    splices: Vec<Splice>,
+    plan: Vec<OpsUnder>,
+) -> Result<Edited, ExprError>
+    requires rows { rows ≡ rows_view (cut_of text.now) }
+    requires read { read_at text.now ≡ Some (cut_of text.now) }
+    requires sole { length plan.items ≡ 1 }
+    requires serves { AreServed (all_under plan.items) text.now }
+    ensures { Edits result (edit_after splices.items (spec.carry_all (all_under plan.items)
+        text.now)) }
+{
+    let mut plan = plan;
+    let Some(part) = plan.pop() else {
+        unreachable!();
+    };
+    carry_each_under(alloc, text, rows, splices, part)
+}
+
 /// The operations of a plan carried out on a text with its rows; their splices come after others.
 fn carry_on_rows(
     alloc: Global,
@@ -80,6 +118,10 @@ fn carry_on_rows(
     let below = carry_below(alloc, &CutText::new(text, &rows), &plan)?;
     if let Some(edited) = below {
         return Ok(edited_after(splices, edited)?);
+    }
+    let filled = puts_filled_alone(alloc, &CutText::new(text, &rows), &plan)?;
+    if filled {
+        return carry_sole(alloc, text, rows, splices, plan);
     }
     let ops = whole_ops(alloc, plan)?;
     carry_rows(alloc, text, rows, splices, &ops)

@@ -35,9 +35,9 @@ returns-in_err-below c =
 
 pub carry_rows-requires-clause-serves : goal.carry_rows-requires-clause-serves
 carry_rows-requires-clause-serves c =
-    subst (λ (os : List Operation). AreServed os c.args.text.now) (sym (ap operations_of c.deref-2.ensures.value ∙ c.in_ok-ops.ensures)) c.requires.serves
+    subst (λ (os : List Operation). AreServed os c.args.text.now) (sym (ap operations_of c.deref-3.ensures.value ∙ c.in_ok-ops.ensures)) c.requires.serves
 
 pub returns : goal.returns
 returns c =
     subst (λ (os : List Operation). Edits c.carry_rows.result (edit_after c.args.splices.items (carry_all os c.args.text.now)))
-    (ap operations_of c.deref-2.ensures.value ∙ c.in_ok-ops.ensures) c.carry_rows.ensures
+    (ap operations_of c.deref-3.ensures.value ∙ c.in_ok-ops.ensures) c.carry_rows.ensures
