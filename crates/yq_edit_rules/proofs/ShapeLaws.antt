@@ -1,6 +1,6 @@
 -- Rows of the same shapes: where paths lead among their lines, and what these have room for.
-use Rattle.std.proofs.Common.{◌≡◌, refl, ℕ, suc, ◌-◌, nat_lt, eqb, Bool, false, cond, List, [], ◌∷◌, ◌++◌, length, map, Option, Some, None, sym}
-use Rattle.std.{proofs.Common.{ap, ◌∙◌, rules}, proofs.lemmas.List.map-append}
+use Rattle.std.proofs.Common.{◌≡◌, refl, ℕ, suc, ◌-◌, nat_lt, eqb, Bool, false, cond, List, [], ◌∷◌, ◌++◌, length, map, Option, Some, None}
+use Rattle.std.{proofs.Common.{sym, ap, ◌∙◌, rules}, proofs.lemmas.List.map-append}
 use Rattle.yq_core.{specs.Answers.◌>>=◌, specs.Paths.Step}
 use Rattle.yq_outline.{specs.Comments.head_comment, specs.Ends.line_at_steps, specs.Lines.{row_lines, lines_of_rows}, specs.Outline.Line}
 use Rattle.yq_row_table.specs.Rows.{Row, Part}
