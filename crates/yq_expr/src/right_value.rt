@@ -7,7 +7,7 @@ ghost use Rattle.yq_expr.specs.Summand.{IsSummand, found_times};
 ghost use Rattle.yq_eval.{specs.PlaceView.{place_of, places_of}, specs.TreeScalars.{HasScalars, HaveScalars}};
 ghost use Rattle.yq_semantics.specs.RightValues as spec;
 
-use crate::same_term::count_same;
+use crate::same_term::{count_same, stays};
 use bumpalo::Bump;
 use std::alloc::Global;
 use yq_core::{Kind, Scalar, Value};
@@ -24,16 +24,6 @@ fn only(alloc: Global, places: &[FoundPlace<'_, '_>]) -> Result<Value, ExprError
     match places {
         [place] => copy_at(alloc, place),
         _ => Err(ExprError::Fault(Refusal::NotOneValue)),
-    }
-}
-
-/// Whether a pipe leads nowhere else.
-fn stays(pipe: &[Stage]) -> bool
-    ensures { result ≡ true → map stage_of pipe.now ≡ path [] ∷ [] }
-{
-    match pipe {
-        [Stage::Path(steps)] => steps.is_empty(),
-        _ => false,
     }
 }
 
