@@ -1,29 +1,19 @@
 -- The operations of an assignment that adds a list to many lists, or puts it at many places.
-use Rattle.std.proofs.Common.{◌≡◌, inl, inr, ℕ, zero, suc, ◌+◌, ◌*◌, ◌<◌, ◌≤◌, true, false, List, [], ◌∷◌, ◌++◌, take, drop, length, map}
-use Rattle.std.proofs.Common.{Option, None, if◌then◌else◌, Bool, refl, sym, mul-le-mul_left, suc-mul, zero-mul, ap, ◌∙◌, subst, arith}
-use Rattle.std.{proofs.Common.{append_assoc, append-nil}, specs.List.list_any}
+use Rattle.std.proofs.Common.{◌≡◌, ℕ, zero, suc, ◌+◌, ◌*◌, ◌<◌, ◌≤◌, true, false, List, [], ◌∷◌, ◌++◌, take, drop, length, map, None}
+use Rattle.std.proofs.Common.{if◌then◌else◌, Bool, refl, sym, mul-le-mul_left, suc-mul, zero-mul, ap, ◌∙◌, subst, arith, append_assoc}
+use Rattle.std.proofs.Common.{append-nil}
 use Rattle.yq_core.{specs.Tree.{Label, Node, alias, scalar, list, Children, none, child}, specs.Paths.Step}
-use Rattle.yq_flow_edits.specs.Valued.{IsValueTree, AreValueTrees}
-use Rattle.yq_semantics.specs.Changes.{Room, Changed, Change, replaces, add_at, add_below, added, additions, all_allowed, at_each}
-use Rattle.yq_semantics.specs.Changes.{changes_at, created, left_pipe, nested, put_below, put_with_path, with_value}
-use Rattle.yq_semantics.{specs.Judgement.{Judgement, and_then, gives, refuses}, specs.Operations.{Operation, append, replace}}
-use Rattle.yq_semantics.{specs.Pipes.places, specs.Places.{FoundPlace, root_place}, specs.Plans.{add_op, change_ops, ops_of}}
-use Rattle.yq_semantics.specs.Program.{Stage, Term, Update, assign, delete, comment, is_index, PathStep, key, index, each}
-use Rattle.yq_semantics.{specs.RightValues.{right_value, is_null}, specs.Sizes.{items_in, items_among}}
+use Rattle.yq_flow_edits.specs.Valued.{AreValueTrees}
+use Rattle.yq_semantics.specs.Changes.{Room, Changed, add_at, add_below, additions, all_allowed, at_each, changes_at, put_below}
+use Rattle.yq_semantics.{specs.Changes.{put_with_path, with_value}, specs.Judgement.{Judgement, and_then, gives}}
+use Rattle.yq_semantics.{specs.Operations.{Operation, replace}, specs.Places.{FoundPlace, root_place}, specs.Plans.{add_op, ops_of}}
+use Rattle.yq_semantics.{specs.Program.{Stage, Term, assign, PathStep}, specs.RightValues.right_value, specs.Sizes.{items_in, items_among}}
 use Rattle.yq_semantics.{proofs.JudgementLaws.{gives_same, then_gives}, proofs.updates.Each.joined_gives, proofs.updates.Planned.all_same}
-use Rattle.yq_semantics.specs.declared.refusal.Refusal.TheVariants.{IndexOutOfRange, KindMismatch}
-use Rattle.yq_semantics.{specs.PlacesApart.{AreApart, IsBeforeAll}, specs.View.update_of, proofs.sizes.AfterSizes.replaced_size}
+use Rattle.yq_semantics.specs.PlacesApart.{AreApart, IsBeforeAll}
 use Rattle.yq_planner.specs.declared.updating.list_size.ListSize.{ListSize}
-use Rattle.yq_expr.specs.Oversized.{FirstGetLists, BeginsLarge, BeginsOversized, GivesAt, GivesList, GivesOversized, GivesOversizedOps}
-use Rattle.yq_expr.specs.Oversized.{HaveUtf8Keys, GetsList, IsOversized, MayBeUtf8, items_limit}
-use Rattle.yq_expr.proofs.GrowthLaws.{AreAppends, appended, both_append, by_appends, by_puts, nothing, put_ops}
-use Rattle.yq_expr.{specs.Parts.{document_ops, rest_ops}, specs.declared.document.DocumentRoot.DocumentRoot}
-use Rattle.yq_expr.proofs.PartLaws.{changes_both, ops_join, ops_there, rest_there}
-use Rattle.yq_documents.specs.Documents.{Document}
-use Rattle.yq_nodes.specs.Nodes.{kind_of, node_of}
-use Rattle.yq_eval.specs.PlaceView.{places_of}
-use Rattle.yq_eval.specs.declared.matching.place.FoundPlace as found
-use Rattle.yq_semantics.specs.declared.program.Update as declared
+use Rattle.yq_expr.specs.Oversized.{FirstGetLists, BeginsOversized, GivesList, GetsList, items_limit}
+use Rattle.yq_expr.{proofs.GrowthLaws.{AreAppends, appended, both_append, by_appends, by_puts, nothing, put_ops}, proofs.PartLaws.ops_join}
+use Rattle.yq_nodes.specs.Nodes.{kind_of}
 use Rattle.yq_core.specs.Tree as tree
 use Rattle.yq_nodes.specs.declared.nodes.node.NodeKind.TheVariants as kinds
 use Rattle.yq_semantics.specs.declared.program.Operator.TheVariants as operator

@@ -151,7 +151,8 @@ pub record BeginsOversized (all : List Operation) : Type 0 where
   pub others : List Operation
   pub split : all ≡ first ++ others
   pub write : AllWrite first
-  pub more : (rooms : ℕ → Room) (docs : List Document) → AreReady rooms 0 docs → AllFit rooms first docs → items_limit < items_of_all (all_after rooms first docs)
+  pub more : (rooms : ℕ → Room) (docs : List Document) → AreReady rooms 0 docs → AllFit rooms first docs →
+      items_limit < items_of_all (all_after rooms first docs)
 
 -- the operations that a judgement gives, if it does, begin so (own)
 abbrev pub GivesOversizedOps : Judgement (List Operation) → Type 0

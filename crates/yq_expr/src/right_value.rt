@@ -7,7 +7,7 @@ ghost use Rattle.yq_expr.specs.Summand.{IsSummand, found_times};
 ghost use Rattle.yq_eval.{specs.PlaceView.{place_of, places_of}, specs.TreeScalars.{HasScalars, HaveScalars}};
 ghost use Rattle.yq_semantics.specs.RightValues as spec;
 
-use crate::same_term::count_same;
+use crate::same_term::{count_same, stays};
 use bumpalo::Bump;
 use std::alloc::Global;
 use std::slice;
@@ -26,16 +26,6 @@ fn only(alloc: Global, places: &[FoundPlace<'_, '_>]) -> Result<Value, ExprError
         [place] => copy_at(alloc, place),
         [] => Err(Refusal::NotOneValue.error()),
         [_, second, ..] => at_place(alloc, second, Err(Refusal::NotOneValue.error())),
-    }
-}
-
-/// Whether a pipe leads nowhere else.
-fn stays(pipe: &[Stage]) -> bool
-    ensures { result ≡ true → map stage_of pipe.now ≡ path [] ∷ [] }
-{
-    match pipe {
-        [Stage::Path(steps)] => steps.is_empty(),
-        _ => false,
     }
 }
 

@@ -1,6 +1,6 @@
 //! Terms that are known to be the same.
-ghost use Rattle.std.specs.Prelude.{◌≡◌, ◌≤◌, length, map, replicate, take, true};
-ghost use Rattle.yq_semantics.specs.View.{program_step, term_of};
+ghost use Rattle.std.specs.Prelude.{◌≡◌, ◌≤◌, ◌∷◌, [], length, map, replicate, take, true};
+ghost use Rattle.yq_semantics.{specs.Program.{found, path}, specs.View.{program_step, stage_of, term_of}};
 
 use yq_semantics::{PathStep, Stage, Term};
 
@@ -48,11 +48,49 @@ pub(crate) fn is_same_term(one: &Term, other: &Term) -> bool
     }
 }
 
+/// Whether a pipe leads nowhere else.
+pub(crate) fn stays(pipe: &[Stage]) -> bool
+    ensures { result ≡ true → map stage_of pipe.now ≡ path [] ∷ [] }
+{
+    match pipe {
+        [Stage::Path(steps)] => steps.is_empty(),
+        _ => false,
+    }
+}
+
+/// Whether a term is what is at the place itself.
+fn is_here(term: &Term) -> bool
+    ensures { result ≡ true → term_of term.now ≡ found (path [] ∷ []) }
+{
+    match term {
+        Term::Pipe(pipe) => stays(pipe),
+        Term::Literal(_) => false,
+    }
+}
+
+/// How many of terms are, up to the first other one.
+fn count_here(terms: &[Term]) -> usize
+    ensures within { result ≤ length terms.now }
+    ensures same { map term_of (take result terms.now) ≡ replicate result (found (path [] ∷ [])) }
+{
+    let mut count = 0;
+    'terms: for term in terms {
+        if !is_here(term) {
+            return count;
+        }
+        count += 1;
+    }
+    count
+}
+
 /// How many of terms are known to be the same as one, up to the first other one.
 pub(crate) fn count_same(term: &Term, terms: &[Term]) -> usize
     ensures within { result ≤ length terms.now }
     ensures same { map term_of (take result terms.now) ≡ replicate result (term_of term.now) }
 {
+    if is_here(term) {
+        return count_here(terms);
+    }
     let mut count = 0;
     'terms: for other in terms {
         if !is_same_term(other, term) {
