@@ -79,8 +79,8 @@ returns-in-History-clause-done g c = λ keeps.
       listed = listing_lists _ _ _ _ f j _ r (string_bytes report.text) diffs (e.lines keeps);
       edited = on_ok r tt;
       expected = λ file journal on. on_ok r (e.matched ∙ none_expected _);
-      still = λ shown. e.same keeps;
-      names = all_left _ _ _ r (e.same keeps);
+      still = λ shown. e.leaves.same keeps;
+      names = all_left _ _ _ r (e.leaves.same keeps);
     })
 
 pub returns-in-Help-clause-done : goal.returns-in-Help-clause-done
@@ -111,8 +111,8 @@ returns-in-Eval-clause-done g c = λ keeps.
       listed = λ file journal on. on_ok r tt;
       edited = e.edited keeps;
       expected = λ file journal on. tt;
-      still = λ shown. d.same;
-      names = all_left _ _ _ r d.same;
+      still = λ shown. e.leaves.same keeps;
+      names = all_left _ _ _ r (e.leaves.same keeps);
     })
 
 pub returns-in-Eval-default-true-clause-done : goal.returns-in-Eval-default-true-clause-done

@@ -33,7 +33,7 @@ returns g c =
     let does = λ (t : List ℕ) (s : State). edit_effect x (program_edits p t) t s in
     record {
       done = λ keeps.
-          let same = o.same keeps in
+          let same = o.leaves.same keeps in
           let held = o.text keeps in
           let effect : update_effect x (program_in x) (get old f) (get old j) ≡ does text state =
           ap (λ q. update_effect x q (get old f) (get old j)) is ∙ o.found keeps does in
@@ -66,7 +66,7 @@ returns g c =
       silent = e.silent;
       unasked = e.unasked;
       unparsed = subst (λ y. RefusedUnparsed (cause_in (program_in y)) r) c.as_str-expr.ensures.value (parsed_free r x p is);
-      leaves = record { no_output = e.leaves.no_output; count = e.leaves.count ∙ ap (failures_after r) o.leaves.count };
+      leaves = record { no_output = e.leaves.no_output; count = e.leaves.count ∙ ap (failures_after r) o.leaves.store.count };
       calls = by_words w _ _ _ c.as_str-expr.ensures.value c.as_str-file.ensures.value c.as_str-journal.ensures.value
           (λ asked. CallsToEdit g.D.Store.leads r asked c.args.store.now c.edit_from.new.store)
           (parsed_calls g.D.Store.leads r _ c.args.store.now _ p _ is
@@ -92,7 +92,7 @@ returns-in_err-text-clause-done g c = λ keeps.
     by_words w _ _ _ c.as_str-expr.ensures.value c.as_str-file.ensures.value c.as_str-journal.ensures.value
     (λ asked. EditsInPlace asked content (g.D.Store.content c.open_pair.new.store) c.from_residual-in_err-text.result (report_by c.args.report.now))
     (unopened_edits _ content c.from_residual-in_err-text.result _ (p.1 ∙ ap Err p.2) (report_by c.args.report.now)
-    (program_of c.in_ok-program.program) (g.D.Store.content c.open_pair.new.store) c.in_ok-program.ensures.ok (e.same keeps) (e.opens keeps) (e.missed keeps))
+    (program_of c.in_ok-program.program) (g.D.Store.content c.open_pair.new.store) c.in_ok-program.ensures.ok (e.leaves.same keeps) (e.opens keeps) (e.missed keeps))
 
 pub returns-in_err-program-clause-unparsed : goal.returns-in_err-program-clause-unparsed
 returns-in_err-program-clause-unparsed g c =
