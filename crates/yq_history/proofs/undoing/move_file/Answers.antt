@@ -8,7 +8,8 @@ returns-in_err-text-clause-effect g c = search (rules, err_from_is_err_and, not_
 
 pub returns-clause-effect : goal.returns-clause-effect
 returns-clause-effect g c =
-    search (rules, from_opened, c.in_ok-text.ensures.leaves.same, g.D.Store.content, c.in_ok-text.ensures.found, c.move_from.ensures.effect, c.in_ok-text.ensures.text)
+    let e = c.in_ok-text.ensures in
+    search (rules, from_opened, e.leaves.same, g.D.Store.content, e.found, c.move_from.ensures.effect, e.text)
 
 pub returns-in_err-text-clause-calls : goal.returns-in_err-text-clause-calls
 returns-in_err-text-clause-calls g c =

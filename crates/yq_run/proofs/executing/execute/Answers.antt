@@ -15,11 +15,12 @@ use Rattle.yq_run.proofs.executing.execute.Goals as goal
 
 pub returns-in-Undo-clause-done : goal.returns-in-Undo-clause-done
 returns-in-Undo-clause-done g c = λ keeps.
+    let content = g.D.Store.content in
     let e = c.move_file.ensures in
     let r = c.move_file.result in
-    let f = c.as_str.ensures.value in
-    let j = c.as_str-in-Undo.ensures.value in
-    subst (λ x. CarriesOut x _ _ r _) (sym c.in-Undo.is) (record {
+    let f = c.pair_of.ensures.file_is in
+    let j = c.pair_of.ensures.journal_is in
+    subst (λ x. CarriesOut x (content c.args.store.now) (content c.move_file.new.store) r (report_by c.args.report.now)) (sym c.in-Undo.is) (record {
       arrives = pair_arrives _ _ _ _ f j _ _ r (move_cause move.Undo) (move_next move.Undo) (e.arrives keeps);
       effect = pair_works _ _ _ _ f j _ _ r (move_effect move.Undo) (e.effect keeps);
       output = λ file journal on h good. on_ok r (empty_shows _ _ c.requires.empty);
@@ -32,11 +33,12 @@ returns-in-Undo-clause-done g c = λ keeps.
 
 pub returns-in-Redo-clause-done : goal.returns-in-Redo-clause-done
 returns-in-Redo-clause-done g c = λ keeps.
+    let content = g.D.Store.content in
     let e = c.move_file-in-Redo.ensures in
     let r = c.move_file-in-Redo.result in
-    let f = c.as_str-in-Redo.ensures.value in
-    let j = c.as_str-in-Redo-2.ensures.value in
-    subst (λ x. CarriesOut x _ _ r _) (sym c.in-Redo.is) (record {
+    let f = c.pair_of-in-Redo.ensures.file_is in
+    let j = c.pair_of-in-Redo.ensures.journal_is in
+    subst (λ x. CarriesOut x (content c.args.store.now) (content c.move_file-in-Redo.new.store) r (report_by c.args.report.now)) (sym c.in-Redo.is) (record {
       arrives = pair_arrives _ _ _ _ f j _ _ r (move_cause move.Redo) (move_next move.Redo) (e.arrives keeps);
       effect = pair_works _ _ _ _ f j _ _ r (move_effect move.Redo) (e.effect keeps);
       output = λ file journal on h good. on_ok r (empty_shows _ _ c.requires.empty);
@@ -49,11 +51,12 @@ returns-in-Redo-clause-done g c = λ keeps.
 
 pub returns-in-Squash-clause-done : goal.returns-in-Squash-clause-done
 returns-in-Squash-clause-done g c = λ keeps.
+    let content = g.D.Store.content in
     let e = c.squash.ensures in
     let r = c.squash.result in
-    let f = c.as_str-in-Squash.ensures.value in
-    let j = c.as_str-in-Squash-2.ensures.value in
-    subst (λ x. CarriesOut x _ _ r _) (sym c.in-Squash.is) (record {
+    let f = c.pair_of-in-Squash.ensures.file_is in
+    let j = c.pair_of-in-Squash.ensures.journal_is in
+    subst (λ x. CarriesOut x (content c.args.store.now) (content c.squash.new.store) r (report_by c.args.report.now)) (sym c.in-Squash.is) (record {
       arrives = pair_arrives _ _ _ _ f j _ _ r (squash_cause c.in-Squash.n) (squash_next c.in-Squash.n) (e.arrives keeps);
       effect = pair_works _ _ _ _ f j _ _ r (squash_effect c.in-Squash.n) (e.effect keeps);
       output = λ file journal on h good. on_ok r (empty_shows _ _ c.requires.empty);
@@ -66,13 +69,14 @@ returns-in-Squash-clause-done g c = λ keeps.
 
 pub returns-in-History-clause-done : goal.returns-in-History-clause-done
 returns-in-History-clause-done g c = λ keeps.
+    let content = g.D.Store.content in
     let e = c.listing.ensures in
     let r = c.listing.result in
-    let f = c.as_str-in-History.ensures.value in
-    let j = c.as_str-in-History-2.ensures.value in
+    let f = c.pair_of-in-History.ensures.file_is in
+    let j = c.pair_of-in-History.ensures.journal_is in
     let diffs = c.in-History.diffs in
     let report = c.listing.new.report in
-    subst (λ x. CarriesOut x _ _ r _) (sym c.in-History.is) (record {
+    subst (λ x. CarriesOut x (content c.args.store.now) (content c.listing.new.store) r (report_by report)) (sym c.in-History.is) (record {
       arrives = pair_arrives _ _ _ _ f j _ _ r listing_cause (λ h. h) (λ apart. e.arrives keeps);
       effect = pair_works _ _ _ _ f j _ _ r (listing_effect diffs) (λ apart. e.effect keeps);
       output = listing_shows _ _ _ _ f j _ r (report_by report) diffs (e.output keeps);
@@ -85,7 +89,8 @@ returns-in-History-clause-done g c = λ keeps.
 
 pub returns-in-Help-clause-done : goal.returns-in-Help-clause-done
 returns-in-Help-clause-done g c = λ keeps.
-    subst (λ x. CarriesOut x _ _ c.help.result _) (sym c.in-Help.is) (record {
+    let content = g.D.Store.content in
+    subst (λ x. CarriesOut x (content c.args.store.now) (content c.args.store.now) c.help.result (report_by c.help.new.report)) (sym c.in-Help.is) (record {
       arrives = λ file journal apart on. absurd on;
       effect = λ file journal apart on. absurd on;
       output = λ file journal on. absurd on;
@@ -98,13 +103,15 @@ returns-in-Help-clause-done g c = λ keeps.
 
 pub returns-in-Eval-clause-done : goal.returns-in-Eval-clause-done
 returns-in-Eval-clause-done g c = λ keeps.
+    let content = g.D.Store.content in
     let e = c.evaluate.ensures in
     let r = c.evaluate.result in
     let a = c.in-Eval in
     let on : a.in_place ≡ false = cc (a.in_place-is, a.in_place-test) in
+    let is = a.is ∙ ap (Eval a.words) on in
     let options = a.words.options in
     let d = e.done keeps in
-    subst (λ x. CarriesOut x _ _ r _) (sym (a.is ∙ ap (Eval a.words) on)) (record {
+    subst (λ x. CarriesOut x (content c.args.store.now) (content c.evaluate.new.store) r (report_by c.evaluate.new.report)) (sym is) (record {
       arrives = λ file journal apart. evaluate_arrives _ _ options _ _ r d.arrives file journal;
       effect = λ file journal apart on. tt;
       output = evaluate_shows _ _ options _ r _ d.output;
@@ -117,13 +124,15 @@ returns-in-Eval-clause-done g c = λ keeps.
 
 pub returns-in-Eval-default-true-clause-done : goal.returns-in-Eval-default-true-clause-done
 returns-in-Eval-default-true-clause-done g c = λ keeps.
+    let content = g.D.Store.content in
     let r = c.update.result in
     let a = c.in-Eval-default-true in
     let x = string_bytes a.words.expr in
     let on : a.in_place ≡ true = cc (a.in_place-is, a.in_place-test) in
+    let is = a.is ∙ ap (Eval a.words) on in
     let options = a.words.options in
     let d = c.update.ensures.done keeps in
-    subst (λ x. CarriesOut x _ _ r _) (sym (a.is ∙ ap (Eval a.words) on)) (record {
+    subst (λ x. CarriesOut x (content c.args.store.now) (content c.update.new.store) r (report_by c.update.new.report)) (sym is) (record {
       arrives = pair_arrives _ _ _ _ refl refl _ _ r (update_cause (program_in x)) (update_next x (program_in x)) d.arrives;
       effect = update_works _ _ x _ r _ d.effect;
       output = update_shows _ _ x _ r (report_by c.update.new.report) options d.output;

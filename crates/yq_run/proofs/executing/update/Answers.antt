@@ -1,4 +1,4 @@
-use Rattle.std.{proofs.Common.{ℕ, List, Ok, Err, sym, ap, ◌∙◌, subst}, proofs.lemmas.Result.err_from_is_err_and, specs.FinMap.get}
+use Rattle.std.{proofs.Common.{◌≡◌, ℕ, List, Ok, Err, sym, ap, ◌∙◌, subst}, proofs.lemmas.Result.err_from_is_err_and, specs.FinMap.get}
 use Rattle.std.specs.String.{string_bytes}
 use Rattle.yq_journal.specs.State.{State}
 use Rattle.yq_semantics.specs.View.{program_of}
@@ -35,16 +35,17 @@ returns g c =
       done = λ keeps.
           let same = o.leaves.same keeps in
           let held = o.text keeps in
+          let edit = (e.done keeps).edit in
           let effect : update_effect x (program_in x) (get old f) (get old j) ≡ does text state =
           ap (λ q. update_effect x q (get old f) (get old j)) is ∙ o.found keeps does in
           by_words w _ _ _ c.as_str-expr.ensures.value c.as_str-file.ensures.value c.as_str-journal.ensures.value
           (λ asked. EditsInPlace asked old (g.D.Store.content c.edit_from.new.store) r (report_by c.edit_from.new.report)) (record {
             arrives = λ apart h good.
                 arrives_as _ _ _ r (λ q. update_cause q h) (λ q. update_next x q h) h _ _ (sym is)
-                (opened (update_cause (Ok p)) (update_next x (Ok p)) _ _ _ _ r (c.in_ok-text.text, state) h (o.opens keeps h good) ((e.done keeps).edit apart).arrives);
+                (opened (update_cause (Ok p)) (update_next x (Ok p)) _ _ _ _ r (c.in_ok-text.text, state) h (o.opens keeps h good) (edit apart).arrives);
             effect = λ apart.
                 parsed_works _ _ old _ x p _ _ r is
-                (from_opened _ _ does _ _ old _ _ text state r same (o.found keeps does) ((e.done keeps).edit apart).effect);
+                (from_opened _ _ does _ _ old _ _ text state r same (o.found keeps does) (edit apart).effect);
             edited = λ apart.
                 let left = (e.done keeps).held apart (ap (λ m. get m f) same ∙ held) in
                 both_come r diffs x f text _ _ _ held
@@ -55,7 +56,7 @@ returns g c =
                 (history_showing w.options p _ f j text held h good ∙ ap (λ q. report_edit w.options q h) (sym is)));
             listed = λ apart.
                 on_ok_map r
-                (change_output_by diffs f f j x text (program_edits p text) state _ _ r _ ((e.done keeps).edit apart).effect (on_ok_map r e.shows (λ s. s.output)))
+                (change_output_by diffs f f j x text (program_edits p text) state _ _ r _ (edit apart).effect (on_ok_map r e.shows (λ s. s.output)))
                 (subst (λ z. IsOutput f z (string_bytes c.edit_from.new.report.text))
                 (ap (λ t. output_by diffs t (does text state)) (sym held) ∙ ap (output_by diffs (get old f)) (sym effect)));
             expected =
@@ -92,7 +93,8 @@ returns-in_err-text-clause-done g c = λ keeps.
     by_words w _ _ _ c.as_str-expr.ensures.value c.as_str-file.ensures.value c.as_str-journal.ensures.value
     (λ asked. EditsInPlace asked content (g.D.Store.content c.open_pair.new.store) c.from_residual-in_err-text.result (report_by c.args.report.now))
     (unopened_edits _ content c.from_residual-in_err-text.result _ (p.1 ∙ ap Err p.2) (report_by c.args.report.now)
-    (program_of c.in_ok-program.program) (g.D.Store.content c.open_pair.new.store) c.in_ok-program.ensures.ok (e.leaves.same keeps) (e.opens keeps) (e.missed keeps))
+    (program_of c.in_ok-program.program) (g.D.Store.content c.open_pair.new.store) c.in_ok-program.ensures.ok
+    (e.leaves.same keeps) (e.opens keeps) (e.missed keeps))
 
 pub returns-in_err-program-clause-unparsed : goal.returns-in_err-program-clause-unparsed
 returns-in_err-program-clause-unparsed g c =
