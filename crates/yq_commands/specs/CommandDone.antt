@@ -141,9 +141,8 @@ MatchesStill options old new = options.expect_change ≡ false → old.is_match 
 
 -- ---- an expression that isn't carried out in place
 
--- What it does and shows of a file, by what is due of that by its history. Every name holds what it held.
+-- What it does and shows of a file, by what is due of that by its history.
 pub record Evaluates (due : Option History → Result Showing Cause) (file : List ℕ) (old new : FileMap)
     {T : Type 0} (r : Result T Fault) (s : Report) : Type 0 where
   pub arrives : (journal : List ℕ) → ArrivesBy (λ h. cause_in (due h)) (λ h. h) file journal old new r
   pub output : (journal : List ℕ) → ShowsBy (λ h. report_in (due h)) file journal old r s
-  pub same : new ≡ old

@@ -26,13 +26,10 @@ old_parts ps = flat_map old_part ps
 abbrev pub new_parts : List Part → List (List ℕ)
 new_parts ps = flat_map new_part ps
 
--- a success adds these lines of the old text to parts
-abbrev pub AddsOldLines : {T E : Type 0} → Result T E → List Part → List Part → List (List ℕ) → Type 0
-AddsOldLines r before after lines = OnOk r (old_parts after ≡ old_parts before ++ lines)
-
--- a success adds these lines of the new text to parts
-abbrev pub AddsNewLines : {T E : Type 0} → Result T E → List Part → List Part → List (List ℕ) → Type 0
-AddsNewLines r before after lines = OnOk r (new_parts after ≡ new_parts before ++ lines)
+-- A success adds the lines of one text to the old lines of parts, and those of another to the new ones.
+pub record AddsLines {T E : Type 0} (r : Result T E) (before after : List Part) (old new : List ℕ) : Type 0 where
+  pub old_lines : OnOk r (old_parts after ≡ old_parts before ++ text_lines old)
+  pub new_lines : OnOk r (new_parts after ≡ new_parts before ++ text_lines new)
 
 -- the lines of a text are those of three texts, one after another
 abbrev pub CutsInto : List ℕ → List ℕ → List ℕ → List ℕ → Type 0

@@ -41,6 +41,13 @@ pub record LeavesStore {S : Type 0} (d : Ghosts S) (old new : S) {T : Type 0} (r
   -- a failure that it answers was counted
   pub count : d.failures new ≡ failures_after r (d.failures old)
 
+-- What a call leaves that writes no name.
+pub record LeavesAll {S : Type 0} (d : Ghosts S) (old new : S) {T : Type 0} (r : Result T Fault) : Type 0 where
+  -- what it leaves of the store
+  pub store : LeavesStore d old new r
+  -- and what the names of one hold that keeps what it was given
+  pub same : IsTrue d.keeps → d.content new ≡ d.content old
+
 -- What a call leaves that may write all names but these others.
 pub record Leaves {S : Type 0} (d : Ghosts S) (Others : List ℕ → Type 0) (old new : S) {T : Type 0} (r : Result T Fault) : Type 0 where
   -- what it leaves of the store

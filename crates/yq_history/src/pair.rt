@@ -1,9 +1,9 @@
 //! A file and its journal, read from a store and written to it.
-ghost use Rattle.yq_history.{specs.Leaves.{HasState, Leaves, LeavesStore}, specs.Calls.{PutsJournal, ReadsJournal}};
+ghost use Rattle.yq_history.{specs.Leaves.{HasState, Leaves, LeavesAll}, specs.Calls.{PutsJournal, ReadsJournal}};
 ghost use Rattle.yq_history.specs.PairAnswers.{BadOnlyIfNone, IsReadFrom, FindsPair, MissesPair, OpensText, OpensBy, OpensPair};
 ghost use Rattle.yq_history.specs.PairAnswers.{WritesState, MayWriteState};
 ghost use Rattle.yq_fault.specs.Faults.{is_outer_fault};
-ghost use Rattle.std.specs.Prelude.{◌≡◌, ◌≢◌, IfOk, IfErr, IsTrue, IsNone};
+ghost use Rattle.std.specs.Prelude.{◌≢◌, IfOk, IfErr, IsTrue, IsNone};
 
 use crate::Pair;
 use std::alloc::Global;
@@ -15,8 +15,7 @@ use yq_store::Store;
 fn read_journal<D: Store>(alloc: Global, store: &mut D, journal: &str) -> Result<Journal, Fault>
     ensures ok { IsTrue D.keeps → IfOk result (λ j. HasState (D.content store.old) journal.now j) }
     ensures err { IsTrue D.keeps → BadOnlyIfNone (D.content store.old) journal.now result }
-    ensures same { IsTrue D.keeps → D.content store.new ≡ D.content store.old }
-    ensures leaves { LeavesStore D.Store store.old store.new result }
+    ensures leaves { LeavesAll D.Store store.old store.new result }
     ensures calls { ReadsJournal D.leads result journal.now (IsReadFrom result) store.old store.new }
 {
     match store.read(alloc, journal) {
@@ -53,10 +52,9 @@ pub fn open_pair<D: Store>(
     ensures opens { OpensPair D.Store store.old store.new pair.now result }
     ensures found { IsTrue D.keeps → FindsPair (D.content store.old) pair.now result }
     ensures missed { IsTrue D.keeps → MissesPair (D.content store.old) pair.now result }
-    ensures same { IsTrue D.keeps → D.content store.new ≡ D.content store.old }
     ensures text { IsTrue D.keeps → OpensText (D.content store.old) pair.now result }
     ensures at_rest { IfOk result (λ p. IsNone p.1.pending) }
-    ensures leaves { LeavesStore D.Store store.old store.new result }
+    ensures leaves { LeavesAll D.Store store.old store.new result }
     ensures calls { OpensBy D.leads result pair.now store.old store.new }
 {
     let text = store.read(alloc, pair.file)?;

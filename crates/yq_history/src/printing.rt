@@ -1,8 +1,8 @@
 //! The lines of a history.
 ghost use Rattle.yq_core.specs.Strings.{AddsText};
-ghost use Rattle.yq_history.{specs.Leaves.LeavesStore, specs.Output.{IsOutputText, record_output}, specs.Visible.{in_quotes, visible}};
+ghost use Rattle.yq_history.{specs.Leaves.LeavesAll, specs.Output.{IsOutputText, record_output}, specs.Visible.{in_quotes, visible}};
 ghost use Rattle.yq_history.{specs.Report.{nothing, report_by}, specs.PairAnswers.{ArrivesListed, Lists, CallsListing, ListsPair, Prints}};
-ghost use Rattle.std.{specs.Prelude.{◌≡◌, IfOk, IsTrue, true, decimal}, specs.String.string_bytes};
+ghost use Rattle.std.{specs.Prelude.{◌≡◌, IfOk, true, decimal}, specs.String.string_bytes};
 ghost use Rattle.json.specs.Print as json;
 ghost use Rattle.yq_history.specs.Listing as spec;
 
@@ -141,8 +141,7 @@ pub fn listing<D: Store>(
     ensures lines { Lists D.Store store.old pair.now diffs report.new result }
     ensures output { Prints D.Store store.old pair.now diffs report.new result }
     ensures matched { report.new.is_match ≡ true }
-    ensures same { IsTrue D.keeps → D.content store.new ≡ D.content store.old }
-    ensures leaves { LeavesStore D.Store store.old store.new result }
+    ensures leaves { LeavesAll D.Store store.old store.new result }
     ensures calls { CallsListing D.leads result pair.now diffs store.old store.new }
 {
     let (text, state) = open_pair(alloc, store, pair)?;

@@ -1,7 +1,7 @@
 //! Expressions that aren't carried out in place: what they show of a file.
 ghost use Rattle.std.specs.Prelude.{◌≡◌, IfErr, false};
 ghost use Rattle.yq_semantics.{specs.Program.is_read, specs.View.program_of};
-ghost use Rattle.yq_history.{specs.Calls.ReadsFile, specs.Leaves.LeavesStore};
+ghost use Rattle.yq_history.{specs.Calls.ReadsFile, specs.Leaves.LeavesAll};
 ghost use Rattle.yq_commands.{specs.Calls.CallsToShow, specs.Editing.program_in, specs.EvalAsked.asked_in};
 ghost use Rattle.yq_commands.{specs.CommandFaults.{FailsFor, IsOfNoCall, RefusedUnparsed, cause_in}, specs.FileEdits.GivesEdit};
 ghost use Rattle.yq_commands.specs.Evaluation.{GivesShowing, shows};
@@ -74,7 +74,7 @@ fn evaluate_program<D: Store>(
 ) -> Result<(), Fault>
     ensures done { ShowsParsed D.Store store.old store.new file.now parsed.now result report.new }
     ensures edited { PrintsParsed D.Store store.old file.now parsed.now report.new result }
-    ensures leaves { LeavesStore D.Store store.old store.new result }
+    ensures leaves { LeavesAll D.Store store.old store.new result }
     ensures calls { ReadsFile D.leads result file.now (λ text s t. t ≡ s) store.old store.new }
 {
     let text = store.read(alloc, file)?;
@@ -93,7 +93,7 @@ pub fn evaluate<D: Store>(
     ensures done { ShowsWords D.Store store.old store.new words.now result report.new }
     ensures edited { PrintsWords D.Store store.old store.new words.now result report.new }
     ensures unparsed { RefusedUnparsed (cause_in (program_in (asked_in words.now).expr)) result }
-    ensures leaves { LeavesStore D.Store store.old store.new result }
+    ensures leaves { LeavesAll D.Store store.old store.new result }
     ensures calls { CallsToShow D.leads result (asked_in words.now) store.old store.new }
 {
     let expr = words.expr.as_str();

@@ -45,6 +45,17 @@ fn update<D: Store>(
     edit_from(alloc, store, open, &parsed, report)
 }
 
+/// A file and its journal, by their names.
+fn pair_of<'a>(file: &'a String, journal: &'a String) -> Pair<'a>
+    ensures file_is { result.file.now ≡ string_bytes file.now }
+    ensures journal_is { result.journal.now ≡ string_bytes journal.now }
+{
+    Pair {
+        file: file.as_str(),
+        journal: journal.as_str(),
+    }
+}
+
 /// Carries out a command but for its output, and reports what it shows.
 pub fn execute<D: Store>(
     alloc: Global,
@@ -68,37 +79,17 @@ pub fn execute<D: Store>(
         } => update(alloc, store, words, report),
         Command::Eval { words, .. } => evaluate(alloc, store, words, report),
         Command::Undo { file, journal } => {
-            let pair = Pair {
-                file: file.as_str(),
-                journal: journal.as_str(),
-            };
-            move_file(alloc, store, &pair, Direction::Undo)
+            move_file(alloc, store, &pair_of(file, journal), Direction::Undo)
         }
         Command::Redo { file, journal } => {
-            let pair = Pair {
-                file: file.as_str(),
-                journal: journal.as_str(),
-            };
-            move_file(alloc, store, &pair, Direction::Redo)
+            move_file(alloc, store, &pair_of(file, journal), Direction::Redo)
         }
         Command::History {
             file,
             journal,
             diffs,
-        } => {
-            let pair = Pair {
-                file: file.as_str(),
-                journal: journal.as_str(),
-            };
-            listing(alloc, store, &pair, *diffs, report)
-        }
-        Command::Squash { n, file, journal } => {
-            let pair = Pair {
-                file: file.as_str(),
-                journal: journal.as_str(),
-            };
-            squash(alloc, store, &pair, *n)
-        }
+        } => listing(alloc, store, &pair_of(file, journal), *diffs, report),
+        Command::Squash { n, file, journal } => squash(alloc, store, &pair_of(file, journal), *n),
         Command::Help => help(alloc, report),
     }
 }

@@ -1,5 +1,5 @@
 //! Two texts as parts, by steps through both.
-ghost use Rattle.yq_history.specs.DiffParts.{AddsNewLines, AddsOldLines, ArePartsOf};
+ghost use Rattle.yq_history.specs.DiffParts.{AddsLines, ArePartsOf};
 ghost use Rattle.std.specs.Prelude.{◌≡◌, ◌++◌, IfOk};
 ghost use Rattle.yq_core.specs.Text.{text_lines};
 
@@ -11,8 +11,7 @@ use std::alloc::{AllocError, Global};
 
 /// Adds a part of lines that are skipped, if there are any.
 fn push_skipped<'a>(parts: &mut Vec<Part<'a>>, text: &'a str) -> Result<(), AllocError>
-    ensures old { AddsOldLines result parts.old.items parts.new.items (text_lines text.now) }
-    ensures new { AddsNewLines result parts.old.items parts.new.items (text_lines text.now) }
+    ensures { AddsLines result parts.old.items parts.new.items text.now text.now }
 {
     if text.is_empty() {
         return Ok(());
@@ -34,8 +33,7 @@ fn split_after<'a>(is_first: bool, text: &'a str) -> (&'a str, &'a str)
 /// Adds the lines that are in both texts before a change; the first of them are after another change, or
 /// the text begins with them.
 fn push_before<'a>(parts: &mut Vec<Part<'a>>, text: &'a str) -> Result<(), AllocError>
-    ensures old { AddsOldLines result parts.old.items parts.new.items (text_lines text.now) }
-    ensures new { AddsNewLines result parts.old.items parts.new.items (text_lines text.now) }
+    ensures { AddsLines result parts.old.items parts.new.items text.now text.now }
 {
     let (context, rest) = split_after(parts.is_empty(), text);
     let (skipped, before) = split_skipped(rest);
@@ -47,8 +45,7 @@ fn push_before<'a>(parts: &mut Vec<Part<'a>>, text: &'a str) -> Result<(), Alloc
 
 /// Adds the lines that are in both texts after the last change.
 fn push_following<'a>(parts: &mut Vec<Part<'a>>, text: &'a str) -> Result<(), AllocError>
-    ensures old { AddsOldLines result parts.old.items parts.new.items (text_lines text.now) }
-    ensures new { AddsNewLines result parts.old.items parts.new.items (text_lines text.now) }
+    ensures { AddsLines result parts.old.items parts.new.items text.now text.now }
 {
     let (context, skipped) = split_context(text);
     parts.push(Part::Unchanged(context))?;
@@ -61,8 +58,7 @@ fn push_change<'a>(
     gone: &'a str,
     come: &'a str,
 ) -> Result<(), AllocError>
-    ensures old { AddsOldLines result parts.old.items parts.new.items (text_lines gone.now) }
-    ensures new { AddsNewLines result parts.old.items parts.new.items (text_lines come.now) }
+    ensures { AddsLines result parts.old.items parts.new.items gone.now come.now }
 {
     parts.push(Part::Deleted(gone))?;
     parts.push(Part::Added(come))?;
@@ -71,8 +67,7 @@ fn push_change<'a>(
 
 /// Adds what follows the last step in either text.
 fn push_rest<'a>(parts: &mut Vec<Part<'a>>, old: &'a str, new: &'a str) -> Result<(), AllocError>
-    ensures old { AddsOldLines result parts.old.items parts.new.items (text_lines old.now) }
-    ensures new { AddsNewLines result parts.old.items parts.new.items (text_lines new.now) }
+    ensures { AddsLines result parts.old.items parts.new.items old.now new.now }
 {
     if old == new {
         push_following(parts, old)

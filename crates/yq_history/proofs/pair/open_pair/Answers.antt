@@ -4,7 +4,8 @@ use Rattle.yq_history.{proofs.CallLaws.{misses_pair, opens_journal}, proofs.Pair
 use Rattle.yq_history.proofs.pair.open_pair.Goals as goal
 
 pub returns-clause-opens : goal.returns-clause-opens
-returns-clause-opens g c = search (rules, opens, c.in_ok-text.ensures.same, c.in_ok-state.ensures.same, c.in_ok-text.ensures.found, c.in_ok-state.ensures.ok)
+returns-clause-opens g c =
+    search (rules, opens, c.in_ok-text.ensures.same, c.in_ok-state.ensures.leaves.same, c.in_ok-text.ensures.found, c.in_ok-state.ensures.ok)
 
 pub returns-clause-found : goal.returns-clause-found
 returns-clause-found g c = search (rules, settles, c.in_ok-text.ensures.same, c.in_ok-text.ensures.found, c.in_ok-state.ensures.ok)

@@ -12,14 +12,14 @@ returns-clause-lines g c = search (rules, output_as, c.in_ok-text.ensures.found)
 
 pub returns-in_err-text-clause-effect : goal.returns-in_err-text-clause-effect
 returns-in_err-text-clause-effect g c =
-    search (rules, err_from_is_err_and, not_opened, g.D.Store.content, c.in_err-text.ensures.same, c.in_err-text.ensures.missed)
+    search (rules, err_from_is_err_and, not_opened, g.D.Store.content, c.in_err-text.ensures.leaves.same, c.in_err-text.ensures.missed)
 
 pub returns-in_err-report-clause-effect : goal.returns-in_err-report-clause-effect
 returns-in_err-report-clause-effect g c =
-    search (rules, err_from_is_err_and, from_opened, listing_cut, g.D.Store.content, c.in_ok-text.ensures.same, c.in_ok-text.ensures.found)
+    search (rules, err_from_is_err_and, from_opened, listing_cut, g.D.Store.content, c.in_ok-text.ensures.leaves.same, c.in_ok-text.ensures.found)
 
 pub returns-clause-effect : goal.returns-clause-effect
-returns-clause-effect g c = search (rules, from_opened, g.D.Store.content, c.in_ok-text.ensures.same, c.in_ok-text.ensures.found)
+returns-clause-effect g c = search (rules, from_opened, g.D.Store.content, c.in_ok-text.ensures.leaves.same, c.in_ok-text.ensures.found)
 
 -- what is shown is there, as it was before
 pub returns-clause-matched : goal.returns-clause-matched

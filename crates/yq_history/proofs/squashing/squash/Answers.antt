@@ -8,11 +8,11 @@ pub returns-clause-arrives : goal.returns-clause-arrives
 returns-clause-arrives g c = search (rules, squash_opened, c.in_ok-text.ensures.opens, c.squash_from.ensures.arrives)
 
 pub returns-in_err-text-clause-effect : goal.returns-in_err-text-clause-effect
-returns-in_err-text-clause-effect g c = search (rules, err_from_is_err_and, not_opened, c.in_err-text.ensures.same, c.in_err-text.ensures.missed)
+returns-in_err-text-clause-effect g c = search (rules, err_from_is_err_and, not_opened, c.in_err-text.ensures.leaves.same, c.in_err-text.ensures.missed)
 
 pub returns-clause-effect : goal.returns-clause-effect
 returns-clause-effect g c = λ keeps apart.
-    let same = c.in_ok-text.ensures.same keeps in
+    let same = c.in_ok-text.ensures.leaves.same keeps in
     from_opened _ _ (squash_effect c.args.n) _ _ (g.D.Store.content c.args.store.now) _ _ c.in_ok-text.text.items c.in_ok-text.state c.squash_from.result same (c.in_ok-text.ensures.found keeps (squash_effect c.args.n))
     (c.squash_from.ensures.effect keeps apart (ap (λ m. get m c.args.pair.now.file.now) same ∙ c.in_ok-text.ensures.text keeps))
 
@@ -31,7 +31,7 @@ returns-clause-leaves g c =
     let e = c.squash_from.ensures.leaves in
     let r = c.squash_from.result in
     record {
-      store = record { no_output = e.store.no_output; count = e.store.count ∙ ap (failures_after r) c.in_ok-text.ensures.leaves.count };
+      store = record { no_output = e.store.no_output; count = e.store.count ∙ ap (failures_after r) c.in_ok-text.ensures.leaves.store.count };
       names = λ keeps. subst (λ m. LeavesNames (λ q. q ≢ c.args.pair.now.journal.now) m (g.D.Store.content c.squash_from.new.store) r)
-          (c.in_ok-text.ensures.same keeps) (e.names keeps);
+          (c.in_ok-text.ensures.leaves.same keeps) (e.names keeps);
     }

@@ -4,11 +4,12 @@ use Rattle.yq_history.proofs.CallLaws.{opened_calls, unopened_calls}
 use Rattle.yq_history.proofs.undoing.move_file.Goals as goal
 
 pub returns-in_err-text-clause-effect : goal.returns-in_err-text-clause-effect
-returns-in_err-text-clause-effect g c = search (rules, err_from_is_err_and, not_opened, c.in_err-text.ensures.same, c.in_err-text.ensures.missed)
+returns-in_err-text-clause-effect g c = search (rules, err_from_is_err_and, not_opened, c.in_err-text.ensures.leaves.same, c.in_err-text.ensures.missed)
 
 pub returns-clause-effect : goal.returns-clause-effect
 returns-clause-effect g c =
-    search (rules, from_opened, c.in_ok-text.ensures.same, g.D.Store.content, c.in_ok-text.ensures.found, c.move_from.ensures.effect, c.in_ok-text.ensures.text)
+    let e = c.in_ok-text.ensures in
+    search (rules, from_opened, e.leaves.same, g.D.Store.content, e.found, c.move_from.ensures.effect, e.text)
 
 pub returns-in_err-text-clause-calls : goal.returns-in_err-text-clause-calls
 returns-in_err-text-clause-calls g c =

@@ -16,7 +16,6 @@ returns-in_err-text-clause-done g c = λ keeps.
           (c.in_err-text.ensures.same keeps)
           (λ absent. c.in_err-text.ensures.absent keeps (ap Err absent)) h good;
       output = λ journal h good. no_success _ c.from_residual.result _ is;
-      same = c.in_err-text.ensures.same keeps;
     }
 
 pub returns-in_err-report-clause-done : goal.returns-in_err-report-clause-done
@@ -27,7 +26,6 @@ returns-in_err-report-clause-done g c = λ keeps.
           show_refused (g.D.Store.content c.args.store.now) _ _ _ (shows c.args.parsed.now.options (program_of c.args.parsed.now.program.now)) c.deref.result.now (c.in_ok-text.ensures.same keeps)
           (c.in_ok-text.ensures.found keeps ∙ ap Some (sym c.deref.ensures.value)) h good c.from_residual-in_err-report.result _ (p.1 ∙ ap Err p.2) c.in_err-report.ensures.err;
       output = λ journal h good. no_success _ c.from_residual-in_err-report.result _ (p.1 ∙ ap Err p.2);
-      same = c.in_ok-text.ensures.same keeps;
     }
 
 pub returns-clause-done : goal.returns-clause-done
@@ -40,7 +38,6 @@ returns-clause-done g c = λ keeps.
           found h good {T = ℕ} 0 c.args.file.now _ c.in_ok-report.ensures.ok;
       output = λ journal h good.
           report_is content content _ _ (shows c.args.parsed.now.options (program_of c.args.parsed.now.program.now)) c.deref.result.now refl found h good c.args.file.now _ c.in_ok-report.ensures.ok;
-      same = c.in_ok-text.ensures.same keeps;
     }
 
 pub returns-clause-edited : goal.returns-clause-edited

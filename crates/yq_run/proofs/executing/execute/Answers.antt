@@ -5,8 +5,7 @@ use Rattle.yq_history.{specs.Steps.{listing_cause, move_cause, move_next, squash
 use Rattle.yq_args.specs.declared.command.Command.TheVariants.{Eval}
 use Rattle.yq_commands.{specs.CommandEffects.expression_cause, specs.Editing.program_in}
 use Rattle.yq_commands.{specs.Prints.{prints, reads_journal, prints_change}, specs.Expecting.expects_change}
-use Rattle.yq_commands.proofs.ExpectingLaws.{none_expected}
-use Rattle.yq_commands.specs.CommandDone.{ArrivesOn, EditsOn, ExpectsOn, LeavesOn, ListsOn, ShowsOn, WorksOn}
+use Rattle.yq_commands.{proofs.ExpectingLaws.none_expected, specs.CommandDone.CarriesOut}
 use Rattle.yq_commands.proofs.ExecuteLaws.{evaluate_arrives, evaluate_shows, pair_arrives, pair_names, pair_works, empty_shows}
 use Rattle.yq_commands.proofs.ExecuteLaws.{update_edits, update_expects, update_shows, update_works, listing_lists, listing_shows}
 use Rattle.yq_commands.{proofs.ExecuteLaws.update_lists, specs.CommandSteps.{update_cause, update_next}, specs.Calls.CallsOf}
@@ -14,185 +13,135 @@ use Rattle.yq_commands.{specs.Help.Helps, proofs.CommandCalls.pair_calls, proofs
 use Rattle.yq_journal.specs.declared.moves.Move.TheVariants as move
 use Rattle.yq_run.proofs.executing.execute.Goals as goal
 
-pub returns-in-Undo : goal.returns-in-Undo
-returns-in-Undo g c =
+pub returns-in-Undo-clause-done : goal.returns-in-Undo-clause-done
+returns-in-Undo-clause-done g c = λ keeps.
+    let content = g.D.Store.content in
     let e = c.move_file.ensures in
-    let is = c.in-Undo.is in
-    record {
-      done = λ keeps. record {
-        arrives = subst (ArrivesOn _ _ c.move_file.result) (sym is) (pair_arrives _ _ _ _ c.as_str.ensures.value c.as_str-in-Undo.ensures.value _ _ c.move_file.result (move_cause move.Undo) (move_next move.Undo) (e.arrives keeps));
-        effect = subst (WorksOn _ _ c.move_file.result) (sym is) (pair_works _ _ _ _ c.as_str.ensures.value c.as_str-in-Undo.ensures.value _ _ c.move_file.result (move_effect move.Undo) (e.effect keeps));
-        output = subst (ShowsOn _ c.move_file.result _) (sym is) (λ file journal on h good. on_ok c.move_file.result (empty_shows _ _ c.requires.empty));
-        listed = subst (ListsOn _ c.move_file.result _) (sym is) (λ file journal on. on_ok c.move_file.result tt);
-        edited = subst (EditsOn _ _ c.move_file.result _) (sym is) (on_ok c.move_file.result tt);
-        expected = subst (ExpectsOn _ c.move_file.result _) (sym is) (λ file journal on. on_ok c.move_file.result (ap (λ (s : Report). s.is_match) c.requires.empty ∙ none_expected _));
-        still = λ shown. absurd (false≢true (sym (ap prints is) ∙ shown));
-        names = subst (LeavesOn _ _ c.move_file.result) (sym is) (pair_names _ _ _ _ c.as_str.ensures.value c.as_str-in-Undo.ensures.value _ _ c.move_file.result (e.leaves.names keeps));
-      };
-      unparsed = λ x cause. absurd (none-some x (sym (ap expression_cause is) ∙ cause));
-      silent = λ hidden still. ap (λ (s : Report). s.printed) c.requires.empty;
-      matched = λ reads free. ap (λ (s : Report). s.is_match) c.requires.empty;
-      helped = subst (λ x. Helps x c.move_file.result (report_by c.args.report.now)) (sym is) tt;
-      leaves = e.leaves.store;
-      calls = subst (λ x. CallsOf g.D.Store.leads c.move_file.result x c.args.store.now c.move_file.new.store) (sym is)
-          (pair_calls g.D.Store.leads _ _ _ _ _ c.as_str.ensures.value c.as_str-in-Undo.ensures.value (move_effect move.Undo) _ _ e.calls);
-    }
+    let r = c.move_file.result in
+    let f = c.pair_of.ensures.file_is in
+    let j = c.pair_of.ensures.journal_is in
+    subst (λ x. CarriesOut x (content c.args.store.now) (content c.move_file.new.store) r (report_by c.args.report.now)) (sym c.in-Undo.is) (record {
+      arrives = pair_arrives _ _ _ _ f j _ _ r (move_cause move.Undo) (move_next move.Undo) (e.arrives keeps);
+      effect = pair_works _ _ _ _ f j _ _ r (move_effect move.Undo) (e.effect keeps);
+      output = λ file journal on h good. on_ok r (empty_shows _ _ c.requires.empty);
+      listed = λ file journal on. on_ok r tt;
+      edited = on_ok r tt;
+      expected = λ file journal on. on_ok r (ap (λ (s : Report). s.is_match) c.requires.empty ∙ none_expected _);
+      still = λ shown. absurd (false≢true shown);
+      names = pair_names _ _ _ _ f j _ _ r (e.leaves.names keeps);
+    })
 
-pub returns-in-Redo : goal.returns-in-Redo
-returns-in-Redo g c =
+pub returns-in-Redo-clause-done : goal.returns-in-Redo-clause-done
+returns-in-Redo-clause-done g c = λ keeps.
+    let content = g.D.Store.content in
     let e = c.move_file-in-Redo.ensures in
-    let is = c.in-Redo.is in
-    record {
-      done = λ keeps. record {
-        arrives = subst (ArrivesOn _ _ c.move_file-in-Redo.result) (sym is)
-            (pair_arrives _ _ _ _ c.as_str-in-Redo.ensures.value c.as_str-in-Redo-2.ensures.value _ _ c.move_file-in-Redo.result
-            (move_cause move.Redo) (move_next move.Redo) (e.arrives keeps));
-        effect = subst (WorksOn _ _ c.move_file-in-Redo.result) (sym is) (pair_works _ _ _ _ c.as_str-in-Redo.ensures.value c.as_str-in-Redo-2.ensures.value _ _ c.move_file-in-Redo.result (move_effect move.Redo) (e.effect keeps));
-        output = subst (ShowsOn _ c.move_file-in-Redo.result _) (sym is) (λ file journal on h good. on_ok c.move_file-in-Redo.result (empty_shows _ _ c.requires.empty));
-        listed = subst (ListsOn _ c.move_file-in-Redo.result _) (sym is) (λ file journal on. on_ok c.move_file-in-Redo.result tt);
-        edited = subst (EditsOn _ _ c.move_file-in-Redo.result _) (sym is) (on_ok c.move_file-in-Redo.result tt);
-        expected = subst (ExpectsOn _ c.move_file-in-Redo.result _) (sym is) (λ file journal on. on_ok c.move_file-in-Redo.result (ap (λ (s : Report). s.is_match) c.requires.empty ∙ none_expected _));
-        still = λ shown. absurd (false≢true (sym (ap prints is) ∙ shown));
-        names = subst (LeavesOn _ _ c.move_file-in-Redo.result) (sym is) (pair_names _ _ _ _ c.as_str-in-Redo.ensures.value c.as_str-in-Redo-2.ensures.value _ _ c.move_file-in-Redo.result (e.leaves.names keeps));
-      };
-      unparsed = λ x cause. absurd (none-some x (sym (ap expression_cause is) ∙ cause));
-      silent = λ hidden still. ap (λ (s : Report). s.printed) c.requires.empty;
-      matched = λ reads free. ap (λ (s : Report). s.is_match) c.requires.empty;
-      helped = subst (λ x. Helps x c.move_file-in-Redo.result (report_by c.args.report.now)) (sym is) tt;
-      leaves = e.leaves.store;
-      calls = subst (λ x. CallsOf g.D.Store.leads c.move_file-in-Redo.result x c.args.store.now c.move_file-in-Redo.new.store) (sym is)
-          (pair_calls g.D.Store.leads _ _ _ _ _ c.as_str-in-Redo.ensures.value c.as_str-in-Redo-2.ensures.value (move_effect move.Redo) _ _ e.calls);
-    }
+    let r = c.move_file-in-Redo.result in
+    let f = c.pair_of-in-Redo.ensures.file_is in
+    let j = c.pair_of-in-Redo.ensures.journal_is in
+    subst (λ x. CarriesOut x (content c.args.store.now) (content c.move_file-in-Redo.new.store) r (report_by c.args.report.now)) (sym c.in-Redo.is) (record {
+      arrives = pair_arrives _ _ _ _ f j _ _ r (move_cause move.Redo) (move_next move.Redo) (e.arrives keeps);
+      effect = pair_works _ _ _ _ f j _ _ r (move_effect move.Redo) (e.effect keeps);
+      output = λ file journal on h good. on_ok r (empty_shows _ _ c.requires.empty);
+      listed = λ file journal on. on_ok r tt;
+      edited = on_ok r tt;
+      expected = λ file journal on. on_ok r (ap (λ (s : Report). s.is_match) c.requires.empty ∙ none_expected _);
+      still = λ shown. absurd (false≢true shown);
+      names = pair_names _ _ _ _ f j _ _ r (e.leaves.names keeps);
+    })
 
-pub returns-in-Squash : goal.returns-in-Squash
-returns-in-Squash g c =
+pub returns-in-Squash-clause-done : goal.returns-in-Squash-clause-done
+returns-in-Squash-clause-done g c = λ keeps.
+    let content = g.D.Store.content in
     let e = c.squash.ensures in
-    let is = c.in-Squash.is in
-    record {
-      done = λ keeps. record {
-        arrives = subst (ArrivesOn _ _ c.squash.result) (sym is)
-            (pair_arrives _ _ _ _ c.as_str-in-Squash.ensures.value c.as_str-in-Squash-2.ensures.value _ _ c.squash.result
-            (squash_cause c.in-Squash.n) (squash_next c.in-Squash.n) (e.arrives keeps));
-        effect = subst (WorksOn _ _ c.squash.result) (sym is) (pair_works _ _ _ _ c.as_str-in-Squash.ensures.value c.as_str-in-Squash-2.ensures.value _ _ c.squash.result (squash_effect c.in-Squash.n) (e.effect keeps));
-        output = subst (ShowsOn _ c.squash.result _) (sym is) (λ file journal on h good. on_ok c.squash.result (empty_shows _ _ c.requires.empty));
-        listed = subst (ListsOn _ c.squash.result _) (sym is) (λ file journal on. on_ok c.squash.result tt);
-        edited = subst (EditsOn _ _ c.squash.result _) (sym is) (on_ok c.squash.result tt);
-        expected = subst (ExpectsOn _ c.squash.result _) (sym is) (λ file journal on. on_ok c.squash.result (ap (λ (s : Report). s.is_match) c.requires.empty ∙ none_expected _));
-        still = λ shown. absurd (false≢true (sym (ap prints is) ∙ shown));
-        names = subst (LeavesOn _ _ c.squash.result) (sym is)
-            (pair_names _ _ _ _ c.as_str-in-Squash.ensures.value c.as_str-in-Squash-2.ensures.value _ _ c.squash.result (record { kept = (e.leaves.names keeps).kept; others = λ q apart. (e.leaves.names keeps).others q apart.1 }));
-      };
-      unparsed = λ x cause. absurd (none-some x (sym (ap expression_cause is) ∙ cause));
-      silent = λ hidden still. ap (λ (s : Report). s.printed) c.requires.empty;
-      matched = λ reads free. ap (λ (s : Report). s.is_match) c.requires.empty;
-      helped = subst (λ x. Helps x c.squash.result (report_by c.args.report.now)) (sym is) tt;
-      leaves = e.leaves.store;
-      calls = subst (λ x. CallsOf g.D.Store.leads c.squash.result x c.args.store.now c.squash.new.store) (sym is)
-          (pair_calls g.D.Store.leads _ _ _ _ _ c.as_str-in-Squash.ensures.value c.as_str-in-Squash-2.ensures.value (squash_effect c.in-Squash.n) _ _
-          e.calls);
-    }
+    let r = c.squash.result in
+    let f = c.pair_of-in-Squash.ensures.file_is in
+    let j = c.pair_of-in-Squash.ensures.journal_is in
+    subst (λ x. CarriesOut x (content c.args.store.now) (content c.squash.new.store) r (report_by c.args.report.now)) (sym c.in-Squash.is) (record {
+      arrives = pair_arrives _ _ _ _ f j _ _ r (squash_cause c.in-Squash.n) (squash_next c.in-Squash.n) (e.arrives keeps);
+      effect = pair_works _ _ _ _ f j _ _ r (squash_effect c.in-Squash.n) (e.effect keeps);
+      output = λ file journal on h good. on_ok r (empty_shows _ _ c.requires.empty);
+      listed = λ file journal on. on_ok r tt;
+      edited = on_ok r tt;
+      expected = λ file journal on. on_ok r (ap (λ (s : Report). s.is_match) c.requires.empty ∙ none_expected _);
+      still = λ shown. absurd (false≢true shown);
+      names = pair_names _ _ _ _ f j _ _ r (record { kept = (e.leaves.names keeps).kept; others = λ q apart. (e.leaves.names keeps).others q apart.1 });
+    })
 
-pub returns-in-History : goal.returns-in-History
-returns-in-History g c =
+pub returns-in-History-clause-done : goal.returns-in-History-clause-done
+returns-in-History-clause-done g c = λ keeps.
+    let content = g.D.Store.content in
     let e = c.listing.ensures in
-    let is = c.in-History.is in
+    let r = c.listing.result in
+    let f = c.pair_of-in-History.ensures.file_is in
+    let j = c.pair_of-in-History.ensures.journal_is in
+    let diffs = c.in-History.diffs in
     let report = c.listing.new.report in
-    record {
-      done = λ keeps. record {
-        arrives = subst (ArrivesOn _ _ c.listing.result) (sym is) (pair_arrives _ _ _ _ c.as_str-in-History.ensures.value c.as_str-in-History-2.ensures.value _ _ c.listing.result listing_cause (λ h. h) (λ apart. e.arrives keeps));
-        effect = subst (WorksOn _ _ c.listing.result) (sym is) (pair_works _ _ _ _ c.as_str-in-History.ensures.value c.as_str-in-History-2.ensures.value _ _ c.listing.result (listing_effect c.in-History.diffs) (λ apart. e.effect keeps));
-        output = subst (ShowsOn _ c.listing.result _) (sym is)
-            (listing_shows _ _ _ _ c.as_str-in-History.ensures.value c.as_str-in-History-2.ensures.value _ c.listing.result (report_by report) c.in-History.diffs (e.output keeps));
-        listed = subst (ListsOn _ c.listing.result _) (sym is)
-            (listing_lists _ _ _ _ c.as_str-in-History.ensures.value c.as_str-in-History-2.ensures.value _ c.listing.result (string_bytes report.text) c.in-History.diffs (e.lines keeps));
-        edited = subst (EditsOn _ _ c.listing.result _) (sym is) (on_ok c.listing.result tt);
-        expected = subst (ExpectsOn _ c.listing.result _) (sym is) (λ file journal on. on_ok c.listing.result (e.matched ∙ none_expected _));
-        still = λ shown. e.same keeps;
-        names = all_left _ _ _ c.listing.result (e.same keeps);
-      };
-      unparsed = λ x cause. absurd (none-some x (sym (ap expression_cause is) ∙ cause));
-      silent = λ hidden still. absurd (true≢false (sym (ap prints is) ∙ hidden));
-      matched = λ reads free. e.matched;
-      helped = subst (λ x. Helps x c.listing.result (report_by report)) (sym is) tt;
-      leaves = e.leaves;
-      calls = subst (λ x. CallsOf g.D.Store.leads c.listing.result x c.args.store.now c.listing.new.store) (sym is)
-          (pair_calls g.D.Store.leads _ _ _ _ _ c.as_str-in-History.ensures.value c.as_str-in-History-2.ensures.value
-          (listing_effect c.in-History.diffs) _ _ e.calls);
-    }
+    subst (λ x. CarriesOut x (content c.args.store.now) (content c.listing.new.store) r (report_by report)) (sym c.in-History.is) (record {
+      arrives = pair_arrives _ _ _ _ f j _ _ r listing_cause (λ h. h) (λ apart. e.arrives keeps);
+      effect = pair_works _ _ _ _ f j _ _ r (listing_effect diffs) (λ apart. e.effect keeps);
+      output = listing_shows _ _ _ _ f j _ r (report_by report) diffs (e.output keeps);
+      listed = listing_lists _ _ _ _ f j _ r (string_bytes report.text) diffs (e.lines keeps);
+      edited = on_ok r tt;
+      expected = λ file journal on. on_ok r (e.matched ∙ none_expected _);
+      still = λ shown. e.leaves.same keeps;
+      names = all_left _ _ _ r (e.leaves.same keeps);
+    })
 
-pub returns-in-Help : goal.returns-in-Help
-returns-in-Help g c =
-    let is = c.in-Help.is in
-    record {
-      done = λ keeps. record {
-        arrives = subst (ArrivesOn _ _ c.help.result) (sym is) (λ file journal apart on. absurd on);
-        effect = subst (WorksOn _ _ c.help.result) (sym is) (λ file journal apart on. absurd on);
-        output = subst (ShowsOn _ c.help.result _) (sym is) (λ file journal on. absurd on);
-        listed = subst (ListsOn _ c.help.result _) (sym is) (λ file journal on. absurd on);
-        edited = subst (EditsOn _ _ c.help.result _) (sym is) (on_ok c.help.result tt);
-        expected = subst (ExpectsOn _ c.help.result _) (sym is) (λ file journal on. absurd on);
-        still = λ shown. refl;
-        names = all_left _ _ _ c.help.result refl;
-      };
-      unparsed = λ x cause. absurd (none-some x (sym (ap expression_cause is) ∙ cause));
-      silent = λ hidden still. absurd (true≢false (sym (ap prints is) ∙ hidden));
-      matched = λ reads free. absurd (false≢true (sym (ap reads_journal is) ∙ reads));
-      helped = subst (λ x. Helps x c.help.result (report_by c.help.new.report)) (sym is) c.help.ensures.text;
-      leaves = memory_left g.D.Store c.args.store.now c.help.result c.help.ensures.memory;
-      calls = subst (λ x. CallsOf g.D.Store.leads c.help.result x c.args.store.now c.args.store.now) (sym is) refl;
-    }
+pub returns-in-Help-clause-done : goal.returns-in-Help-clause-done
+returns-in-Help-clause-done g c = λ keeps.
+    let content = g.D.Store.content in
+    subst (λ x. CarriesOut x (content c.args.store.now) (content c.args.store.now) c.help.result (report_by c.help.new.report)) (sym c.in-Help.is) (record {
+      arrives = λ file journal apart on. absurd on;
+      effect = λ file journal apart on. absurd on;
+      output = λ file journal on. absurd on;
+      listed = λ file journal on. absurd on;
+      edited = on_ok c.help.result tt;
+      expected = λ file journal on. absurd on;
+      still = λ shown. refl;
+      names = all_left _ _ _ c.help.result refl;
+    })
 
-pub returns-in-Eval : goal.returns-in-Eval
-returns-in-Eval g c =
+pub returns-in-Eval-clause-done : goal.returns-in-Eval-clause-done
+returns-in-Eval-clause-done g c = λ keeps.
+    let content = g.D.Store.content in
     let e = c.evaluate.ensures in
+    let r = c.evaluate.result in
     let a = c.in-Eval in
     let on : a.in_place ≡ false = cc (a.in_place-is, a.in_place-test) in
     let is = a.is ∙ ap (Eval a.words) on in
-    record {
-      done = λ keeps. record {
-        arrives = subst (ArrivesOn _ _ c.evaluate.result) (sym is) (λ file journal apart. evaluate_arrives _ _ a.words.options _ _ c.evaluate.result (e.done keeps).arrives file journal);
-        effect = subst (WorksOn _ _ c.evaluate.result) (sym is) (λ file journal apart on. tt);
-        output = subst (ShowsOn _ c.evaluate.result _) (sym is) (evaluate_shows _ _ a.words.options _ c.evaluate.result _ (e.done keeps).output);
-        listed = subst (ListsOn _ c.evaluate.result _) (sym is) (λ file journal on. on_ok c.evaluate.result tt);
-        edited = subst (EditsOn _ _ c.evaluate.result _) (sym is) (e.edited keeps);
-        expected = subst (ExpectsOn _ c.evaluate.result _) (sym is) (λ file journal on. tt);
-        still = λ shown. (e.done keeps).same;
-        names = all_left _ _ _ c.evaluate.result (e.done keeps).same;
-      };
-      unparsed = λ y cause. e.unparsed y (sym (ap expression_cause is) ∙ cause);
-      silent = λ hidden still. absurd (true≢false (sym (ap prints is) ∙ hidden));
-      matched = λ reads free. absurd (false≢true (sym (ap reads_journal is) ∙ reads));
-      helped = subst (λ x. Helps x c.evaluate.result (report_by c.evaluate.new.report)) (sym is) tt;
-      leaves = e.leaves;
-      calls = subst (λ x. CallsOf g.D.Store.leads c.evaluate.result x c.args.store.now c.evaluate.new.store) (sym is) e.calls;
-    }
+    let options = a.words.options in
+    let d = e.done keeps in
+    subst (λ x. CarriesOut x (content c.args.store.now) (content c.evaluate.new.store) r (report_by c.evaluate.new.report)) (sym is) (record {
+      arrives = λ file journal apart. evaluate_arrives _ _ options _ _ r d.arrives file journal;
+      effect = λ file journal apart on. tt;
+      output = evaluate_shows _ _ options _ r _ d.output;
+      listed = λ file journal on. on_ok r tt;
+      edited = e.edited keeps;
+      expected = λ file journal on. tt;
+      still = λ shown. e.leaves.same keeps;
+      names = all_left _ _ _ r (e.leaves.same keeps);
+    })
 
-pub returns-in-Eval-default-true : goal.returns-in-Eval-default-true
-returns-in-Eval-default-true g c =
-    let e = c.update.ensures in
+pub returns-in-Eval-default-true-clause-done : goal.returns-in-Eval-default-true-clause-done
+returns-in-Eval-default-true-clause-done g c = λ keeps.
+    let content = g.D.Store.content in
+    let r = c.update.result in
     let a = c.in-Eval-default-true in
     let x = string_bytes a.words.expr in
     let on : a.in_place ≡ true = cc (a.in_place-is, a.in_place-test) in
     let is = a.is ∙ ap (Eval a.words) on in
-    record {
-      done = λ keeps. record {
-        arrives = subst (ArrivesOn _ _ c.update.result) (sym is) (pair_arrives _ _ _ _ refl refl _ _ c.update.result (update_cause (program_in x)) (update_next x (program_in x)) (e.done keeps).arrives);
-        effect = subst (WorksOn _ _ c.update.result) (sym is) (update_works _ _ x _ c.update.result _ (e.done keeps).effect);
-        output = subst (ShowsOn _ c.update.result _) (sym is)
-            (update_shows _ _ x _ c.update.result (report_by c.update.new.report) a.words.options (e.done keeps).output);
-        listed = subst (ListsOn _ c.update.result _) (sym is) (update_lists _ _ x _ c.update.result _ a.words.options.diff (e.done keeps).listed);
-        edited = subst (EditsOn _ _ c.update.result _) (sym is) (update_edits _ _ x _ c.update.result _ _ a.words.options.diff (e.done keeps).edited);
-        expected = subst (ExpectsOn _ c.update.result _) (sym is) (update_expects _ _ x _ c.update.result _ a.words.options.expect_change (e.done keeps).expected);
-        still = λ shown. absurd (false≢true (sym (ap prints is) ∙ shown));
-        names = subst (LeavesOn _ _ c.update.result) (sym is) (e.done keeps).names;
-      };
-      unparsed = λ y cause. e.unparsed y (sym (ap expression_cause is) ∙ cause);
-      silent = λ hidden still. e.silent (sym (ap prints_change is) ∙ still);
-      matched = λ reads free. e.unasked (sym (ap expects_change is) ∙ free) (ap (λ (s : Report). s.is_match) c.requires.empty);
-      helped = subst (λ x. Helps x c.update.result (report_by c.update.new.report)) (sym is) tt;
-      leaves = e.leaves;
-      calls = subst (λ x. CallsOf g.D.Store.leads c.update.result x c.args.store.now c.update.new.store) (sym is) e.calls;
-    }
+    let options = a.words.options in
+    let d = c.update.ensures.done keeps in
+    subst (λ x. CarriesOut x (content c.args.store.now) (content c.update.new.store) r (report_by c.update.new.report)) (sym is) (record {
+      arrives = pair_arrives _ _ _ _ refl refl _ _ r (update_cause (program_in x)) (update_next x (program_in x)) d.arrives;
+      effect = update_works _ _ x _ r _ d.effect;
+      output = update_shows _ _ x _ r (report_by c.update.new.report) options d.output;
+      listed = update_lists _ _ x _ r _ options.diff d.listed;
+      edited = update_edits _ _ x _ r _ _ options.diff d.edited;
+      expected = update_expects _ _ x _ r _ options.expect_change d.expected;
+      still = λ shown. absurd (false≢true shown);
+      names = d.names;
+    })
 
 pub update-requires : goal.update-requires
 update-requires g c = record { empty = ap (λ (s : Report). s.printed) c.requires.empty }

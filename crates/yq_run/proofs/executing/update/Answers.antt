@@ -1,4 +1,4 @@
-use Rattle.std.{proofs.Common.{ℕ, List, Ok, Err, sym, ap, ◌∙◌, subst}, proofs.lemmas.Result.err_from_is_err_and, specs.FinMap.get}
+use Rattle.std.{proofs.Common.{◌≡◌, ℕ, List, Ok, Err, sym, ap, ◌∙◌, subst}, proofs.lemmas.Result.err_from_is_err_and, specs.FinMap.get}
 use Rattle.std.specs.String.{string_bytes}
 use Rattle.yq_journal.specs.State.{State}
 use Rattle.yq_semantics.specs.View.{program_of}
@@ -20,70 +20,59 @@ returns g c =
     let o = c.in_ok-text.ensures in
     let e = c.edit_from.ensures in
     let w = c.args.words.now in
+    let r = c.edit_from.result in
+    let x = c.as_str-expr.result.now in
+    let f = c.as_str-file.result.now in
+    let j = c.as_str-journal.result.now in
+    let p = program_of c.in_ok-program.program in
+    let is = c.in_ok-program.ensures.ok in
+    let text = c.in_ok-text.text.items in
+    let state = c.in_ok-text.state in
+    let old = g.D.Store.content c.args.store.now in
+    let diffs = w.options.diff in
+    let does = λ (t : List ℕ) (s : State). edit_effect x (program_edits p t) t s in
     record {
-      done = λ keeps. by_words w _ _ _ c.as_str-expr.ensures.value c.as_str-file.ensures.value c.as_str-journal.ensures.value
-          (λ asked. EditsInPlace asked (g.D.Store.content c.args.store.now) (g.D.Store.content c.edit_from.new.store) c.edit_from.result (report_by c.edit_from.new.report)) (record {
+      done = λ keeps.
+          let same = o.leaves.same keeps in
+          let held = o.text keeps in
+          let edit = (e.done keeps).edit in
+          let effect : update_effect x (program_in x) (get old f) (get old j) ≡ does text state =
+          ap (λ q. update_effect x q (get old f) (get old j)) is ∙ o.found keeps does in
+          by_words w _ _ _ c.as_str-expr.ensures.value c.as_str-file.ensures.value c.as_str-journal.ensures.value
+          (λ asked. EditsInPlace asked old (g.D.Store.content c.edit_from.new.store) r (report_by c.edit_from.new.report)) (record {
             arrives = λ apart h good.
-                arrives_as _ _ _ c.edit_from.result (λ q. update_cause q h) (λ q. update_next c.as_str-expr.result.now q h) h _ _ (sym c.in_ok-program.ensures.ok)
-                (opened (update_cause (Ok (program_of c.in_ok-program.program)))
-                (update_next c.as_str-expr.result.now (Ok (program_of c.in_ok-program.program))) _ _ _ _ c.edit_from.result
-                (c.in_ok-text.text, c.in_ok-text.state) h (o.opens keeps h good) ((e.done keeps).edit apart).arrives);
+                arrives_as _ _ _ r (λ q. update_cause q h) (λ q. update_next x q h) h _ _ (sym is)
+                (opened (update_cause (Ok p)) (update_next x (Ok p)) _ _ _ _ r (c.in_ok-text.text, state) h (o.opens keeps h good) (edit apart).arrives);
             effect = λ apart.
-                let does = λ (t : List ℕ) (s : State). edit_effect c.as_str-expr.result.now (program_edits (program_of c.in_ok-program.program) t) t s in
-                parsed_works _ _ (g.D.Store.content c.args.store.now) _ c.as_str-expr.result.now (program_of c.in_ok-program.program) _ _ c.edit_from.result c.in_ok-program.ensures.ok
-                (from_opened _ _ does _ _ (g.D.Store.content c.args.store.now) _ _ c.in_ok-text.text.items c.in_ok-text.state c.edit_from.result (c.in_ok-text.ensures.same keeps)
-                (c.in_ok-text.ensures.found keeps does)
-                ((e.done keeps).edit apart).effect);
+                parsed_works _ _ old _ x p _ _ r is
+                (from_opened _ _ does _ _ old _ _ text state r same (o.found keeps does) (edit apart).effect);
             edited = λ apart.
-                let same = c.in_ok-text.ensures.same keeps in
-                let held = c.in_ok-text.ensures.text keeps in
-                let there = ap (λ m. get m c.as_str-file.result.now) same ∙ held in
-                both_come c.edit_from.result c.args.words.now.options.diff c.as_str-expr.result.now c.as_str-file.result.now c.in_ok-text.text.items _ _ _ held
-                (file_comes c.edit_from.result c.as_str-expr.result.now (program_of c.in_ok-program.program) c.in_ok-text.text.items _ _
-                c.in_ok-program.ensures.ok held (on_ok_map c.edit_from.result ((e.done keeps).held apart there) (λ x. x.edited)))
-                (on_ok_map c.edit_from.result ((e.done keeps).held apart there) (λ x. x.printed));
+                let left = (e.done keeps).held apart (ap (λ m. get m f) same ∙ held) in
+                both_come r diffs x f text _ _ _ held
+                (file_comes r x p text _ _ is held (on_ok_map r left (λ z. z.edited))) (on_ok_map r left (λ z. z.printed));
             output = λ h good.
-                on_ok_map c.edit_from.result e.shows
-                (subst (λ due. Shows c.as_str-file.result.now due (report_by c.edit_from.new.report))
-                (history_showing c.args.words.now.options (program_of c.in_ok-program.program) _ c.as_str-file.result.now c.as_str-journal.result.now c.in_ok-text.text.items (c.in_ok-text.ensures.text keeps) h good
-                ∙ ap (λ q. report_edit c.args.words.now.options q h) (sym c.in_ok-program.ensures.ok)));
+                on_ok_map r e.shows
+                (subst (λ due. Shows f due (report_by c.edit_from.new.report))
+                (history_showing w.options p _ f j text held h good ∙ ap (λ q. report_edit w.options q h) (sym is)));
             listed = λ apart.
-                let does = λ (t : List ℕ) (s : State). edit_effect c.as_str-expr.result.now (program_edits (program_of c.in_ok-program.program) t) t s in
-                let held = c.in_ok-text.ensures.text keeps in
-                let effect = c.in_ok-text.ensures.found keeps does in
-                let diffs = c.args.words.now.options.diff in
-                on_ok_map c.edit_from.result
-                (change_output_by diffs c.as_str-file.result.now c.as_str-file.result.now c.as_str-journal.result.now c.as_str-expr.result.now
-                c.in_ok-text.text.items (program_edits (program_of c.in_ok-program.program) c.in_ok-text.text.items) c.in_ok-text.state _ _
-                c.edit_from.result _ ((e.done keeps).edit apart).effect (on_ok_map c.edit_from.result e.shows (λ s. s.output)))
-                (subst (λ x. IsOutput c.as_str-file.result.now x (string_bytes c.edit_from.new.report.text))
-                (ap (λ o. output_by diffs o (does c.in_ok-text.text.items c.in_ok-text.state)) (sym held)
-                ∙ ap (output_by diffs (get (g.D.Store.content c.args.store.now) c.as_str-file.result.now)) (sym effect)
-                ∙ ap (λ q. output_by diffs (get (g.D.Store.content c.args.store.now) c.as_str-file.result.now)
-                (update_effect c.as_str-expr.result.now q (get (g.D.Store.content c.args.store.now) c.as_str-file.result.now)
-                (get (g.D.Store.content c.args.store.now) c.as_str-journal.result.now))) (sym c.in_ok-program.ensures.ok)));
+                on_ok_map r
+                (change_output_by diffs f f j x text (program_edits p text) state _ _ r _ (edit apart).effect (on_ok_map r e.shows (λ s. s.output)))
+                (subst (λ z. IsOutput f z (string_bytes c.edit_from.new.report.text))
+                (ap (λ t. output_by diffs t (does text state)) (sym held) ∙ ap (output_by diffs (get old f)) (sym effect)));
             expected =
-                let does = λ (t : List ℕ) (s : State). edit_effect c.as_str-expr.result.now (program_edits (program_of c.in_ok-program.program) t) t s in
-                matched_as _ c.edit_from.result _ _ _ (on_ok_map c.edit_from.result e.shows (λ s. s.is_match))
-                (effect_expected c.args.words.now.options c.as_str-expr.result.now c.in_ok-text.text.items (program_edits (program_of c.in_ok-program.program) c.in_ok-text.text.items) c.in_ok-text.state
-                ∙ ap (works_as_expected c.args.words.now.options.expect_change) (sym (c.in_ok-text.ensures.found keeps does))
-                ∙ ap (λ q. works_as_expected c.args.words.now.options.expect_change
-                (update_effect c.as_str-expr.result.now q (get (g.D.Store.content c.args.store.now) c.as_str-file.result.now)
-                (get (g.D.Store.content c.args.store.now) c.as_str-journal.result.now))) (sym c.in_ok-program.ensures.ok));
-            names = subst
-                (λ m. LeavesNames (λ q. Differs q c.as_str-file.result.now c.as_str-journal.result.now) m (g.D.Store.content c.edit_from.new.store) c.edit_from.result)
-                (o.same keeps) (e.done keeps).names;
+                matched_as _ r _ _ _ (on_ok_map r e.shows (λ s. s.is_match))
+                (effect_expected w.options x text (program_edits p text) state ∙ ap (works_as_expected w.options.expect_change) (sym effect));
+            names = subst (λ m. LeavesNames (λ q. Differs q f j) m (g.D.Store.content c.edit_from.new.store) r) same (e.done keeps).names;
           });
       silent = e.silent;
       unasked = e.unasked;
-      unparsed = subst (λ x. RefusedUnparsed (cause_in (program_in x)) c.edit_from.result) c.as_str-expr.ensures.value
-          (parsed_free c.edit_from.result c.as_str-expr.result.now (program_of c.in_ok-program.program) c.in_ok-program.ensures.ok);
-      leaves = record { no_output = e.leaves.no_output; count = e.leaves.count ∙ ap (failures_after c.edit_from.result) o.leaves.count };
+      unparsed = subst (λ y. RefusedUnparsed (cause_in (program_in y)) r) c.as_str-expr.ensures.value (parsed_free r x p is);
+      leaves = record { no_output = e.leaves.no_output; count = e.leaves.count ∙ ap (failures_after r) o.leaves.store.count };
       calls = by_words w _ _ _ c.as_str-expr.ensures.value c.as_str-file.ensures.value c.as_str-journal.ensures.value
-          (λ asked. CallsToEdit g.D.Store.leads c.edit_from.result asked c.args.store.now c.edit_from.new.store)
-          (parsed_calls g.D.Store.leads c.edit_from.result _ c.args.store.now _ (program_of c.in_ok-program.program) _ c.in_ok-program.ensures.ok
-          (opened_calls g.D.Store.leads c.edit_from.result c.as_str-file.result.now c.as_str-journal.result.now (λ text. edit_effect c.as_str-expr.result.now (program_edits (program_of c.in_ok-program.program) text) text)
-          (c.in_ok-text.text, c.in_ok-text.state) c.open_pair.new.store c.edit_from.new.store e.calls c.args.store.now o.calls));
+          (λ asked. CallsToEdit g.D.Store.leads r asked c.args.store.now c.edit_from.new.store)
+          (parsed_calls g.D.Store.leads r _ c.args.store.now _ p _ is
+          (opened_calls g.D.Store.leads r f j (λ t. edit_effect x (program_edits p t) t) (c.in_ok-text.text, state)
+          c.open_pair.new.store c.edit_from.new.store e.calls c.args.store.now o.calls));
     }
 
 pub returns-in_err-program-clause-done : goal.returns-in_err-program-clause-done
@@ -104,7 +93,8 @@ returns-in_err-text-clause-done g c = λ keeps.
     by_words w _ _ _ c.as_str-expr.ensures.value c.as_str-file.ensures.value c.as_str-journal.ensures.value
     (λ asked. EditsInPlace asked content (g.D.Store.content c.open_pair.new.store) c.from_residual-in_err-text.result (report_by c.args.report.now))
     (unopened_edits _ content c.from_residual-in_err-text.result _ (p.1 ∙ ap Err p.2) (report_by c.args.report.now)
-    (program_of c.in_ok-program.program) (g.D.Store.content c.open_pair.new.store) c.in_ok-program.ensures.ok (e.same keeps) (e.opens keeps) (e.missed keeps))
+    (program_of c.in_ok-program.program) (g.D.Store.content c.open_pair.new.store) c.in_ok-program.ensures.ok
+    (e.leaves.same keeps) (e.opens keeps) (e.missed keeps))
 
 pub returns-in_err-program-clause-unparsed : goal.returns-in_err-program-clause-unparsed
 returns-in_err-program-clause-unparsed g c =
