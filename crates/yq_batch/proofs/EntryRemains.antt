@@ -1,8 +1,8 @@
--- The rows of an item or entry, where another one after it is taken out of its collection.
-use Rattle.std.proofs.Common.{◌≡◌, ℕ, suc, ◌+◌, List, [], ◌∷◌, ◌++◌, length, Some, refl, sym, ap, ◌∙◌, subst, append-nil, append_assoc}
+-- The rows of an item or entry, where other rows come after it.
+use Rattle.std.proofs.Common.{◌≡◌, ℕ, suc, ◌+◌, ◌≤◌, List, [], ◌∷◌, ◌++◌, length, Some, refl, sym, ap, ◌∙◌, subst, append-nil, append_assoc}
 use Rattle.std.{proofs.Common.{arith, length-append}, proofs.lemmas.List.append_cancel_left, proofs.lemmas.Option.same_Some}
 use Rattle.yq_core.{specs.Paths.Step, proofs.Bools.bind_some}
-use Rattle.yq_row_table.{specs.Rows.{Row, Part, Cut}, specs.Splices.with_first_gap}
+use Rattle.yq_row_table.specs.Rows.{Row, Part, Cut}
 use Rattle.yq_outline.{specs.Ends.{deeper_count, line_at_steps}, specs.Group.level_or, specs.Lines.{row_lines, lines_of_rows}}
 use Rattle.yq_outline.{specs.Outline.{Line, level, flatten, IsEven, row}, specs.Places.{FoundLine, find_row, lines_before}}
 use Rattle.yq_documents.specs.Reading.{part_outline}
@@ -17,6 +17,10 @@ use Rattle.yq_batch.proofs.OwnRowsStay.{own_stays, row_size}
 begins_front : (n k : ℕ) (xs a b : List Line) → length xs ≡ suc k → Begins n (xs ++ a) → Begins n (xs ++ b)
 begins_front n k [] a b size h = absurd (omega (arith, size))
 begins_front n k (l ∷ xs) a b size h = h
+
+pub begins_more : (m n : ℕ) (ls : List Line) → m ≤ n → Begins m ls → Begins n ls
+begins_more m n [] less h = h
+begins_more m n (l ∷ ls) less h = omega (arith, less, h)
 
 -- ---- an item or entry with its rows
 
@@ -56,7 +60,7 @@ module _ (t : List ℕ) (c : Cut) (k : ℕ) (p : Part) (above : List Step) (s : 
   pub begins : Begins (level found.line) (lines_of_rows x.back)
   begins = subst (Begins (level found.line)) (sym back_lines) (entries_apart n (part_outline p) above s lines found even has.entry).next
 
-  here : IsEven (level_or 0 lines.lines) (row found.line found.under found.after)
+  pub here : IsEven (level_or 0 lines.lines) (row found.line found.under found.after)
   here =
       let w = some_at s lines.lines found has.entry.found in
       even_right (level_or 0 lines.lines) w.front (row found.line found.under found.after)
@@ -88,57 +92,51 @@ module _ (t : List ℕ) (c : Cut) (k : ℕ) (p : Part) (above : List Step) (s : 
       go [] e = absurd (let none : 0 ≡ length (lines_of_rows x.own) = ap (λ (rs : List Row). length (lines_of_rows rs)) (sym e) in omega (arith, none, has.rows.count))
       go (r ∷ g) e = (r, g, e)
 
--- ---- another one after it is taken out
+-- ---- other rows after it
 
-module _ (t : List ℕ) (c : Cut) (k : ℕ) (p : Part) (above : List Step) (s1 s2 : Step) (x y : OwnRows) (old : IsDocumentPart t c k p)
-    (own : own_rows (above ++ (s1 ∷ [])) p.rows ≡ Some x) (other : own_rows (above ++ (s2 ∷ [])) p.rows ≡ Some y)
-    (between : List Row) (front : y.front ≡ x.front ++ (x.own ++ between)) (gap : List ℕ) (same : lines_of_rows (with_first_gap gap y.back) ≡ lines_of_rows y.back) where
-  abbrev left : List Row
-  left = between ++ with_first_gap gap y.back
+-- rows after the first of which others come begin as low, if others do where there are none
+pub begins_after : (n : ℕ) (m old new : List Row) → Begins n (lines_of_rows (m ++ old)) → (m ≡ [] → Begins n (lines_of_rows new)) → Begins n (lines_of_rows (m ++ new))
+begins_after n [] old new h low = low refl
+begins_after n (r ∷ m) old new h low = begins_front n (length r.dashes) (row_lines r) (lines_of_rows (m ++ old)) (lines_of_rows (m ++ new)) (row_size r) h
 
+module _ (t : List ℕ) (c : Cut) (k : ℕ) (p : Part) (above : List Step) (s : Step) (x : OwnRows) (old : IsDocumentPart t c k p) (own : own_rows (above ++ (s ∷ [])) p.rows ≡ Some x)
+    (left : List Row) (low : Begins (level (found t c k p above s x old own).line) (lines_of_rows left)) where
   abbrev f : FoundLine
-  f = found t c k p above s1 x old own
+  f = found t c k p above s x old own
 
+  -- its rows are those that they were
+  pub entry_remains : own_rows (above ++ (s ∷ [])) (x.front ++ (x.own ++ left)) ≡ Some (record x { back = left })
+  entry_remains = go x.own refl
+    where
+      go : (g : List Row) → x.own ≡ g → own_rows (above ++ (s ∷ [])) (x.front ++ (x.own ++ left)) ≡ Some (record x { back = left })
+      go [] e = absurd (let none : 0 ≡ length (f.line ∷ flatten f.under) = ap (λ (rs : List Row). length (lines_of_rows rs)) (sym e) ∙ ap length (own_lines t c k p above s x old own) in omega (arith, none))
+      go (r ∷ g) e =
+          ap (λ (rs : List Row). own_rows (above ++ (s ∷ [])) (x.front ++ (rs ++ left))) e
+          ∙ (own_stays (above ++ (s ∷ [])) x.front r g f.line (flatten f.under) (flatten f.under ++ lines_of_rows x.back) left
+          (ap lines_of_rows (sym e) ∙ own_lines t c k p above s x old own) (deep t c k p above s x old own)
+          (ap (line_at_steps (above ++ (s ∷ []))) (sym (whole t c k p above s x old own)) ∙ there t c k p above s x old own) low
+          ∙ (λ i. Some (record { front = x.front; own = sym e i; back = left })))
+
+-- ---- another one after it
+
+module _ (t : List ℕ) (c : Cut) (k : ℕ) (p : Part) (above beneath : List Step) (s1 s2 : Step) (x y : OwnRows) (old : IsDocumentPart t c k p)
+    (own : own_rows (above ++ (s1 ∷ [])) p.rows ≡ Some x) (other : own_rows (beneath ++ (s2 ∷ [])) p.rows ≡ Some y)
+    (between : List Row) (front : y.front ≡ x.front ++ (x.own ++ between)) where
   pub following_rows : x.back ≡ between ++ (y.own ++ y.back)
   following_rows =
       let whole : x.front ++ (x.own ++ x.back) ≡ x.front ++ (x.own ++ (between ++ (y.own ++ y.back))) =
       sym (has t c k p above s1 x old own).rows.rows_are
-      ∙ ((has t c k p above s2 y old other).rows.rows_are
+      ∙ ((has t c k p beneath s2 y old other).rows.rows_are
       ∙ (ap (λ (rs : List Row). rs ++ (y.own ++ y.back)) front
       ∙ (append_assoc x.front (x.own ++ between) (y.own ++ y.back) ∙ ap (λ (rs : List Row). x.front ++ rs) (append_assoc x.own between (y.own ++ y.back))))) in
       append_cancel_left x.own x.back (between ++ (y.own ++ y.back)) (append_cancel_left x.front (x.own ++ x.back) (x.own ++ (between ++ (y.own ++ y.back))) whole)
 
-  same_level : level (found t c k p above s2 y old other).line ≡ level f.line
-  same_level =
-      level_is t c k p above s2 y old other
-      ∙ (ap (λ (h : NodeLines). level_or 0 h.lines) (same_Some _ _ (sym (has t c k p above s2 y old other).entry.place_is ∙ (has t c k p above s1 x old own).entry.place_is))
-      ∙ sym (level_is t c k p above s1 x old own))
-
-  left_begins : Begins (level f.line) (lines_of_rows left)
-  left_begins = go between following_rows
-    where
-      go : (m : List Row) → x.back ≡ m ++ (y.own ++ y.back) → Begins (level f.line) (lines_of_rows (m ++ with_first_gap gap y.back))
-      go [] e =
-          subst (Begins (level f.line)) (sym same)
-          (subst (λ (n : ℕ). Begins n (lines_of_rows y.back)) same_level (begins t c k p above s2 y old other))
-      go (r ∷ m) e =
-          begins_front (level f.line) (length r.dashes) (row_lines r) (lines_of_rows (m ++ (y.own ++ y.back))) (lines_of_rows (m ++ with_first_gap gap y.back)) (row_size r)
-          (subst (λ (rs : List Row). Begins (level f.line) (lines_of_rows rs)) e (begins t c k p above s1 x old own))
-
-  -- its rows are those that they were
-  pub entry_remains : own_rows (above ++ (s1 ∷ [])) (y.front ++ with_first_gap gap y.back) ≡ Some (record x { back = left })
-  entry_remains = go x.own refl
-    where
-      rows_are : y.front ++ with_first_gap gap y.back ≡ x.front ++ (x.own ++ left)
-      rows_are =
-          ap (λ (rs : List Row). rs ++ with_first_gap gap y.back) front
-          ∙ (append_assoc x.front (x.own ++ between) (with_first_gap gap y.back) ∙ ap (λ (rs : List Row). x.front ++ rs) (append_assoc x.own between (with_first_gap gap y.back)))
-
-      go : (g : List Row) → x.own ≡ g → own_rows (above ++ (s1 ∷ [])) (y.front ++ with_first_gap gap y.back) ≡ Some (record x { back = left })
-      go [] e = absurd (let none : 0 ≡ length (f.line ∷ flatten f.under) = ap (λ (rs : List Row). length (lines_of_rows rs)) (sym e) ∙ ap length (own_lines t c k p above s1 x old own) in omega (arith, none))
-      go (r ∷ g) e =
-          ap (own_rows (above ++ (s1 ∷ []))) (rows_are ∙ ap (λ (rs : List Row). x.front ++ (rs ++ left)) e)
-          ∙ (own_stays (above ++ (s1 ∷ [])) x.front r g f.line (flatten f.under) (flatten f.under ++ lines_of_rows x.back) left
-          (ap lines_of_rows (sym e) ∙ own_lines t c k p above s1 x old own) (deep t c k p above s1 x old own)
-          (ap (line_at_steps (above ++ (s1 ∷ []))) (sym (whole t c k p above s1 x old own)) ∙ there t c k p above s1 x old own) left_begins
-          ∙ (λ i. Some (record { front = x.front; own = sym e i; back = left })))
+  -- rows after it that begin no deeper than those after the other one
+  pub lower_after : (new : List Row) → ((n : ℕ) → Begins n (lines_of_rows y.back) → Begins n (lines_of_rows new)) → (n : ℕ) → Begins n (lines_of_rows x.back) → Begins n (lines_of_rows (between ++ new))
+  lower_after new lower n low = begins_after n between (y.own ++ y.back) new (subst (λ (rs : List Row). Begins n (lines_of_rows rs)) following_rows low) (λ none.
+      let g : FoundLine = found t c k p beneath s2 y old other in
+      let lines : lines_of_rows x.back ≡ g.line ∷ (flatten g.under ++ lines_of_rows y.back) =
+      ap lines_of_rows (following_rows ∙ ap (λ (m : List Row). m ++ (y.own ++ y.back)) none)
+      ∙ (lines_append y.own y.back ∙ ap (λ (ls : List Line). ls ++ lines_of_rows y.back) (own_lines t c k p beneath s2 y old other)) in
+      let less : level g.line ≤ n = subst (Begins n) lines low in
+      begins_more (level g.line) n (lines_of_rows new) less (lower (level g.line) (begins t c k p beneath s2 y old other)))

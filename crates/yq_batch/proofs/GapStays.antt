@@ -28,7 +28,7 @@ kept_text_same [] h = refl
 kept_text_same (keep t ∷ ss) h = ap (λ (x : List ℕ). t ++ x) (kept_text_same ss h)
 kept_text_same (put o w ∷ ss) h = absurd cc
 
-kept_merged : (ss : List Segment) → are_kept ss ≡ true → (merged ss ≡ []) ⊎ ((t : List ℕ) × (merged ss ≡ keep t ∷ []))
+pub kept_merged : (ss : List Segment) → are_kept ss ≡ true → (merged ss ≡ []) ⊎ ((t : List ℕ) × (merged ss ≡ keep t ∷ []))
 kept_merged [] h = inl refl
 kept_merged (put o w ∷ ss) h = absurd cc
 kept_merged (keep [] ∷ ss) h = kept_merged ss h
@@ -42,7 +42,7 @@ from_start : (n : ℕ) → 0 + n ≡ n
 from_start n = omega arith
 
 -- the splices of one exchange between segments that stay
-one_splice : (b o w : List ℕ) (ss : List Segment) → are_kept ss ≡ true → changes (keep b ∷ (put o w ∷ ss)) ≡ splice_at (length b) o w
+pub one_splice : (b o w : List ℕ) (ss : List Segment) → are_kept ss ≡ true → changes (keep b ∷ (put o w ∷ ss)) ≡ splice_at (length b) o w
 unfolding changes
 one_splice b o w ss h = go b (merged ss) (kept_merged ss h)
   where

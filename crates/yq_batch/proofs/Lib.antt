@@ -36,6 +36,13 @@ pub mod RowsTakenOn
 pub mod RowsBeforeOffset
 pub mod RowRunGoesOn
 pub mod RowRunBegins
+pub mod ChangedRowLaws
+pub mod RowFronts
+pub mod SoleRows
+pub mod EmptiedTexts
+pub mod RowsEmptied
+pub mod RowRunEmpties
+pub mod EmptiedAnswers
 pub mod RowRemovalAnswers
 pub mod SlotLaws
 pub mod SlotCounts

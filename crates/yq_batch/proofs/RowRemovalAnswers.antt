@@ -1,25 +1,25 @@
 -- Runs of items and entries that are taken out with their lines, as the code makes them.
-use Rattle.std.proofs.Common.{◌≡◌, ℕ, zero, suc, ◌+◌, ◌-◌, ◌≤◌, ◌<◌, ◌^◌, true, List, [], ◌∷◌, ◌++◌, length, map, take, drop, slice_get}
-use Rattle.std.proofs.Common.{rules, slice_index_or, Option, Some, option_map, sym, ap, ◌∙◌, subst, arith, length-append, append_assoc}
-use Rattle.std.{proofs.Math.Seq.take-append_seam, proofs.lemmas.Option.{none-some, same_Some}, specs.Str.{IsCharBoundary, IsUtf8}}
-use Rattle.std.proofs.lemmas.Str.{IsCharBoundary-from_take, IsUtf8-append}
+use Rattle.std.proofs.Common.{Bool, ◌≡◌, ℕ, zero, suc, ◌+◌, ◌-◌, ◌≤◌, ◌<◌, ◌^◌, true, List, [], ◌∷◌, ◌++◌, length, map, take, drop}
+use Rattle.std.proofs.Common.{slice_get, rules, slice_index_or, Option, Some, option_map, sym, ap, ◌∙◌, subst, arith, length-append}
+use Rattle.std.{proofs.Common.append_assoc, proofs.Math.Seq.take-append_seam, proofs.lemmas.Option.{none-some, same_Some}}
+use Rattle.std.{specs.Str.{IsCharBoundary, IsUtf8}, proofs.lemmas.Str.{IsCharBoundary-from_take, IsUtf8-append}}
 use Rattle.yq_text.{specs.Limit.text_limit, specs.Script.splice_at, specs.Splice.Splice, specs.TextGapBuffer.buffer_text}
 use Rattle.yq_core.{specs.Answers.◌>>=◌, specs.Entries.tree_step, specs.Paths.{Step, node_at}, proofs.Bools.bind_some}
-use Rattle.yq_row_table.specs.Rows.{Cut, cut_text}
-use Rattle.yq_documents.{specs.Documents.Document, specs.Reading.{cut_of, documents, read_at}, specs.TreeEdits.change_nth}
-use Rattle.yq_documents.{proofs.ReadLaws.parts_read, specs.Located.steps_of, specs.declared.path.Path.Path}
+use Rattle.yq_row_table.specs.Rows.{Cut, Part, cut_text}
+use Rattle.yq_documents.{specs.Documents.Document, specs.LinesInRows.document_row, specs.Reading.{cut_of, documents, read_at}}
+use Rattle.yq_documents.{specs.TreeEdits.change_nth, proofs.ReadLaws.parts_read, specs.Located.steps_of, specs.declared.path.Path.Path}
 use Rattle.yq_places.{specs.PlacedRows.{PlacedPart, placed_document}, proofs.PlacedPartLaws.map_some}
 use Rattle.yq_places.specs.RemovalPlaces.{OwnRows, Removal, has_others_at, has_several, own_rows, removal_place, rows_out}
-use Rattle.yq_places.specs.Placements.{last_step}
-use Rattle.yq_edit_rules.proofs.RemovalChangeLaws.{removal_is_there, snoc, take_init}
+use Rattle.yq_places.{specs.Placements.last_step, specs.RemovalReading.{mark_counts, marks}}
+use Rattle.yq_edit_rules.{proofs.PlacedPartLaws.document_is_there_at, proofs.RemovalChangeLaws.{removal_is_there, snoc, take_init}}
 use Rattle.yq_semantics.{specs.After.{after_op, done_to}, specs.Changes.Room, specs.Fits.Fits, specs.Rooms.room_of}
 use Rattle.yq_semantics.{specs.Operations.{Operation, remove}, specs.Under.{op_under, operation_under, ops_under}, specs.declared.op.Op.Op}
 use Rattle.yq_semantics.specs.Judgement.{ExprError}
 use Rattle.yq_batch.{specs.Under.op_at, specs.RemovalRuns.{HasExchanged, ExchangeFails, text_exchanged}}
 use Rattle.yq_batch.specs.declared.removals.RemovalRun.{RemovalRun}
-use Rattle.yq_batch.specs.RowRemovals.{HasOthersNow, IsLeast, IsRowRemovalRun, RemovesBeside, RemovesRows, RemovesRowsOn, StaysAt}
-use Rattle.yq_batch.{specs.RowRemovals.{TakesFirst, above_of, removal_of}, proofs.OthersFollow.others_follow, proofs.RowRunGoesOn.goes_on}
-use Rattle.yq_batch.proofs.RunEdits.{fits_now}
+use Rattle.yq_batch.specs.RowRemovals.{HasOthersNow, IsLeast, IsRowRemovalRun, RemovesRows, RemovesRowsOn, StaysAt, stop_after, TakesFirst}
+use Rattle.yq_batch.{specs.RowRemovals.removal_of, specs.declared.changed_rows.ChangedRows.ChangedRows, proofs.OthersFollow.others_follow}
+use Rattle.yq_batch.{proofs.RowRunGoesOn.goes_on, proofs.RunEdits.fits_now}
 use Rattle.yq_edit_laws.{proofs.ApplyLaws.applied_by, proofs.CutLaws.{text_read, text_small}, proofs.FlowSoundLaws.last_is}
 use Rattle.yq_edit_laws.{proofs.TextFaults.text_utf8, specs.Answers.EditFails, specs.Carried.carried, specs.Edit.gives}
 use Rattle.yq_edit_laws.{specs.Theorems.IsFitting, specs.Valid.AreServed}
@@ -28,13 +28,13 @@ use Rattle.yq_semantics.specs.declared.op.Op.TheVariants as ops
 use Rattle.yq_failure.specs.declared.failure.Failure.TheVariants as failure
 use Rattle.yq_batch.proofs.RowsTaken as taken
 
--- The lines of an item or entry can be taken out of the text of a run: it is cut at characters there, and the run goes on.
-pub record CanTake (op : Operation) (c : Cut) (n : ℕ) (above : List Step) (before : RemovalRun) (next : Option ℕ) (start finish : ℕ) : Type 0 where
+-- Another text can come in the place of lines of the text of a run: it is cut at characters there, and the run goes on.
+pub record CanTake (op : Operation) (c : Cut) (n : ℕ) (before : RemovalRun) (next : ChangedRows) (start finish : ℕ) (new : List ℕ) : Type 0 where
   pub utf8 : IsUtf8 (buffer_text before.text)
   pub starts : IsCharBoundary (buffer_text before.text) start
   pub finishes : IsCharBoundary (buffer_text before.text) finish
-  pub on : (after : RemovalRun) → HasExchanged start finish [] before after → RemovesRowsOn op c n above before next after
-  pub fails : (e : ExprError) → ExchangeFails e start finish [] before → EditFails e (carried op (buffer_text before.text))
+  pub on : (after : RemovalRun) → HasExchanged start finish new before after → RemovesRowsOn op c n before next after
+  pub fails : (e : ExprError) → ExchangeFails e start finish new before → EditFails e (carried op (buffer_text before.text))
 
 -- where lines are in a text that is small
 pub out_small : (t : List ℕ) (n : ℕ) (steps : List Step) (x : Removal) → read_at t ≡ Some (cut_of t) → removal_place n steps (cut_of t) ≡ Some x → length x.before + length x.gone < 2 ^ 64
@@ -48,9 +48,20 @@ out_small t n steps x read place =
       length-append x.gone (x.gap ++ x.after),
     )
 
+-- ---- which rows are changed
+
+-- the rows that are changed, where those of an item or entry go, by where these are
+abbrev pub rows_changed : ChangedRows → Option ℕ → ℕ × ℕ × ℕ → ChangedRows
+rows_changed z next m = record { least = next; first = m.1; stop = stop_after z m.2 }
+
+pub marks_are : (c : Cut) (n : ℕ) (steps : List Step) (d : PlacedPart) → placed_document n c ≡ Some d → (x : OwnRows) → own_rows steps d.part.rows ≡ Some x → (m : ℕ × ℕ × ℕ) → Some m ≡ mark_counts n steps c → m ≡ marks (document_row n c) x
+marks_are c n steps d placed x own m counts =
+    let k : ℕ = document_row n c in
+    same_Some _ _ (counts ∙ (ap (λ (o : Option Part). o >>= λ p. option_map (marks k) (own_rows steps p.rows)) (document_is_there_at c n d placed).there ∙ ap (option_map (marks k)) own))
+
 -- ---- an item or entry of a collection
 
-module _ (c : Cut) (n : ℕ) (above : List Step) (s : Step) (least next : Option ℕ) (before : RemovalRun) (read : read_at (cut_text c) ≡ Some c) (run : RemovesRows c n above least before)
+module _ (c : Cut) (n : ℕ) (above : List Step) (s : Step) (z : ChangedRows) (next : Option ℕ) (before : RemovalRun) (read : read_at (cut_text c) ≡ Some c) (run : RemovesRows c n z before)
     (others : HasOthersNow n (above ++ (s ∷ [])) (buffer_text before.text)) (fitting : IsFitting (remove n (above ++ (s ∷ []))) (buffer_text before.text)) where
   abbrev steps : List Step
   steps = above ++ (s ∷ [])
@@ -71,7 +82,7 @@ module _ (c : Cut) (n : ℕ) (above : List Step) (s : Step) (least next : Option
   fits = fits_now (remove n steps) now cut tt (subst (IsFitting (remove n steps)) run.text fitting) run.run.read
 
   module _ (d : PlacedPart) (placed : placed_document n c ≡ Some d) (x : OwnRows) (own : own_rows steps d.part.rows ≡ Some x) (short : length (rows_out d x).before + length (rows_out d x).gone ≤ before.keep)
-      (stays : StaysAt (rows_out d x).seam next) (low : IsLeast least (rows_out d x).gap next) where
+      (stays : StaysAt (rows_out d x).seam next) (low : IsLeast z.least (rows_out d x).gap next) where
     abbrev start : ℕ
     start = length (rows_out d x).before
 
@@ -79,16 +90,16 @@ module _ (c : Cut) (n : ℕ) (above : List Step) (s : Step) (least next : Option
     finish = length (rows_out d x).before + length (rows_out d x).gone
 
     abbrev out : Removal
-    out = taken.out c n above s least next before.keep run.tail run.run read d placed x own short others_at stays low
+    out = taken.out c n above s z next before.keep run.tail run.run read d placed x own short others_at stays low
 
     before_is : out.before ≡ (rows_out d x).before
-    before_is = taken.before_is c n above s least next before.keep run.tail run.run read d placed x own short others_at stays low
+    before_is = taken.before_is c n above s z next before.keep run.tail run.run read d placed x own short others_at stays low
 
     gone_is : out.gone ≡ (rows_out d x).gone
-    gone_is = taken.gone_is c n above s least next before.keep run.tail run.run read d placed x own short others_at stays low
+    gone_is = taken.gone_is c n above s z next before.keep run.tail run.run read d placed x own short others_at stays low
 
     whole : now ≡ out.before ++ (out.gone ++ (out.gap ++ out.after))
-    whole = taken.whole c n above s least next before.keep run.tail run.run read d placed x own short others_at stays low
+    whole = taken.whole c n above s z next before.keep run.tail run.run read d placed x own short others_at stays low
 
     starts_with : now ≡ (rows_out d x).before ++ (out.gone ++ (out.gap ++ out.after))
     starts_with = whole ∙ ap (λ (b : List ℕ). b ++ (out.gone ++ (out.gap ++ out.after))) before_is
@@ -113,10 +124,10 @@ module _ (c : Cut) (n : ℕ) (above : List Step) (s : Step) (least next : Option
         (subst IsUtf8 (sym (ap (take (length both)) in_two ∙ take-append_seam both (out.gap ++ out.after))) (IsUtf8-append (rows_out d x).before (rows_out d x).gone utf8 gone_utf8)))
 
     comes_now : carried (remove n steps) now ≡ gives (text_exchanged now start finish []) (splice_at start (drop start (take finish now)) [])
-    comes_now = taken.removal_comes c n above s least next before.keep run.tail run.run read d placed x own short others_at stays low
+    comes_now = taken.removal_comes c n above s z next before.keep run.tail run.run read d placed x own short others_at stays low
 
     left_is : text_exchanged now start finish [] ≡ out.before ++ (out.gap ++ out.after)
-    left_is = taken.left_is c n above s least next before.keep run.tail run.run read d placed x own short others_at stays low
+    left_is = taken.left_is c n above s z next before.keep run.tail run.run read d placed x own short others_at stays low
 
     kept_is : out.before ≡ take start (cut_text c)
     kept_is =
@@ -124,10 +135,14 @@ module _ (c : Cut) (n : ℕ) (above : List Step) (s : Step) (least next : Option
         ap (λ (o : Option PlacedPart). o >>= λ e. option_map (rows_out e) (own_rows steps e.part.rows)) placed ∙ ap (option_map (rows_out d)) own in
         before_is ∙ sym (ap (take start) (removal_is_there c n steps (rows_out d x) read place) ∙ take-append_seam (rows_out d x).before _)
 
-    goes : IsRowRemovalRun c n above next start (out.gap ++ out.after)
-    goes = goes_on c n above s least next before.keep run.tail run.run read d placed x own short others_at stays low fits
+    -- which rows are changed then
+    abbrev changed : ChangedRows
+    changed = record { least = next; first = document_row n c + length x.front; stop = stop_after z (document_row n c + length x.front + length x.own) }
 
-    on_now : (after : RemovalRun) → HasExchanged start finish [] before after → RemovesRowsOn (remove n steps) c n above before next after
+    goes : IsRowRemovalRun c n changed start (out.gap ++ out.after)
+    goes = goes_on c n above s z next before.keep run.tail run.run read d placed x own short others_at stays low fits
+
+    on_now : (after : RemovalRun) → HasExchanged start finish [] before after → RemovesRowsOn (remove n steps) c n before changed after
     on_now after out_of =
         let cs : List Splice = splice_at start (drop start (take finish now)) [] in
         let made : buffer_text after.text ≡ text_exchanged now start finish [] = out_of.text ∙ ap (λ (l : List ℕ). text_exchanged l start finish []) run.text in
@@ -141,13 +156,13 @@ module _ (c : Cut) (n : ℕ) (above : List Step) (s : Step) (least next : Option
           run = record {
             tail = out.gap ++ out.after;
             text = made ∙ (left_is ∙ λ i. (kept_is ∙ ap (λ (m : ℕ). take m (cut_text c)) (sym out_of.keep)) i ++ (out.gap ++ out.after));
-            run = subst (λ (m : ℕ). IsRowRemovalRun c n above next m (out.gap ++ out.after)) (sym out_of.keep) goes;
+            run = subst (λ (m : ℕ). IsRowRemovalRun c n changed m (out.gap ++ out.after)) (sym out_of.keep) goes;
           };
         }
 
     small_now : length (text_exchanged now start finish []) ≤ text_limit
     small_now =
-        subst (λ (l : List ℕ). length l ≤ text_limit) (sym left_is) (taken.small c n above s least next before.keep run.tail run.run read d placed x own short others_at stays low)
+        subst (λ (l : List ℕ). length l ≤ text_limit) (sym left_is) (taken.small c n above s z next before.keep run.tail run.run read d placed x own short others_at stays low)
 
     fails_now : (e : ExprError) → ExchangeFails e start finish [] before → EditFails e (carried (remove n steps) (buffer_text before.text))
     fails_now (failure.Fault why) fails =
@@ -155,7 +170,7 @@ module _ (c : Cut) (n : ℕ) (above : List Step) (s : Step) (least next : Option
         absurd (omega (arith, large, small_now))
     fails_now failure.Memory fails = tt
 
-    can_take_rows : IsUtf8 (rows_out d x).before → IsUtf8 (rows_out d x).gone → CanTake (remove n steps) c n above before next start finish
+    can_take_rows : IsUtf8 (rows_out d x).before → IsUtf8 (rows_out d x).gone → CanTake (remove n steps) c n before changed start finish []
     can_take_rows utf8 gone_utf8 = record {
       utf8 = subst IsUtf8 (sym run.text) utf8_now;
       starts = subst (λ (l : List ℕ). IsCharBoundary l start) (sym run.text) (starts_now utf8);
@@ -164,44 +179,41 @@ module _ (c : Cut) (n : ℕ) (above : List Step) (s : Step) (least next : Option
       fails = fails_now;
     }
 
-  take_at : (x : Removal) → removal_place n steps c ≡ Some x → length x.before + length x.gone ≤ before.keep → StaysAt x.seam next → IsLeast least x.gap next → IsUtf8 x.before → IsUtf8 x.gone →
-      CanTake (remove n steps) c n above before next (length x.before) (length x.before + length x.gone)
-  take_at x place =
+  take_at : (x : Removal) (m : ℕ × ℕ × ℕ) → removal_place n steps c ≡ Some x → Some m ≡ mark_counts n steps c → length x.before + length x.gone ≤ before.keep → StaysAt x.seam next → IsLeast z.least x.gap next →
+      IsUtf8 x.before → IsUtf8 x.gone → CanTake (remove n steps) c n before (rows_changed z next m) (length x.before) (length x.before + length x.gone) []
+  take_at x m place counts =
       let placed = bind_some (placed_document n c) place in
       let own = map_some (rows_out placed.0) (own_rows steps placed.0.part.rows) x placed.2 in
-      subst (λ (y : Removal). length y.before + length y.gone ≤ before.keep → StaysAt y.seam next → IsLeast least y.gap next → IsUtf8 y.before → IsUtf8 y.gone →
-      CanTake (remove n steps) c n above before next (length y.before) (length y.before + length y.gone)) own.2
-      (λ short stays low. can_take_rows placed.0 placed.1 own.0 own.1 short stays low)
+      let same : m ≡ marks (document_row n c) own.0 = marks_are c n steps placed.0 placed.1 own.0 own.1 m counts in
+      subst (λ (i : ℕ × ℕ × ℕ). length x.before + length x.gone ≤ before.keep → StaysAt x.seam next → IsLeast z.least x.gap next → IsUtf8 x.before → IsUtf8 x.gone →
+      CanTake (remove n steps) c n before (rows_changed z next i) (length x.before) (length x.before + length x.gone) []) (sym same)
+      (subst (λ (y : Removal). length y.before + length y.gone ≤ before.keep → StaysAt y.seam next → IsLeast z.least y.gap next → IsUtf8 y.before → IsUtf8 y.gone →
+      CanTake (remove n steps) c n before (rows_changed z next (marks (document_row n c) own.0)) (length y.before) (length y.before + length y.gone) []) own.2
+      (λ short stays low. can_take_rows placed.0 placed.1 own.0 own.1 short stays low))
 
 -- as the code finds it, by all steps
-pub can_take : (t : List ℕ) (n : ℕ) (steps : List Step) (x : Removal) (least next : Option ℕ) (before : RemovalRun) → read_at t ≡ Some (cut_of t) →
-    removal_place n steps (cut_of t) ≡ Some x → RemovesRows (cut_of t) n (above_of steps) least before →
-    HasOthersNow n steps (buffer_text before.text) → IsFitting (remove n steps) (buffer_text before.text) → length x.before + length x.gone ≤ before.keep → StaysAt x.seam next → IsLeast least x.gap next → IsUtf8 x.before → IsUtf8 x.gone →
-    CanTake (remove n steps) (cut_of t) n (above_of steps) before next (length x.before) (length x.before + length x.gone)
-can_take t n [] x least next before read place run others fitting short stays low utf8 gone_utf8 = absurd fitting.fits.2.0
-can_take t n (z ∷ zs) x least next before read place run others fitting short stays low utf8 gone_utf8 =
-    let y = snoc z zs in
+pub can_take : (t : List ℕ) (n : ℕ) (steps : List Step) (x : Removal) (m : ℕ × ℕ × ℕ) (z : ChangedRows) (next : Option ℕ) (before : RemovalRun) → read_at t ≡ Some (cut_of t) →
+    removal_place n steps (cut_of t) ≡ Some x → Some m ≡ mark_counts n steps (cut_of t) → RemovesRows (cut_of t) n z before → HasOthersNow n steps (buffer_text before.text) →
+    IsFitting (remove n steps) (buffer_text before.text) → length x.before + length x.gone ≤ before.keep → StaysAt x.seam next → IsLeast z.least x.gap next → IsUtf8 x.before → IsUtf8 x.gone →
+    CanTake (remove n steps) (cut_of t) n before (rows_changed z next m) (length x.before) (length x.before + length x.gone) []
+can_take t n [] x m z next before read place counts run others fitting short stays low utf8 gone_utf8 = absurd fitting.fits.2.0
+can_take t n (w ∷ ws) x m z next before read place counts run others fitting short stays low utf8 gone_utf8 =
+    let y = snoc w ws in
     let read_c : read_at (cut_text (cut_of t)) ≡ Some (cut_of t) = ap read_at (text_read t (cut_of t) read) ∙ read in
-    subst (λ (ss : List Step). removal_place n ss (cut_of t) ≡ Some x → RemovesRows (cut_of t) n (above_of ss) least before → HasOthersNow n ss (buffer_text before.text) → IsFitting (remove n ss) (buffer_text before.text) →
-    length x.before + length x.gone ≤ before.keep → StaysAt x.seam next → IsLeast least x.gap next → IsUtf8 x.before → IsUtf8 x.gone →
-    CanTake (remove n ss) (cut_of t) n (above_of ss) before next (length x.before) (length x.before + length x.gone)) (sym y.2)
-    (subst (λ (above : List Step). removal_place n (y.0 ++ (y.1 ∷ [])) (cut_of t) ≡ Some x → RemovesRows (cut_of t) n above least before → HasOthersNow n (y.0 ++ (y.1 ∷ [])) (buffer_text before.text) →
-    IsFitting (remove n (y.0 ++ (y.1 ∷ []))) (buffer_text before.text) → length x.before + length x.gone ≤ before.keep → StaysAt x.seam next → IsLeast least x.gap next → IsUtf8 x.before → IsUtf8 x.gone →
-    CanTake (remove n (y.0 ++ (y.1 ∷ []))) (cut_of t) n above before next (length x.before) (length x.before + length x.gone)) (sym (take_init y.0 y.1))
-    (λ place run others fitting. take_at (cut_of t) n y.0 y.1 least next before read_c run others fitting x place))
-    place run others fitting short stays low utf8 gone_utf8
+    subst (λ (ss : List Step). removal_place n ss (cut_of t) ≡ Some x → Some m ≡ mark_counts n ss (cut_of t) → HasOthersNow n ss (buffer_text before.text) → IsFitting (remove n ss) (buffer_text before.text) →
+    CanTake (remove n ss) (cut_of t) n before (rows_changed z next m) (length x.before) (length x.before + length x.gone) []) (sym y.2)
+    (λ place counts others fitting. take_at (cut_of t) n y.0 y.1 z next before read_c run others fitting x m place counts short stays low utf8 gone_utf8)
+    place counts others fitting
 
 -- where the lines begin and end in the text of a cut
-pub found_rows : (t u : List ℕ) (n : ℕ) (steps : List Step) (x : Removal) (least next : Option ℕ) (before : RemovalRun) (start size : ℕ) → u ≡ t → read_at u ≡ Some (cut_of u) → Some x ≡ removal_place n steps (cut_of u) →
-    RemovesRows (cut_of t) n (above_of steps) least before → HasOthersNow n steps (buffer_text before.text) →
+pub found_rows : (t : List ℕ) (n : ℕ) (steps : List Step) (x : Removal) (m : ℕ × ℕ × ℕ) (z : ChangedRows) (next : Option ℕ) (before : RemovalRun) (start size : ℕ) → read_at t ≡ Some (cut_of t) →
+    Some x ≡ removal_place n steps (cut_of t) → Some m ≡ mark_counts n steps (cut_of t) → RemovesRows (cut_of t) n z before → HasOthersNow n steps (buffer_text before.text) →
     IsFitting (remove n steps) (buffer_text before.text) → start ≡ length x.before → size ≡ length x.gone → start + size ≤ before.keep →
-    StaysAt x.seam next → IsLeast least x.gap next → IsUtf8 x.before → IsUtf8 x.gone → CanTake (remove n steps) (cut_of t) n (above_of steps) before next start (start + size)
-found_rows t u n steps x least next before start size same read place run others fitting starts sizes within stays low utf8 gone_utf8 =
-    let read_t : read_at t ≡ Some (cut_of t) = subst (λ (v : List ℕ). read_at v ≡ Some (cut_of v)) same read in
-    let place_t : removal_place n steps (cut_of t) ≡ Some x = ap (λ (v : List ℕ). removal_place n steps (cut_of v)) (sym same) ∙ sym place in
-    let can = can_take t n steps x least next before read_t place_t run others fitting (omega (arith, within, starts, sizes)) stays low utf8 gone_utf8 in
-    subst (λ (m : ℕ). CanTake (remove n steps) (cut_of t) n (above_of steps) before next m (m + size)) (sym starts)
-    (subst (λ (k : ℕ). CanTake (remove n steps) (cut_of t) n (above_of steps) before next (length x.before) (length x.before + k)) (sym sizes) can)
+    StaysAt x.seam next → IsLeast z.least x.gap next → IsUtf8 x.before → IsUtf8 x.gone → CanTake (remove n steps) (cut_of t) n before (rows_changed z next m) start (start + size) []
+found_rows t n steps x m z next before start size read place counts run others fitting starts sizes within stays low utf8 gone_utf8 =
+    let can = can_take t n steps x m z next before read (sym place) counts run others fitting (omega (arith, within, starts, sizes)) stays low utf8 gone_utf8 in
+    subst (λ (i : ℕ). CanTake (remove n steps) (cut_of t) n before (rows_changed z next m) i (i + size) []) (sym starts)
+    (subst (λ (j : ℕ). CanTake (remove n steps) (cut_of t) n before (rows_changed z next m) (length x.before) (length x.before + j) []) (sym sizes) can)
 
 -- ---- two operations on one collection
 
@@ -235,7 +247,11 @@ others_now n above s t rest text served cut read =
     ap (λ (ds : List Document). has_several (slice_get ds n >>= λ d. node_at (take (length (above ++ (s ∷ [])) - 1) (above ++ (s ∷ []))) d.root)) same
     ∙ others_there (room_of text) n above s t served.0 served.1.follow.fit.0 served.1.follow.fit.1.0
 
--- operations, the first two of them apart
+-- operations, the first one or two of them apart
+pub one_apart : (os : List Op) (a : Op) → 1 ≤ length os → a ≡ slice_index_or os 0 a → (rest : List Op) × (os ≡ a ∷ rest)
+one_apart [] a some at = absurd (omega (arith, some))
+one_apart (x ∷ os) a some at = (os, λ i. sym at i ∷ os)
+
 pub two_apart : (os : List Op) (a b : Op) → 2 ≤ length os → a ≡ slice_index_or os 0 a → b ≡ slice_index_or os 1 b → (rest : List Op) × (os ≡ a ∷ (b ∷ rest))
 two_apart [] a b some at be = absurd (omega (arith, some))
 two_apart (x ∷ []) a b some at be = absurd (omega (arith, some))
@@ -249,17 +265,16 @@ at_removal (ops.Remove own) p n steps is = search rules
 at_removal (ops.LineComment own text) p n steps is = absurd (cc)
 at_removal (ops.HeadComment own text) p n steps is = absurd (cc)
 
--- what they take out, at a path from the root
-module _ (front : List declared.Step) (ops : List Op) (n : ℕ) (above : List Step) (o : Op) (h : TakesFirst ops n above o) (p : Path) (x : Op)
-    (there : op_at p x ≡ op_under front o) where
+-- what the first one takes out, at a path from the root
+module _ (front : List declared.Step) (ops : List Op) (n : ℕ) (o : Op) (beside : Bool) (h : TakesFirst ops n o beside) (p : Path) (x : Op) (there : op_at p x ≡ op_under front o) where
   abbrev last : Step
   last = h.takes.1.1.0
 
   abbrev inside : List Step
-  inside = map tree_step front ++ above
+  inside = map tree_step front ++ h.above
 
-  front_is : (steps : List Step) (s : Step) → last_step steps ≡ Some (above, s) → map tree_step front ++ steps ≡ inside ++ (s ∷ [])
-  front_is steps s is = ap (λ (ss : List Step). map tree_step front ++ ss) (last_is steps above s is) ∙ sym (append_assoc (map tree_step front) above (s ∷ []))
+  front_is : (steps : List Step) (s : Step) → last_step steps ≡ Some (h.above, s) → map tree_step front ++ steps ≡ inside ++ (s ∷ [])
+  front_is steps s is = ap (λ (ss : List Step). map tree_step front ++ ss) (last_is steps h.above s is) ∙ sym (append_assoc (map tree_step front) h.above (s ∷ []))
 
   first : op_under front o ≡ remove n (inside ++ (last ∷ []))
   first = ap (operation_under (map tree_step front)) h.takes.1.0 ∙ ap (remove n) (front_is h.takes.0 last h.takes.1.1.1)
@@ -267,26 +282,22 @@ module _ (front : List declared.Step) (ops : List Op) (n : ℕ) (above : List St
   own : (p.doc ≡ n) × (steps_of p ≡ inside ++ (last ∷ []))
   own = at_removal x p n (inside ++ (last ∷ [])) (there ∙ first)
 
-  above_is : above_of (steps_of p) ≡ inside
-  above_is = ap above_of own.1 ∙ take_init inside last
-
   pub first_is : op_under front o ≡ removal_of p
   first_is = first ∙ λ i. remove (sym own.0 i) (sym own.1 i)
 
-  pub others_beside : (text : List ℕ) → AreServed (ops_under front ops) text → HasOthersNow p.doc (steps_of p) text
-  others_beside text served =
-      let second : op_under front h.next ≡ remove n (inside ++ (h.next_takes.1.1.0 ∷ [])) =
-      ap (operation_under (map tree_step front)) h.next_takes.1.0 ∙ ap (remove n) (front_is h.next_takes.0 h.next_takes.1.1.0 h.next_takes.1.1.1) in
-      let both = subst (λ (os : List Operation). AreServed os text) (ap (ops_under front) h.ops_are ∙ λ i. first i ∷ (second i ∷ ops_under front h.rest)) served in
+  pub others_beside : beside ≡ true → (text : List ℕ) → AreServed (ops_under front ops) text → HasOthersNow p.doc (steps_of p) text
+  others_beside is text served =
+      let next = h.next_takes is in
+      let other = next.3 in
+      let second : op_under front next.0 ≡ remove n (inside ++ (other.1.1.0 ∷ [])) =
+      ap (operation_under (map tree_step front)) other.1.0 ∙ ap (remove n) (front_is other.0 other.1.1.0 other.1.1.1) in
+      let both = subst (λ (os : List Operation). AreServed os text) (ap (ops_under front) (h.ops_are ∙ ap (λ (os : List Op). o ∷ os) next.2) ∙ λ i. first i ∷ (second i ∷ ops_under front next.1)) served in
       subst (λ (j : ℕ). HasOthersNow j (steps_of p) text) (sym own.0)
-      (subst (λ (zs : List Step). HasOthersNow n zs text) (sym own.1) (others_now n inside last h.next_takes.1.1.0 (ops_under front h.rest) text both))
+      (subst (λ (zs : List Step). HasOthersNow n zs text) (sym own.1) (others_now n inside last other.1.1.0 (ops_under front next.1) text both))
 
-  pub run_there : (c : Cut) (least : Option ℕ) (r : RemovalRun) → RemovesRows c n inside least r → RemovesBeside p c least r
-  run_there c least r run =
-      subst (λ (zs : List Step). RemovesRows c p.doc zs least r) (sym above_is) (subst (λ (j : ℕ). RemovesRows c j inside least r) (sym own.0) run)
+  pub run_there : (c : Cut) (z : ChangedRows) (r : RemovalRun) → RemovesRows c n z r → RemovesRows c p.doc z r
+  run_there c z r run = subst (λ (j : ℕ). RemovesRows c j z r) (sym own.0) run
 
-  pub first_on : (c : Cut) (before : RemovalRun) (least : Option ℕ) (after : RemovalRun) → RemovesRowsOn (removal_of p) c p.doc (above_of (steps_of p)) before least after →
-      RemovesRowsOn (op_under front o) c n inside before least after
-  first_on c before least after on =
-      let here : RemovesRowsOn (removal_of p) c p.doc inside before least after = subst (λ (zs : List Step). RemovesRowsOn (removal_of p) c p.doc zs before least after) above_is on in
-      subst (λ (x : Operation). RemovesRowsOn x c n inside before least after) (sym first_is) (subst (λ (j : ℕ). RemovesRowsOn (removal_of p) c j inside before least after) own.0 here)
+  pub first_on : (c : Cut) (before : RemovalRun) (z : ChangedRows) (after : RemovalRun) → RemovesRowsOn (removal_of p) c p.doc before z after → RemovesRowsOn (op_under front o) c n before z after
+  first_on c before z after on =
+      subst (λ (x : Operation). RemovesRowsOn x c n before z after) (sym first_is) (subst (λ (j : ℕ). RemovesRowsOn (removal_of p) c j before z after) own.0 on)

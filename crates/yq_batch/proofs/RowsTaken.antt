@@ -1,6 +1,6 @@
 -- One more item or entry of a block collection taken out with its lines, before those that were.
 use Rattle.std.proofs.Common.{◌≡◌, ℕ, ◌+◌, ◌≤◌, Bool, true, false, cond, List, [], ◌∷◌, ◌++◌, length, take, drop, Option, Some, None}
-use Rattle.std.proofs.Common.{option_map, option_and_then, refl, sym, ap, ◌∙◌, subst, append_assoc, arith, length-append}
+use Rattle.std.proofs.Common.{option_map, option_and_then, refl, sym, ap, ◌∙◌, subst, append_assoc, arith, length-append, slice_get}
 use Rattle.std.{proofs.lemmas.Option.{none-some, same_Some}, proofs.Math.Seq.{take-append_seam, drop-append_seam}, specs.Option.option_or}
 use Rattle.yq_text.{specs.Limit.text_limit, specs.Script.{Segment, are_kept, splice_at}}
 use Rattle.yq_core.{specs.Answers.◌>>=◌, specs.Block.{BlockText, keeps}, specs.Paths.Step, specs.Text.text_lines, specs.Tree.Node}
@@ -9,7 +9,7 @@ use Rattle.yq_row_table.{specs.Removal.{hold_comment, last_block, next_column}, 
 use Rattle.yq_row_table.specs.Splices.{after_first}
 use Rattle.yq_outline.specs.Outline.{LineMark, Bare, Key, Dash, Outline, end, row}
 use Rattle.yq_outline.{specs.Places.{FoundLine, here, find, in_head, lines_before, place_inside}, specs.Positions.has_no_mark}
-use Rattle.yq_documents.{specs.LinesInRows.document_row, specs.Reading.{part_outline, read_at}}
+use Rattle.yq_documents.{specs.LinesInRows.document_row, specs.Reading.{part_outline, read_at}, specs.Documents.document_parts}
 use Rattle.yq_places.{specs.FirstPlaces.first_removal, specs.FlowNodes.{bare_line, find_head, flow_collection, head_line, line_collection}}
 use Rattle.yq_places.{specs.PlacedRows.{PlacedPart, placed_document}, specs.Placements.last_step}
 use Rattle.yq_places.specs.RemovalPlaces.{OwnRows, Removal, Seam, comment_above, has_others_at, kept_gap, own_rows, removal_place, rows_out}
@@ -17,14 +17,15 @@ use Rattle.yq_places.specs.RemovalPlaces.{seam_after}
 use Rattle.yq_edit_rules.{specs.DocumentRows.IsDocumentPart, specs.EntryEdits.one_removed}
 use Rattle.yq_edit_rules.{specs.Edits.{op_edits, or_stay, part_removed, rows_or_sole}, specs.FlowParts.flow_removed}
 use Rattle.yq_edit_rules.specs.Removing.{first_removed, gap_mended, rows_removed}
-use Rattle.yq_edit_rules.specs.Siblings.{HasEntries, IsEntry, NodeLines, lines_at, lines_below}
+use Rattle.yq_edit_rules.specs.Siblings.{HasEntries, IsEntry, IsEntryAt, NodeLines, lines_at, lines_below}
 use Rattle.yq_edit_rules.{proofs.PlacedPartLaws.document_is_there_at, proofs.RemovalChangeLaws.removal_is_there}
 use Rattle.yq_semantics.specs.Operations.{remove}
 use Rattle.yq_edit_laws.{proofs.CutLaws.{cut_read, text_read}, specs.Carried.{carried, carry_one}}
 use Rattle.yq_edit_laws.specs.Edit.{by_reading, edit_of_segments, gives}
 use Rattle.yq_batch.specs.RemovalRuns.{text_exchanged}
 use Rattle.yq_batch.specs.RowRemovals.{AreLow, IsLeast, IsRowRemovalRun, IsPlacedBefore, StayLow, StaysAt}
-use Rattle.yq_batch.{proofs.EntryRemains.{has, own_first}, proofs.GapStays.{gap_kept, segments_come}}
+use Rattle.yq_batch.{specs.declared.changed_rows.ChangedRows.ChangedRows, proofs.EntryRemains.{has, own_first}}
+use Rattle.yq_batch.proofs.GapStays.{gap_kept, segments_come}
 
 -- ---- a block collection is no flow collection
 
@@ -56,10 +57,19 @@ none_headed (s ∷ ss) o h at block = go (find s ss o) at
     go (Some x) e = below x.0 x.1 x.0.line.head e refl
 
 -- the last step of steps
-last_is : (above : List Step) (s : Step) → last_step (above ++ (s ∷ [])) ≡ Some (above, s)
+pub last_is : (above : List Step) (s : Step) → last_step (above ++ (s ∷ [])) ≡ Some (above, s)
 last_is [] s = refl
 last_is (a ∷ []) s = refl
 last_is (a ∷ (b ∷ above)) s = ap (option_map (λ (x : List Step × Step). (a ∷ x.0, x.1))) (last_is (b ∷ above) s)
+
+-- an item or entry of a block collection is none of a flow collection
+pub no_part : (c : Cut) (n : ℕ) (above : List Step) (s : Step) (p : Part) → slice_get (document_parts c) n ≡ Some p → (h : NodeLines) (f : FoundLine) → IsEntryAt above s (part_outline p) h f →
+    part_removed n c (last_step (above ++ (s ∷ []))) ≡ None
+no_part c n above s p at h f entry =
+    let none : flow_collection n above c ≡ None =
+    ap (λ (o : Option Part). o >>= λ p. find_head above (part_outline p) >>= λ y. line_collection (document_row n c) c p.rows (length (lines_before y.0.place)) y.1) at
+    ∙ ap (λ (o : Option Reached). o >>= λ y. line_collection (document_row n c) c p.rows (length (lines_before y.0.place)) y.1) (none_headed above (part_outline p) h entry.place_is entry.block) in
+    ap (part_removed n c) (last_is above s) ∙ ap (λ (o : Option CollPieces). o >>= flow_removed (cut_text c) s) none
 
 -- ---- seams in another column
 
@@ -75,17 +85,17 @@ other_column (Some b) i j kept m h = go (hold_comment (text_lines kept)) m h
 
 -- ---- the operation
 
-module _ (c : Cut) (n : ℕ) (above : List Step) (s : Step) (least next : Option ℕ) (keep : ℕ) (tail : List ℕ) (run : IsRowRemovalRun c n above least keep tail) (read : read_at (cut_text c) ≡ Some c)
+module _ (c : Cut) (n : ℕ) (above : List Step) (s : Step) (z : ChangedRows) (next : Option ℕ) (keep : ℕ) (tail : List ℕ) (run : IsRowRemovalRun c n z keep tail) (read : read_at (cut_text c) ≡ Some c)
     (d : PlacedPart) (placed : placed_document n c ≡ Some d) (x : OwnRows) (own : own_rows (above ++ (s ∷ [])) d.part.rows ≡ Some x) (short : length (rows_out d x).before + length (rows_out d x).gone ≤ keep)
-    (others : has_others_at n (above ++ (s ∷ [])) run.cut ≡ true) (stays : StaysAt (rows_out d x).seam next) (low : IsLeast least (rows_out d x).gap next) where
+    (others : has_others_at n (above ++ (s ∷ [])) run.cut ≡ true) (stays : StaysAt (rows_out d x).seam next) (low : IsLeast z.least (rows_out d x).gap next) where
   abbrev steps : List Step
   steps = above ++ (s ∷ [])
 
   abbrev pub now : List ℕ
   now = take keep (cut_text c) ++ tail
 
-  abbrev pub there : IsPlacedBefore d x run.cut n steps least
-  there = run.stays s d x placed own short
+  abbrev pub there : IsPlacedBefore d x run.cut n steps z (document_row n c)
+  there = run.stays above s d x placed own short
 
   -- what is taken out of the text as it is now
   abbrev pub out : Removal
@@ -131,7 +141,7 @@ module _ (c : Cut) (n : ℕ) (above : List Step) (s : Step) (least next : Option
   -- the gap stays as it is
   pub low_now : (m : ℕ) → next ≡ Some m → AreLow m (text_lines out.gap)
   low_now m is =
-      let h : IsLeast least (rows_out d x).gap (Some m) = subst (IsLeast least (rows_out d x).gap) is low in
+      let h : IsLeast z.least (rows_out d x).gap (Some m) = subst (IsLeast z.least (rows_out d x).gap) is low in
       let stay : StayLow (Some h.0) (rows_out d x).gap out.gap = subst (λ (o : Option ℕ). StayLow o (rows_out d x).gap out.gap) h.1 there.low in
       stay m h.2 h.3
 
@@ -145,11 +155,8 @@ module _ (c : Cut) (n : ℕ) (above : List Step) (s : Step) (least next : Option
 
   no_flow : part_removed n run.cut (last_step steps) ≡ None
   no_flow =
-      let e = (has (cut_text run.cut) run.cut n there.now.part above s (record x { back = there.back }) old_now there.own).entry in
-      let none : flow_collection n above run.cut ≡ None =
-      ap (λ (o : Option Part). o >>= λ p. find_head above (part_outline p) >>= λ y. line_collection (document_row n run.cut) run.cut p.rows (length (lines_before y.0.place)) y.1) old_now.there
-      ∙ ap (λ (o : Option Reached). o >>= λ y. line_collection (document_row n run.cut) run.cut there.now.part.rows (length (lines_before y.0.place)) y.1) (none_headed above (part_outline there.now.part) _ e.place_is e.block) in
-      ap (part_removed n run.cut) (last_is above s) ∙ ap (λ (o : Option CollPieces). o >>= flow_removed (cut_text run.cut) s) none
+      let w = has (cut_text run.cut) run.cut n there.now.part above s (record x { back = there.back }) old_now there.own in
+      no_part run.cut n above s there.now.part old_now.there w.h w.f w.entry
 
   edits : op_edits (remove n steps) run.cut ≡ Some (rows_removed out)
   edits =

@@ -25,7 +25,7 @@ use Rattle.yq_places.proofs.UnderExchange.{lines_append}
 use Rattle.yq_semantics.{specs.Fits.Fits, specs.Operations.remove, specs.Rooms.room_of}
 use Rattle.yq_edit_laws.proofs.RemovingLaws.{may_take}
 use Rattle.yq_batch.{specs.RemovalRuns.text_exchanged, specs.RowRemovals.{AreLow, IsLeast, IsRowRemovalRun, StaysAt}}
-use Rattle.yq_batch.proofs.EntryRemains.{has}
+use Rattle.yq_batch.{specs.declared.changed_rows.ChangedRows.ChangedRows, proofs.EntryRemains.has}
 use Rattle.yq_batch.proofs.RowsTaken.{finish, left_is, low_now, now, old_now, out, place, read_now, seam_stays, small, start, there}
 
 -- ---- gaps that stay
@@ -95,21 +95,21 @@ placed_put c k p q there keeps =
 
 -- ---- the next cut
 
-module _ (c : Cut) (n : ℕ) (above : List Step) (s : Step) (least next : Option ℕ) (keep : ℕ) (tail : List ℕ) (run : IsRowRemovalRun c n above least keep tail) (read : read_at (cut_text c) ≡ Some c)
+module _ (c : Cut) (n : ℕ) (above : List Step) (s : Step) (z : ChangedRows) (next : Option ℕ) (keep : ℕ) (tail : List ℕ) (run : IsRowRemovalRun c n z keep tail) (read : read_at (cut_text c) ≡ Some c)
     (d : PlacedPart) (placed : placed_document n c ≡ Some d) (x : OwnRows) (own : own_rows (above ++ (s ∷ [])) d.part.rows ≡ Some x) (short : length (rows_out d x).before + length (rows_out d x).gone ≤ keep)
-    (others : has_others_at n (above ++ (s ∷ [])) run.cut ≡ true) (stays : StaysAt (rows_out d x).seam next) (low : IsLeast least (rows_out d x).gap next)
+    (others : has_others_at n (above ++ (s ∷ [])) run.cut ≡ true) (stays : StaysAt (rows_out d x).seam next) (low : IsLeast z.least (rows_out d x).gap next)
     (fits : Fits (room_of (cut_text run.cut)) (remove n (above ++ (s ∷ []))) (documents run.cut)) where
   abbrev now_part : PlacedPart
-  now_part = (there c n above s least next keep tail run read d placed x own short others stays low).now
+  now_part = (there c n above s z next keep tail run read d placed x own short others stays low).now
 
   abbrev back : List Row
-  back = (there c n above s least next keep tail run read d placed x own short others stays low).back
+  back = (there c n above s z next keep tail run read d placed x own short others stays low).back
 
   abbrev y : OwnRows
   y = record x { back = back }
 
   abbrev gone : Removal
-  gone = out c n above s least next keep tail run read d placed x own short others stays low
+  gone = out c n above s z next keep tail run read d placed x own short others stays low
 
   -- the part without these rows
   abbrev pub q : Part
@@ -122,34 +122,34 @@ module _ (c : Cut) (n : ℕ) (above : List Step) (s : Step) (least next : Option
   mended_is = go next refl gone.seam refl
     where
       stay : StaysAt gone.seam next
-      stay = seam_stays c n above s least next keep tail run read d placed x own short others stays low
+      stay = seam_stays c n above s z next keep tail run read d placed x own short others stays low
 
       go : (m : Option ℕ) → next ≡ m → (o : Option Seam) → gone.seam ≡ o → mended gone.seam gone.gap ≡ gone.gap
       go m e None is = ap (λ (o : Option Seam). mended o gone.gap) is
       go None e (Some k) is = absurd (subst (λ (o : Option Seam). StaysAt o None) is (subst (StaysAt gone.seam) e stay))
-      go (Some m) e (Some k) is = gap_same gone.seam m gone.gap (subst (StaysAt gone.seam) e stay) (low_now c n above s least next keep tail run read d placed x own short others stays low m e)
+      go (Some m) e (Some k) is = gap_same gone.seam m gone.gap (subst (StaysAt gone.seam) e stay) (low_now c n above s z next keep tail run read d placed x own short others stays low m e)
 
   size : length (gone.before ++ (mended gone.seam gone.gap ++ gone.after)) ≤ text_limit
-  size = subst (λ (g : List ℕ). length (gone.before ++ (g ++ gone.after)) ≤ text_limit) (sym mended_is) (small c n above s least next keep tail run read d placed x own short others stays low)
+  size = subst (λ (g : List ℕ). length (gone.before ++ (g ++ gone.after)) ≤ text_limit) (sym mended_is) (small c n above s z next keep tail run read d placed x own short others stays low)
 
   abbrev old : IsDocumentPart (cut_text run.cut) run.cut n now_part.part
-  old = old_now c n above s least next keep tail run read d placed x own short others stays low
+  old = old_now c n above s z next keep tail run read d placed x own short others stays low
 
   abbrev w : HasOwnRows now_part.part above s y
-  w = has (cut_text run.cut) run.cut n now_part.part above s y old (there c n above s least next keep tail run read d placed x own short others stays low).own
+  w = has (cut_text run.cut) run.cut n now_part.part above s y old (there c n above s z next keep tail run read d placed x own short others stays low).own
 
   abbrev may : MayTakeOut run.cut n (above ++ (s ∷ []))
   may = may_take n (above ++ (s ∷ [])) run.cut others fits
 
   text_q : cut_text next_cut ≡ gone.before ++ (mended gone.seam gone.gap ++ gone.after)
   text_q =
-      let st = document_is_there_at run.cut n now_part (there c n above s least next keep tail run read d placed x own short others stays low).placed in
+      let st = document_is_there_at run.cut n now_part (there c n above s z next keep tail run read d placed x own short others stays low).placed in
       st.put q ∙ new_text now_part y
 
   readable : IsReadable (cut_text next_cut)
   readable =
-      let taken = entry_taken run.cut n (above ++ (s ∷ [])) gone (read_now c n above s least next keep tail run read d placed x own short others stays low)
-      (place c n above s least next keep tail run read d placed x own short others stays low) may size in
+      let taken = entry_taken run.cut n (above ++ (s ∷ [])) gone (read_now c n above s z next keep tail run read d placed x own short others stays low)
+      (place c n above s z next keep tail run read d placed x own short others stays low) may size in
       let piece : IsPiece (cut_text next_cut) = subst IsPiece (taken.0.text ∙ sym text_q) (text_is_piece (put_document n taken.0.new run.cut) taken.0.changed.read) in
       record {
         utf8 = is_utf8-from_IsUtf8 (cut_text next_cut) piece.utf8;
@@ -166,9 +166,9 @@ module _ (c : Cut) (n : ℕ) (above : List Step) (s : Step) (least next : Option
   pub read_next : read_at (cut_text next_cut) ≡ Some next_cut
   read_next = went.0.read
 
-  pub text_next : cut_text next_cut ≡ text_exchanged (now c n above s least next keep tail run read d placed x own short others stays low)
-      (start c n above s least next keep tail run read d placed x own short others stays low) (finish c n above s least next keep tail run read d placed x own short others stays low) []
-  text_next = text_q ∙ (ap (λ (g : List ℕ). gone.before ++ (g ++ gone.after)) mended_is ∙ sym (left_is c n above s least next keep tail run read d placed x own short others stays low))
+  pub text_next : cut_text next_cut ≡ text_exchanged (now c n above s z next keep tail run read d placed x own short others stays low)
+      (start c n above s z next keep tail run read d placed x own short others stays low) (finish c n above s z next keep tail run read d placed x own short others stays low) []
+  text_next = text_q ∙ (ap (λ (g : List ℕ). gone.before ++ (g ++ gone.after)) mended_is ∙ sym (left_is c n above s z next keep tail run read d placed x own short others stays low))
 
   -- the lines of the rows after those that go stay
   pub back_same : lines_of_rows (with_first_gap (left_gap x.front x.own back now_part.part) back) ≡ lines_of_rows back

@@ -9,6 +9,7 @@ pub mod RemovalRuns
 pub mod LeftItems
 pub mod LeftPlaces
 pub mod RowRemovals
+pub mod EmptiedRows
 pub mod Slots
 pub mod OpenRuns
 pub mod KeptBreaks

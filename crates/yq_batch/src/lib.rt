@@ -5,6 +5,8 @@ mod adding;
 mod any_order;
 mod any_row;
 mod change;
+mod changed_rows;
+mod emptied_rows;
 mod gone;
 mod head;
 mod heads;

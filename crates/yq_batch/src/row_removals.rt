@@ -1,5 +1,5 @@
-//! Items and entries that an update takes out of one block collection with their lines, one before the other:
-//! they are carried out together, on the rows as they were read.
+//! Items and entries that an update takes out of block collections with their lines, one before the other: they are
+//! carried out together, on the rows as they were read.
 ghost use Rattle.std.specs.Prelude.{◌≡◌, true, map, option_map, IfErr, IfOk, IfSome, IsTrue, None};
 ghost use Rattle.yq_core.specs.Entries.{tree_step};
 ghost use Rattle.yq_text.specs.TextGapBuffer.{buffer_text};
@@ -11,6 +11,8 @@ ghost use Rattle.yq_batch.{specs.Together.CarriesFirst, specs.Under.CarriesUnder
 ghost use Rattle.yq_batch.specs.RowRemovals as spec;
 
 use crate::change::are_same_steps;
+use crate::changed_rows::ChangedRows;
+use crate::emptied_rows::empty_rows;
 use crate::removals::{RemovalRun, ended, exchange, untouched};
 use crate::together::Together;
 use crate::under::{go_to, lead_on, path_to, placed};
@@ -39,21 +41,27 @@ fn takes_from(op: &Op, doc: usize, above: &[Step]) -> bool
     are_same_steps(steps, above)
 }
 
-/// The first of some operations, if it takes an item or entry out of the collection at some steps, and the next one
-/// another one.
-fn taken_beside<'o>(ops: &'o [Op], doc: usize, above: &[Step]) -> Option<&'o Op>
-    ensures { IfSome result (λ op. spec.TakesFirst ops.now doc (map tree_step above.now) op.now) }
+/// The first of some operations, if it takes an item or entry out of a collection of a document, and whether the next
+/// one takes another one out of that.
+fn taken_first<'o>(ops: &'o [Op], doc: usize) -> Option<(&'o Op, bool)>
+    ensures { IfSome result (λ x. spec.TakesFirst ops.now doc x.0.now x.1) }
 {
-    let [op, next, ..] = ops else {
+    let [op, ..] = ops else {
         return None;
     };
-    if !takes_from(op, doc, above) {
+    let Op::Remove(path) = op else {
+        return None;
+    };
+    let Some((above, _)) = last_step(&path.steps) else {
+        return None;
+    };
+    if path.doc != doc {
         return None;
     }
-    if !takes_from(next, doc, above) {
-        return None;
-    }
-    Some(op)
+    let [_, next, ..] = ops else {
+        return Some((op, false));
+    };
+    Some((op, takes_from(next, doc, above)))
 }
 
 /// Whether only spaces are in front of the break of a blank line, and no tab after the spaces in front of a
@@ -104,16 +112,16 @@ fn stays_at(seam: Option<Seam>, least: Option<usize>) -> bool
     }
 }
 
-/// Carries out the removal of an item or entry on the text of a run, if its lines are before those that were
-/// taken out, and nothing else changes; and reports which indentation the gap after it then asks for.
+/// Carries out the removal of an item or entry beside others on the text of a run, if its lines are before those that
+/// were changed, and nothing else changes; and reports which rows are changed then.
 fn take_rows(
     alloc: Global,
     cut: &CutText<'_, '_>,
     path: &Path,
-    least: Option<usize>,
+    from: ChangedRows,
     run: &mut RemovalRun,
-) -> Result<Option<Option<usize>>, ExprError>
-    requires run { spec.RemovesBeside path.now (cut_of cut.now) least run.old }
+) -> Result<Option<ChangedRows>, ExprError>
+    requires run { spec.RemovesRows (cut_of cut.now) path.now.doc from run.old }
     requires others { spec.HasOthersNow path.now.doc (steps_of path.now)
         (buffer_text run.old.text) }
     requires fits { IsFitting (spec.removal_of path.now) (buffer_text run.old.text) }
@@ -125,26 +133,58 @@ fn take_rows(
     let Some(removal) = cut.removal(path) else {
         return Ok(None);
     };
+    let Some((_, first, stop)) = cut.own(path) else {
+        return Ok(None);
+    };
     let start = removal.before.len();
     let end = start + removal.gone.len();
-    let next = least_for(removal.gap, least);
+    let next = least_for(removal.gap, from.least);
     if end > run.keep || !stays_at(removal.seam, next) {
         return Ok(None);
     }
     is_text(removal.before);
     is_text(removal.gone);
     exchange(alloc, run, start, end, "")?;
-    Ok(Some(next))
+    let stop = from.stop_after(stop);
+    Ok(Some(ChangedRows {
+        least: next,
+        first,
+        stop,
+    }))
 }
 
-/// Carries out operations at and below a node that take items and entries out of a collection with their lines, one
-/// before the other, up to the first one that doesn't, or after which none of these follows. First come the steps to
-/// the node; the collection is that of a document to which others lead on from there.
+/// The same of one at a path that is beside others, or of a sole one, in the place of whose collection an empty one comes.
+fn take_out(
+    alloc: Global,
+    cut: &CutText<'_, '_>,
+    taken: (&Path, bool),
+    from: ChangedRows,
+    run: &mut RemovalRun,
+) -> Result<Option<ChangedRows>, ExprError>
+    requires run { spec.RemovesRows (cut_of cut.now) taken.0.now.doc from run.old }
+    requires others { spec.HasOthersIf taken.1 taken.0.now
+        (buffer_text run.old.text) }
+    requires fits { IsFitting (spec.removal_of taken.0.now) (buffer_text run.old.text) }
+    ensures ok { IfOk result (spec.GoesOnAfter taken.entry.0.now (cut_of cut.now) run.old
+        run.new) }
+    ensures stays { IfOk result (λ o. o ≡ None → run.new ≡ run.old) }
+    ensures err { IfErr result (λ e. spec.FailsOn e (spec.removal_of taken.entry.0.now) run.old) }
+{
+    let (path, beside) = taken;
+    if beside {
+        take_rows(alloc, cut, path, from, run)
+    } else {
+        empty_rows(alloc, cut, path, from, run)
+    }
+}
+
+/// Carries out operations at and below a node that take items and entries out of block collections of a document with
+/// their lines, one before the other, up to the first one that doesn't. First come the steps to the node.
 pub(crate) fn remove_under<'d, 'o: 'd>(
     alloc: Global,
     cut: &CutText<'d, '_>,
     front: &[Step],
-    from: (usize, &[Step]),
+    doc: usize,
     ops: &'o [Op],
 ) -> Result<Together<'o>, ExprError>
     requires { AreServed (ops_under front.now ops.now) cut.now }
@@ -152,23 +192,26 @@ pub(crate) fn remove_under<'d, 'o: 'd>(
     ensures err { IfErr result (λ e. EditFails e
         (carry_all (ops_under front.now ops.now) cut.now)) }
 {
-    let (doc, above) = from;
     let mut way = cut.again();
     let mut run = untouched(alloc, cut.text())?;
     let mut path = path_to(alloc, front)?;
-    let mut least = Some(0);
+    let mut changed = ChangedRows {
+        least: Some(0),
+        first: usize::MAX,
+        stop: usize::MAX,
+    };
     let mut rest = ops;
     'operations: while let [_, after @ ..] = rest {
-        let Some(op) = taken_beside(rest, doc, above) else {
+        let Some((op, beside)) = taken_first(rest, doc) else {
             return Ok(ended(run, rest));
         };
         lead_on(alloc, front, &mut path, op)?;
         let at = placed(front, &path, op);
         go_to(alloc, &mut way, at);
-        let Some(next) = take_rows(alloc, &way, at.path, least, &mut run)? else {
+        let Some(next) = take_out(alloc, &way, (at.path, beside), changed, &mut run)? else {
             return Ok(ended(run, rest));
         };
-        least = next;
+        changed = next;
         rest = after;
     }
     Ok(ended(run, rest))
@@ -179,22 +222,12 @@ pub(crate) fn remove_under<'d, 'o: 'd>(
 pub(crate) fn remove_rows<'d, 'o: 'd>(
     alloc: Global,
     cut: &CutText<'d, '_>,
-    from: (usize, &[Step]),
+    doc: usize,
     ops: &'o [Op],
 ) -> Result<Together<'o>, ExprError>
     requires { AreServed (operations_of ops.now) cut.now }
     ensures ok { IfOk result (CarriesFirst ops.now cut.now) }
     ensures err { IfErr result (λ e. EditFails e (carry_all (operations_of ops.now) cut.now)) }
 {
-    remove_under(alloc, cut, &[], from, ops)
-}
-
-/// The steps to the collection out of which an operation takes what is at a path, if the next one takes something out of
-/// it too.
-pub(crate) fn common_collection<'o>(path: &'o Path, next: &Op) -> Option<&'o [Step]> {
-    let (above, _) = last_step(&path.steps)?;
-    if !takes_from(next, path.doc, above) {
-        return None;
-    }
-    Some(above)
+    remove_under(alloc, cut, &[], doc, ops)
 }

@@ -10,7 +10,7 @@ use crate::head::{FoundHead, HeadInText, head_for, is_in_head};
 use crate::heads::put_in_heads;
 use crate::in_rows::{carry_in_rows, put_under};
 use crate::removals::remove_each;
-use crate::row_removals::{common_collection, remove_rows, remove_under};
+use crate::row_removals::{remove_rows, remove_under};
 use std::alloc::{AllocError, Global};
 use yq_core::Step;
 use yq_lookup::CutText;
@@ -32,8 +32,8 @@ pub(crate) enum HowCarried<'o, 't> {
     InHeads(FoundHead<'o, 't>),
     /// They take items and entries out of the flow collections of a head.
     OutOfHead(FoundHead<'o, 't>),
-    /// The first ones take lines out of the block collection at steps of a document.
-    OutOfRows(usize, &'o [Step]),
+    /// The first ones take lines out of block collections of a document.
+    OutOfRows(usize),
     /// Each changes one row.
     InRows,
     /// They put values in rows of a mapping, and entries at its end.
@@ -86,16 +86,13 @@ fn how_in_rows<'o, 't>(ops: &[Op]) -> Option<HowCarried<'o, 't>>
 fn how_outside<'o, 't>(ops: &'o [Op]) -> Option<HowCarried<'o, 't>>
     ensures { (t : List ℕ) → IfSome result (spec.IsHow t) }
 {
-    let [first, next, ..] = ops else {
+    let [first, _, ..] = ops else {
         return None;
     };
     let Op::Remove(path) = first else {
         return how_in_rows(ops);
     };
-    let Some(above) = common_collection(path, next) else {
-        return None;
-    };
-    Some(HowCarried::OutOfRows(path.doc, above))
+    Some(HowCarried::OutOfRows(path.doc))
 }
 
 /// How operations are carried out together, if they may be.
@@ -157,9 +154,7 @@ pub fn carry_together<'d, 'o: 'd>(
     match how {
         HowCarried::InHeads(head) => put_in_heads(alloc, cut, head, ops),
         HowCarried::OutOfHead(head) => remove_in_head(alloc, cut, head, ops),
-        HowCarried::OutOfRows(doc, above) => {
-            Ok(Some(remove_rows(alloc, cut, (doc, above), ops)?))
-        }
+        HowCarried::OutOfRows(doc) => Ok(Some(remove_rows(alloc, cut, doc, ops)?)),
         HowCarried::InRows => carry_in_rows(alloc, cut, ops),
         HowCarried::InMapping => Ok(carry_in_any_row(alloc, cut, ops)?),
     }
@@ -179,9 +174,7 @@ pub fn carry_under<'d, 'o: 'd>(
         (carry_all (ops_under front.now ops.now) cut.now)) }
 {
     match how_outside(ops) {
-        Some(HowCarried::OutOfRows(doc, above)) => {
-            Ok(Some(remove_under(alloc, cut, front, (doc, above), ops)?))
-        }
+        Some(HowCarried::OutOfRows(doc)) => { Ok(Some(remove_under(alloc, cut, front, doc, ops)?)) }
         Some(HowCarried::InRows) => put_under(alloc, cut, front, ops),
         _ => Ok(None),
     }

@@ -124,6 +124,12 @@ module _ (n : ℕ) (s : Step) (ss : List Step) (c : Cut) (e : RowsOfEntry) (ther
     nothing_carried : length (new_text us) ≤ text_limit → CarriedOut (replace n (s ∷ ss) v) c us
     nothing_carried = head_carried (put_core for.node left) (content_beside n s ss c h v for.node for.is left held_is) text_with
 
+    -- after it the row has another content
+    pub nothing_made : length (new_text us) ≤ text_limit → RowMade n c e there.part us v
+    nothing_made size =
+        let is = content_beside n s ss c h v for.node for.is left held_is in
+        record { content = put_core for.node left; headed = is.head; read = head_made n s ss c e there last k br v f t for (put_core for.node left) is text_with size }
+
   -- ---- where a node is written
 
   module _ (some : is_empty (slices e.row).head ≡ false) (block : is_block e.row.content ≡ false) where

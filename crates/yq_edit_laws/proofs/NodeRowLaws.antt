@@ -118,13 +118,16 @@ module _ (doc : ℕ) (s : Step) (ss : List Step) (c : Cut) (h : NodeRows doc s s
   pub entry : is_entry h.mark.mark ≡ true
   entry = search (rules, line_is, found_is_entry, even)
 
+  -- the next row begins no deeper
+  pub next_begins : Begins (level h.found.line) (lines_of_rows h.back)
+  next_begins =
+      let begins : (ls : List Line) → StartsAt (level h.found.line) ls → Begins (level h.found.line) ls = λ ls s. search rules in
+      subst (Begins (level h.found.line)) (sym parts.2) (begins _ (found_starts (lines_of_rows h.p.rows) s ss [] h.found h.is fine))
+
   -- the next row is where no further line of what is after the mark does
   pub near : allows_first (record { column = Some (suc (mark_column h.mark)) }) h.back ≡ true
   unfolding level
-  near =
-      let begins : (ls : List Line) → StartsAt (level h.found.line) ls → Begins (level h.found.line) ls = λ ls s. search rules in
-      let starts : Begins (level h.found.line) (lines_of_rows h.back) = subst (Begins (level h.found.line)) (sym parts.2) (begins _ (found_starts (lines_of_rows h.p.rows) s ss [] h.found h.is fine)) in
-      next_by (level h.found.line) (suc (mark_column h.mark)) h.back starts (omega (arith, ap level line_is, rank_high (line_mark h.mark.mark)))
+  near = next_by (level h.found.line) (suc (mark_column h.mark)) h.back next_begins (omega (arith, ap level line_is, rank_high (line_mark h.mark.mark)))
     where
       rank_high : (m : outline.LineMark) → outline.rank m ≤ 3
       rank_high outline.Bare = omega arith

@@ -1,3 +1,4 @@
+pub mod HeldRows
 pub mod Knowledge
 pub mod KnownDocuments
 pub mod PartNodes

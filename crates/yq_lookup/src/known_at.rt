@@ -6,7 +6,7 @@ ghost use Rattle.yq_outline.specs.RowWalk.{AreKnown};
 ghost use Rattle.yq_places.specs.RowWalk.{StayKnown};
 ghost use Rattle.yq_row_walk.specs.Walk.{IsKnownLine, IsLineAbove};
 ghost use Rattle.yq_lookup.{specs.Knowledge.{KnowledgeStays, SearchesStay}, specs.KnownDocuments.DocumentsStay, specs.PathLines.IsLineOf};
-ghost use Rattle.yq_places.specs.PlacementViews as row_agrees;
+ghost use Rattle.yq_places.specs.PlacementViews as views;
 
 use crate::cut_text::CutText;
 use crate::knowledge::{Knowledge, StepSearches, searches_before};
@@ -107,7 +107,7 @@ impl<'d, 't> CutText<'d, 't> {
     /// then on it is known what is on the way of the path.
     pub fn to_held_row(&mut self, alloc: Global, path: &Path) -> Option<HeldRow<'t>>
         ensures same { self.new ≡ self.old }
-        ensures row { IfSome result (row_agrees.IsHeldRow path.now.doc (steps_of path.now)
+        ensures row { IfSome result (views.IsHeldRow path.now.doc (steps_of path.now)
             (cut_of self.old)) }
     {
         self.to_document(path.doc);
@@ -128,7 +128,7 @@ impl<'d, 't> CutText<'d, 't> {
     ) -> (Option<HeldRow<'t>>, Option<KnownLine<'p>>)
         requires { AreKnown (rows_view (cut_of self.now)).rows known.old.items }
         ensures known { AreKnown (rows_view (cut_of self.now)).rows known.new.items }
-        ensures row { IfSome result.0 (row_agrees.IsHeldRow path.now.doc (steps_of path.now)
+        ensures row { IfSome result.0 (views.IsHeldRow path.now.doc (steps_of path.now)
             (cut_of self.now)) }
         ensures above { IfSome result.1 (IsLineAbove (rows_view (cut_of self.now))) }
     {

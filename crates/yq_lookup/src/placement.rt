@@ -1,7 +1,8 @@
 //! What is in a text where paths lead, outside flow collections: at items, entries and roots, with the lines above them.
-ghost use Rattle.std.specs.Prelude.{◌≡◌, [], IfSome, option_map};
+ghost use Rattle.std.specs.Prelude.{◌≡◌, [], IfSome, map, option_map};
+ghost use Rattle.yq_core.specs.Entries.{tree_step};
 ghost use Rattle.yq_documents.{specs.Located.steps_of, specs.Reading.cut_of};
-ghost use Rattle.yq_lookup.specs.PathLines.{IsLineOf};
+ghost use Rattle.yq_lookup.{specs.HeldRows.IsHeldUpto, specs.PathLines.IsLineOf};
 ghost use Rattle.yq_places.specs.CommentPlaces as comments;
 ghost use Rattle.yq_places.specs.RootReading as roots;
 ghost use Rattle.yq_places.specs.PlacementReading as reading;
@@ -10,6 +11,7 @@ ghost use Rattle.yq_places.specs.PlacementViews as row_agrees;
 
 use crate::cut_text::CutText;
 use crate::known_document::part_from;
+use yq_core::Step;
 use yq_documents::{Path, rows_to};
 use yq_outline::Position;
 use yq_places::{
@@ -75,14 +77,46 @@ impl<'t> CutText<'_, 't> {
         }
     }
 
+    /// The rows of the item or entry to which steps lead in document `doc`.
+    #[inline(always)]
+    fn entry_at(&self, doc: usize, steps: &[Step]) -> Option<RowsOfEntry>
+        ensures { option_map reading.as_numbers result ≡
+            reading.numbers_at doc (map tree_step steps.now) (cut_of self.now) }
+    {
+        let walk = self.walk(doc)?;
+        entry_along(&walk, steps)
+    }
+
     /// The rows of the item or entry at a path.
     #[inline(always)]
     pub(crate) fn entry(&self, path: &Path) -> Option<RowsOfEntry>
         ensures { option_map reading.as_numbers result ≡
             reading.numbers_at path.now.doc (steps_of path.now) (cut_of self.now) }
     {
-        let walk = self.walk(path.doc)?;
-        entry_along(&walk, &path.steps)
+        self.entry_at(path.doc, &path.steps)
+    }
+
+    /// The rows of the item or entry to which steps lead in document `doc`, with its key or dash and what that would
+    /// hold if the rows under it ended before row `end`, if its line is the last one of its row.
+    pub fn held_upto(
+        &self,
+        doc: usize,
+        steps: &[Step],
+        end: usize,
+    ) -> Option<(RowsOfEntry, Held<'t>)>
+        ensures { IfSome result (λ x. IsHeldUpto doc (map tree_step steps.now) (cut_of self.now) end
+            x.0 (row_agrees.held_view x.1)) }
+    {
+        let text = self.whole();
+        let entry = self.entry_at(doc, steps)?;
+        if entry.dashes != entry.line {
+            return None;
+        }
+        if end <= entry.row || end > entry.end {
+            return None;
+        }
+        let upto = RowsOfEntry { end, ..entry };
+        Some((entry, held_in(self.rows(), text, upto)))
     }
 
     /// The key or dash of the item or entry at a path, with what it holds, if its line is the last one

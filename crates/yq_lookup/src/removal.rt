@@ -14,7 +14,7 @@ use yq_text::Halves;
 impl<'t> CutText<'_, 't> {
     /// Where the rows of the item or entry at a path begin and end, after where those of its document
     /// begin.
-    fn own(&self, path: &Path) -> Option<(usize, usize, usize)>
+    pub fn own(&self, path: &Path) -> Option<(usize, usize, usize)>
         ensures { option_map (λ m. (m.0, m.1, m.2)) result ≡
             reading.mark_counts path.now.doc (steps_of path.now) (cut_of self.now) }
     {

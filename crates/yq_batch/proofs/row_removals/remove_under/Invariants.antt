@@ -1,6 +1,5 @@
-use Rattle.std.proofs.Common.{◌≡◌, ◌++◌, length, map}
+use Rattle.std.proofs.Common.{◌≡◌, length}
 use Rattle.yq_text.specs.TextGapBuffer.{buffer_text}
-use Rattle.yq_core.specs.Entries.{tree_step}
 use Rattle.yq_documents.specs.Reading.{cut_of}
 use Rattle.yq_edit_laws.{specs.Carried.carry_all, specs.Edit.edit_after, specs.Valid.AreServed}
 use Rattle.yq_semantics.specs.Under.{ops_under}
@@ -13,7 +12,7 @@ invariant-operations l = record {
   begins : BeginsWith l.fn.front l.path;
   whole : edit_after l.run.splices.items (carry_all (ops_under l.fn.front l.rest) (buffer_text l.run.text)) ≡ carry_all (ops_under l.fn.front l.fn.ops) l.fn.cut;
   serves : AreServed (ops_under l.fn.front l.rest) (buffer_text l.run.text);
-  runs : RemovesRows (cut_of l.fn.cut) l.doc (map tree_step l.fn.front ++ map tree_step l.above) l.least l.run;
+  runs : RemovesRows (cut_of l.fn.cut) l.fn.doc l.changed l.run;
 }
 
 abbrev pub decreases-operations : goal.decreases-operations
