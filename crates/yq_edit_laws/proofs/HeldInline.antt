@@ -128,7 +128,7 @@ module _ (n : ℕ) (s : Step) (ss : List Step) (c : Cut) (e : RowsOfEntry) (ther
     pub nothing_made : length (new_text us) ≤ text_limit → RowMade n c e there.part us v
     nothing_made size =
         let is = content_beside n s ss c h v for.node for.is left held_is in
-        record { content = put_core for.node left; headed = is.head; read = head_made n s ss c e there last k br v f t for (put_core for.node left) is text_with size }
+        record { content = put_core for.node left; headed = is.head; read = head_made (put_core for.node left) is text_with size }
 
   -- ---- where a node is written
 
