@@ -6,8 +6,8 @@ use Rattle.yq_core.{specs.Answers.◌>>=◌, specs.Paths.Step, proofs.Bools.bind
 use Rattle.yq_outline.{specs.Ends.line_at_steps, specs.Lines.{lines_of_rows, row_lines}, specs.Outline.Line}
 use Rattle.yq_row_table.specs.Rows.{Row}
 use Rattle.yq_documents.specs.LinesInRows.{RowLine, one_row_later, row_line, row_line_of}
-use Rattle.yq_places.{proofs.PlacedPartLaws.map_some, proofs.UnderExchange.lines_append}
-use Rattle.yq_batch.{proofs.OwnRowsStay.row_size, proofs.RowsBeforeOffset.split_front, proofs.UptoLaws.line_stays}
+use Rattle.yq_places.{proofs.PlacedPartLaws.map_some, proofs.UnderExchange.lines_append, proofs.UptoLaws.line_stays}
+use Rattle.yq_batch.{proofs.OwnRowsStay.row_size, proofs.RowsBeforeOffset.split_front}
 
 -- ---- lists in two parts in two ways
 

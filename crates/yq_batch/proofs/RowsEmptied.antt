@@ -31,7 +31,7 @@ use Rattle.yq_edit_rules.{specs.DocumentRows.IsDocumentPart, proofs.PlacedPartLa
 use Rattle.yq_flow_edits.specs.Valued.{IsValueTree}
 use Rattle.yq_semantics.{specs.Fits.Fits, specs.Operations.{remove, replace}, specs.Rooms.room_of}
 use Rattle.yq_edit_laws.{proofs.CutLaws.{cut_read, text_read}, proofs.HeldInline.{RowMade, nothing_made}}
-use Rattle.yq_edit_laws.{proofs.HeldKnown.{KnowsHeld, first_alone}, proofs.HeldRows.held_known, proofs.SoleLaws.{empty_value, sole_fits}}
+use Rattle.yq_edit_laws.{proofs.HeldCarried.{KnowsHeld, first_alone}, proofs.HeldRows.held_known, proofs.SoleLaws.{empty_value, sole_fits}}
 use Rattle.yq_edit_laws.{proofs.SoleParts.IsEmptiedBy, specs.Carried.{carried, carry_one}, specs.Edit.{by_reading, edit_of_segments, gives}}
 use Rattle.yq_batch.{specs.RemovalRuns.text_exchanged, specs.RowRemovals.{BeginAsLow, IsPlacedBefore, IsRowRemovalRun, stop_after}}
 use Rattle.yq_batch.{specs.declared.changed_rows.ChangedRows.ChangedRows, proofs.ChangedRowLaws.{from_back, stop_lower}}

@@ -20,7 +20,7 @@ use Rattle.yq_edit_rules.{specs.RemovalChanges.HasOwnRows, specs.Siblings.{IsEnt
 use Rattle.yq_edit_rules.{proofs.NodeLineLaws.{Under, lines_even, lines_found}, proofs.PartLaws.document_known}
 use Rattle.yq_edit_rules.{proofs.PlacedPartLaws.document_is_there_at, proofs.PlacementMarks.{even_there, under_it}}
 use Rattle.yq_edit_rules.{proofs.PlacementRows.rows_located, proofs.UnderLaws.{line_is, line_with}}
-use Rattle.yq_edit_laws.{proofs.NodeRowLaws.next_begins, proofs.PlacementNodes.mark_node, proofs.SoleParts.IsEmptiedBy}
+use Rattle.yq_edit_laws.{proofs.NodeRowLaws.{next_begins, mark_node}, proofs.SoleParts.IsEmptiedBy}
 use Rattle.yq_batch.{proofs.EntryRemains.{back_lines, has, here as even_here, own_lines}, proofs.OwnRowsStay.row_size}
 use Rattle.yq_batch.proofs.RowFronts.{equal_parts, parts_by_lines}
 
