@@ -38,8 +38,11 @@ fn is_too_long(alloc: Global, session: &mut Session, text: &str, program: &Progr
     let Some(op) = ops.first() else {
         return false;
     };
-    if !matches!(session.apply(op), Err(ExprError::Fault(refused)) if refused.why() == Refusal::TooLarge)
-    {
+    let why = match session.apply(op) {
+        Err(ExprError::Fault(refused)) => refused.why(),
+        Ok(_) | Err(ExprError::Memory) => return false,
+    };
+    if why != Refusal::TooLarge {
         return false;
     }
     let halves = session.text();
