@@ -6,7 +6,8 @@ use Rattle.yq_documents.specs.LinesInRows.{document_row}
 use Rattle.yq_places.specs.Placements.{Held, RowsOfEntry, held, rows_of_entry}
 use Rattle.yq_places.specs.declared.places.rows_of_entry.RowsOfEntry as declared
 
--- Of the item or entry to which steps lead in document n the code has its rows, and what its key or dash would hold if the rows under it ended before a row; its line is the last one of its row.
+-- Of the item or entry to which steps lead in document n the code has its rows, and what its key or dash would hold if the rows under it
+-- ended before a row. Its line is the last one of its row.
 pub record IsHeldUpto (n : ℕ) (steps : List Step) (c : Cut) (end : ℕ) (m : declared.RowsOfEntry) (h : Held) : Type 0 where
   pub entry : RowsOfEntry
   pub found : rows_of_entry n steps c ≡ Some entry
