@@ -1,6 +1,6 @@
 -- Which rows a run of removals has changed, and how deep what comes there now begins.
-use Rattle.std.proofs.Common.{◌≡◌, ℕ, ◌+◌, ◌-◌, Bool, true, false, cond, eqb, List, [], ◌∷◌, ◌++◌, length, drop, sym, ap, ◌∙◌, subst}
-use Rattle.std.{proofs.Common.{append_assoc, arith, length-append, refl}, proofs.Math.Seq.drop-append_seam, proofs.lemmas.Bool.eqb-true}
+use Rattle.std.proofs.Common.{◌≡◌, ℕ, ◌+◌, ◌-◌, Bool, true, false, cond, eqb, List, ◌++◌, length, drop, sym, ap, ◌∙◌, subst, append_assoc}
+use Rattle.std.{proofs.Common.{arith, length-append, refl}, proofs.Math.Seq.drop-append_seam, proofs.lemmas.Bool.eqb-true}
 use Rattle.yq_outline.specs.Lines.{lines_of_rows}
 use Rattle.yq_row_table.specs.Rows.{Row}
 use Rattle.yq_edit_rules.specs.LineRows.{Begins}

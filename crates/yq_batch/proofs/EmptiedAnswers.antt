@@ -1,6 +1,6 @@
 -- Sole items and entries taken out of the text of a run, as the code finds them.
 use Rattle.std.proofs.Common.{◌≡◌, ℕ, suc, ◌+◌, ◌-◌, ◌≤◌, ◌<◌, false, cond, List, [], ◌∷◌, ◌++◌, length, length-take-le, take, drop, Option}
-use Rattle.std.proofs.Common.{Some, None, option_map, refl, sym, ap, ◌∙◌, subst, arith, append_assoc, length-append}
+use Rattle.std.proofs.Common.{Some, option_map, refl, sym, ap, ◌∙◌, subst, arith, append_assoc, length-append}
 use Rattle.std.{proofs.lemmas.Option.{none-some, same_Some, slice_get_within}, specs.List.slice_get, specs.Str.{IsCharBoundary, IsUtf8}}
 use Rattle.std.proofs.lemmas.Str.{IsCharBoundary-from_take, IsUtf8-append}
 use Rattle.yq_text.{specs.Limit.text_limit, specs.Script.splice_at, specs.Splice.Splice, specs.TextGapBuffer.buffer_text}
@@ -14,9 +14,9 @@ use Rattle.yq_places.{specs.CommentPlaces.end_in_line, specs.PlacedRows.{PlacedP
 use Rattle.yq_places.{specs.RowPieces.anchor_before, specs.Placements.{Held, RowsOfEntry, entry_rows_at, held, last_step}}
 use Rattle.yq_places.{specs.RemovalPlaces.{OwnRows, Removal, own_rows, removal_place, rows_out}, specs.RemovalReading.{mark_counts, marks}}
 use Rattle.yq_places.{proofs.PlacedPartLaws.map_some, proofs.RowLineSpans.steps_row}
-use Rattle.yq_edit_rules.{specs.PlacementLaws.held_text, proofs.PlacedPartLaws.document_is_there_at, proofs.PlacementRows.rows_located}
+use Rattle.yq_edit_rules.{specs.PlacementLaws.held_text, proofs.PlacedPartLaws.document_is_there_at}
 use Rattle.yq_lookup.specs.HeldRows.{IsHeldUpto}
-use Rattle.yq_semantics.{specs.Fits.Fits, specs.Operations.{Operation, remove}, specs.Rooms.room_of, specs.Judgement.ExprError}
+use Rattle.yq_semantics.{specs.Fits.Fits, specs.Operations.remove, specs.Rooms.room_of, specs.Judgement.ExprError}
 use Rattle.yq_edit_laws.{proofs.ApplyLaws.applied_by, proofs.CutLaws.{cut_read, text_read}, proofs.FlowSoundLaws.last_is}
 use Rattle.yq_edit_laws.{proofs.TextFaults.text_utf8, specs.Answers.EditFails, specs.Carried.carried, specs.Edit.gives}
 use Rattle.yq_edit_laws.specs.Theorems.{IsFitting}
@@ -25,7 +25,7 @@ use Rattle.yq_batch.specs.RemovalRuns.{ExchangeFails, HasExchanged, text_exchang
 use Rattle.yq_batch.specs.RowRemovals.{IsRowRemovalRun, RemovesRows, RemovesRowsOn, stop_after}
 use Rattle.yq_batch.{specs.declared.changed_rows.ChangedRows.ChangedRows, specs.declared.removals.RemovalRun.RemovalRun}
 use Rattle.yq_batch.{proofs.EmptiedTexts.emptied_is, proofs.RowFronts.equal_parts, proofs.RowRemovalAnswers.CanTake}
-use Rattle.yq_batch.{proofs.RowRunEmpties.{front_kept, goes_on, start_short}, proofs.RunEdits.fits_now}
+use Rattle.yq_batch.{proofs.RowRunEmpties.{front_kept, goes_on}, proofs.RunEdits.fits_now}
 use Rattle.yq_batch.specs.declared.emptied_rows.EmptiedPlace.{EmptiedPlace}
 use Rattle.yq_failure.specs.declared.failure.Failure.TheVariants as failure
 use Rattle.yq_places.specs.declared.places.rows_of_entry.RowsOfEntry as declared

@@ -1,5 +1,5 @@
 -- A text in one line in the place of the lines under a key or dash after which nothing is on its line.
-use Rattle.std.proofs.Common.{◌≡◌, ◌⊎◌, inl, inr, ℕ, ◌+◌, ◌≤◌, true, leb, cond, List, [], ◌∷◌, ◌++◌, length, drop, take, refl, sym, ap, ◌∙◌}
+use Rattle.std.proofs.Common.{◌≡◌, ◌⊎◌, inl, inr, ℕ, ◌+◌, ◌≤◌, true, cond, List, [], ◌∷◌, ◌++◌, length, drop, take, refl, sym, ap, ◌∙◌}
 use Rattle.std.{proofs.Common.{append_assoc, append-nil, arith, length-append}, proofs.Math.Seq.{take-append_seam, drop-append_seam}}
 use Rattle.std.proofs.lemmas.Bool.{le-leb}
 use Rattle.yq_core.{specs.Paths.{Step, To, Nth}, specs.declared.style.Place.TheVariants.Block as InBlock, specs.Nodes.node_text}

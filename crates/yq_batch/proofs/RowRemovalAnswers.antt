@@ -11,7 +11,7 @@ use Rattle.yq_documents.{specs.TreeEdits.change_nth, proofs.ReadLaws.parts_read,
 use Rattle.yq_places.{specs.PlacedRows.{PlacedPart, placed_document}, proofs.PlacedPartLaws.map_some}
 use Rattle.yq_places.specs.RemovalPlaces.{OwnRows, Removal, has_others_at, has_several, own_rows, removal_place, rows_out}
 use Rattle.yq_places.{specs.Placements.last_step, specs.RemovalReading.{mark_counts, marks}}
-use Rattle.yq_edit_rules.{proofs.PlacedPartLaws.document_is_there_at, proofs.RemovalChangeLaws.{removal_is_there, snoc, take_init}}
+use Rattle.yq_edit_rules.{proofs.PlacedPartLaws.document_is_there_at, proofs.RemovalChangeLaws.{removal_is_there, snoc}}
 use Rattle.yq_semantics.{specs.After.{after_op, done_to}, specs.Changes.Room, specs.Fits.Fits, specs.Rooms.room_of}
 use Rattle.yq_semantics.{specs.Operations.{Operation, remove}, specs.Under.{op_under, operation_under, ops_under}, specs.declared.op.Op.Op}
 use Rattle.yq_semantics.specs.Judgement.{ExprError}

@@ -1,10 +1,8 @@
 -- A run goes on after an empty collection came in the place of one of which one item or entry was left.
-use Rattle.std.proofs.Common.{◌≡◌, inl, inr, ℕ, suc, ◌+◌, ◌<◌, ◌≤◌, true, false, List, [], ◌∷◌, ◌++◌, length, length-take-le, take, Option}
-use Rattle.std.proofs.Common.{Some, option_map, refl, sym, ap, ◌∙◌, subst, arith, append_assoc, length-append}
-use Rattle.std.{proofs.lemmas.Bool.{cases_lt, false≢true}, proofs.lemmas.List.{append_cancel_left, take-append-le, take-take}}
-use Rattle.std.proofs.lemmas.Option.{same_Some}
-use Rattle.yq_core.{specs.Answers.◌>>=◌, specs.BlockWritten.break_text, specs.Paths.Step, specs.Text.{is_empty, text_lines}}
-use Rattle.yq_text.specs.Script.{new_text}
+use Rattle.std.proofs.Common.{◌≡◌, inl, inr, ℕ, suc, ◌+◌, ◌<◌, ◌≤◌, false, List, [], ◌∷◌, ◌++◌, length, length-take-le, take, Some, refl}
+use Rattle.std.{proofs.Common.{sym, ap, ◌∙◌, subst, arith, append_assoc, length-append}, proofs.lemmas.Bool.{cases_lt, false≢true}}
+use Rattle.std.{proofs.lemmas.List.{append_cancel_left, take-append-le, take-take}, proofs.lemmas.Option.same_Some}
+use Rattle.yq_core.{specs.BlockWritten.break_text, specs.Paths.Step, specs.Text.{is_empty, text_lines}}
 use Rattle.yq_outline.{specs.Comments.head_comment, specs.Lines.{lines_from, lines_of_rows}, specs.Outline.level}
 use Rattle.yq_row_table.{specs.Rows.{Content, Row, Part, Cut, cut_text, rows_text}, specs.Exchange.with_content, specs.Grammar.no_rows}
 use Rattle.yq_row_table.{specs.Splices.first_gap, proofs.seams.SeamLaws.rows_text-append, proofs.splices.SpliceTexts.own_gap}

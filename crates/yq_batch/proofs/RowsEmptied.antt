@@ -1,6 +1,6 @@
 -- The sole item or entry that is left of a block collection under a key or dash, taken out of the text of a run, before the lines that were.
-use Rattle.std.proofs.Common.{◌≡◌, ℕ, suc, ◌+◌, ◌-◌, ◌<◌, ◌≤◌, Bool, true, false, cond, eqb, List, [], ◌∷◌, ◌++◌, length, length-take-le}
-use Rattle.std.proofs.Common.{take, drop, Option, Some, None, option_map, refl, sym, ap, ◌∙◌, subst, arith, length-append}
+use Rattle.std.proofs.Common.{◌≡◌, ℕ, suc, ◌+◌, ◌-◌, ◌<◌, ◌≤◌, Bool, true, false, cond, List, [], ◌∷◌, ◌++◌, length, length-take-le, take}
+use Rattle.std.proofs.Common.{drop, Option, Some, None, option_map, refl, sym, ap, ◌∙◌, subst, arith, length-append}
 use Rattle.std.{proofs.lemmas.Bool.{eq-eqb, false≢true}, proofs.lemmas.List.take-append-le, proofs.lemmas.Option.same_Some}
 use Rattle.std.{specs.List.slice_get, specs.Option.option_or}
 use Rattle.yq_core.{specs.Answers.◌>>=◌, specs.BlockWritten.break_text, specs.Paths.{Step, To, Nth, node_at}, specs.Scalar.ScalarText}
@@ -9,8 +9,7 @@ use Rattle.yq_core.specs.declared.style.Place.TheVariants.{Block as InBlock}
 use Rattle.yq_text.{specs.Limit.text_limit, specs.Script.{Segment, new_text, splice_at}}
 use Rattle.yq_outline.{specs.Lines.lines_of_rows, specs.Outline.level}
 use Rattle.yq_row_table.{specs.Rows.{Content, Nothing, Inline, Block, Row, Part, Cut, cut_text, rows_text}, specs.Grammar.no_rows}
-use Rattle.yq_row_table.{specs.Splices.{after_first, first_gap}, specs.View.{content_cut, slices}, proofs.seams.SeamLaws.rows_text-append}
-use Rattle.yq_row_table.proofs.splices.SpliceTexts.{first_text}
+use Rattle.yq_row_table.{specs.View.{content_cut, slices}, proofs.seams.SeamLaws.rows_text-append, proofs.splices.SpliceTexts.first_text}
 use Rattle.yq_documents.{specs.Documents.Document, specs.LinesInRows.{RowLine, document_row, row_line_of}}
 use Rattle.yq_documents.specs.Reading.{documents, read_at}
 use Rattle.yq_places.{specs.NodesAt.{node_in, scalar_in}, specs.PlacedRows.{PlacedPart, placed_document}}
@@ -21,22 +20,20 @@ use Rattle.yq_places.specs.RemovalPlaces.{OwnRows, Removal, has_others_at, has_s
 use Rattle.yq_places.{proofs.PrintedTexts.less_is, proofs.RemovalTexts.texts_then}
 use Rattle.yq_edit_rules.specs.EntryEdits.{one_removed}
 use Rattle.yq_edit_rules.specs.Edits.{empty_collection, op_edits, or_stay, part_removed, replace_segments, rows_or_sole, sole_removed}
-use Rattle.yq_edit_rules.{specs.BlockReading.is_filled, specs.Layouts.layout_of, specs.LineRows.Begins}
-use Rattle.yq_edit_rules.{specs.PlacementLaws.{HasItsRows, held_text}, specs.ReplaceEdits.{has_text, held_put, value_put, value_put_at}}
-use Rattle.yq_edit_rules.specs.Replacing.{are_same, keeps_scalar}
-use Rattle.yq_edit_rules.specs.WrittenValues.{inline, lines, column_under, lines_in, value_text, written_under}
-use Rattle.yq_edit_rules.{proofs.EditsFitLaws.fits_replace, proofs.PlacementRows.rows_located}
-use Rattle.yq_edit_rules.{proofs.RemovalChangeLaws.{removal_is_there, take_init}, proofs.UnderLaws.line_with, proofs.ValueTexts.value_for}
-use Rattle.yq_edit_rules.{specs.DocumentRows.IsDocumentPart, proofs.PlacedPartLaws.document_is_there_at}
+use Rattle.yq_edit_rules.{specs.BlockReading.is_filled, specs.Layouts.layout_of, specs.LineRows.Begins, specs.PlacementLaws.HasItsRows}
+use Rattle.yq_edit_rules.{specs.ReplaceEdits.{has_text, held_put, value_put, value_put_at}, specs.Replacing.{are_same, keeps_scalar}}
+use Rattle.yq_edit_rules.{specs.WrittenValues.{inline, lines, column_under, lines_in, value_text}, proofs.EditsFitLaws.fits_replace}
+use Rattle.yq_edit_rules.{proofs.PlacementRows.rows_located, proofs.RemovalChangeLaws.{removal_is_there, take_init}}
+use Rattle.yq_edit_rules.{proofs.UnderLaws.line_with, proofs.ValueTexts.value_for, specs.DocumentRows.IsDocumentPart}
+use Rattle.yq_edit_rules.proofs.PlacedPartLaws.{document_is_there_at}
 use Rattle.yq_flow_edits.specs.Valued.{IsValueTree}
-use Rattle.yq_semantics.{specs.Fits.Fits, specs.Operations.{remove, replace}, specs.Rooms.room_of}
+use Rattle.yq_semantics.{specs.Fits.Fits, specs.Operations.remove, specs.Rooms.room_of}
 use Rattle.yq_edit_laws.{proofs.CutLaws.{cut_read, text_read}, proofs.HeldInline.{RowMade, nothing_made}}
 use Rattle.yq_edit_laws.{proofs.HeldCarried.{KnowsHeld, first_alone}, proofs.HeldRows.held_known, proofs.SoleLaws.{empty_value, sole_fits}}
 use Rattle.yq_edit_laws.{proofs.SoleParts.IsEmptiedBy, specs.Carried.{carried, carry_one}, specs.Edit.{by_reading, edit_of_segments, gives}}
-use Rattle.yq_batch.{specs.RemovalRuns.text_exchanged, specs.RowRemovals.{BeginAsLow, IsPlacedBefore, IsRowRemovalRun, stop_after}}
-use Rattle.yq_batch.{specs.declared.changed_rows.ChangedRows.ChangedRows, proofs.ChangedRowLaws.{from_back, stop_lower}}
-use Rattle.yq_batch.{proofs.EntryRemains.{has, own_first}, proofs.RowFronts.line_there, proofs.RowsBeforeOffset.ends}
-use Rattle.yq_batch.proofs.RowsTaken.{last_is, no_part}
+use Rattle.yq_batch.{specs.RowRemovals.{IsPlacedBefore, IsRowRemovalRun, stop_after}, specs.declared.changed_rows.ChangedRows.ChangedRows}
+use Rattle.yq_batch.{proofs.ChangedRowLaws.{from_back, stop_lower}, proofs.EntryRemains.{has, own_first}, proofs.RowFronts.line_there}
+use Rattle.yq_batch.{proofs.RowsBeforeOffset.ends, proofs.RowsTaken.{last_is, no_part}}
 use Rattle.yq_batch.proofs.EmptiedTexts as texts
 use Rattle.yq_batch.proofs.SoleRows as sole
 

@@ -1,10 +1,10 @@
 -- The sole item or entry of a block collection under a key or dash: its rows are those under that.
 use Rattle.std.proofs.Common.{◌≡◌, ℕ, zero, suc, ◌+◌, ◌<◌, ◌≤◌, Bool, true, false, ◌&&◌, cond, List, [], ◌∷◌, ◌++◌, length, Option, Some}
 use Rattle.std.proofs.Common.{None, option_map, refl, sym, ap, ◌∙◌, subst, arith, append_assoc, length-append}
-use Rattle.std.{proofs.lemmas.Bool.false≢true, proofs.lemmas.Option.{none-some, same_Some, slice_get-map}, specs.List.slice_get}
+use Rattle.std.{proofs.lemmas.Bool.false≢true, proofs.lemmas.Option.{none-some, same_Some, slice_get-map}}
 use mathlib.Core.List.{head-eq_of_cons-eq}
 use Rattle.yq_core.{specs.Answers.◌>>=◌, specs.Paths.{Step, To, Nth, further, is_here, node_at}, specs.Text.is_empty}
-use Rattle.yq_core.specs.Tree.{Children, Label, Node, child, list, map, none}
+use Rattle.yq_core.specs.Tree.{Label, Node, child, list, map, none}
 use Rattle.yq_outline.{specs.Group.level_or, specs.Lines.{line_mark, lines_from, lines_of_rows, row_lines}, specs.Positions.has_no_mark}
 use Rattle.yq_outline.specs.Outline.{LineMark, Bare, Key, Dash, Line, level, Outline, end, row, flatten, IsEven, anchored, head_or, key_of}
 use Rattle.yq_outline.specs.Outline.{label, outline_node, value}
@@ -15,11 +15,11 @@ use Rattle.yq_documents.{specs.Documents.{Document, document_parts}, specs.Readi
 use Rattle.yq_places.{specs.NodesAt.node_in, specs.PlacedRows.{PlacedPart, placed_document}}
 use Rattle.yq_places.{specs.Placements.{RowsOfEntry, is_alone, rows_of_entry}, specs.RemovalPlaces.{OwnRows, own_rows}}
 use Rattle.yq_places.{proofs.PlacedPartLaws.map_some, proofs.UnderExchange.lines_append}
-use Rattle.yq_edit_rules.{specs.DocumentRows.IsDocumentPart, specs.LineRows.{Begins, following_lines}, specs.PlacementLaws.HasItsRows}
-use Rattle.yq_edit_rules.{specs.RemovalChanges.HasOwnRows, specs.Siblings.{IsEntry, HasEntries, NodeLines, under_line}}
-use Rattle.yq_edit_rules.{proofs.NodeLineLaws.{Under, lines_even, lines_found}, proofs.PartLaws.document_known}
-use Rattle.yq_edit_rules.{proofs.PlacedPartLaws.document_is_there_at, proofs.PlacementMarks.{even_there, under_it}}
-use Rattle.yq_edit_rules.{proofs.PlacementRows.rows_located, proofs.UnderLaws.{line_is, line_with}}
+use Rattle.yq_edit_rules.{specs.LineRows.{Begins, following_lines}, specs.PlacementLaws.HasItsRows, specs.RemovalChanges.HasOwnRows}
+use Rattle.yq_edit_rules.{specs.Siblings.{IsEntry, HasEntries, NodeLines, under_line}, proofs.NodeLineLaws.{Under, lines_even, lines_found}}
+use Rattle.yq_edit_rules.{proofs.PartLaws.document_known, proofs.PlacedPartLaws.document_is_there_at}
+use Rattle.yq_edit_rules.{proofs.PlacementMarks.{even_there, under_it}, proofs.PlacementRows.rows_located}
+use Rattle.yq_edit_rules.proofs.UnderLaws.{line_is, line_with}
 use Rattle.yq_edit_laws.{proofs.NodeRowLaws.{next_begins, mark_node}, proofs.SoleParts.IsEmptiedBy}
 use Rattle.yq_batch.{proofs.EntryRemains.{back_lines, has, here as even_here, own_lines}, proofs.OwnRowsStay.row_size}
 use Rattle.yq_batch.proofs.RowFronts.{equal_parts, parts_by_lines}

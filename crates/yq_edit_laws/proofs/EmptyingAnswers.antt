@@ -5,7 +5,6 @@ use Rattle.yq_row_table.specs.Rows.{Cut}
 use Rattle.yq_places.specs.NodesAt.{NodeAt, node_summary}
 use Rattle.yq_edit_rules.specs.Edits.{empty_collection}
 use Rattle.yq_edit_laws.specs.Emptying.{Emptied, SoleByEmptying, emptied_summary, emptying, summary_above}
-use Rattle.yq_core.specs.Tree as tree
 
 pub sole_by_emptying : SoleByEmptying
 sole_by_emptying n c None = refl

@@ -1,6 +1,6 @@
 -- The node of an item or entry is what its row spells after the key or dash, with the lines under that.
-use Rattle.std.{proofs.Common.{rules, ◌≡◌, ℕ, List, ◌∷◌, length, Some, ◌∙◌}, proofs.lemmas.Option.slice_get-map}
-use Rattle.yq_core.{specs.Answers.◌>>=◌, specs.Paths.Step}
+use Rattle.std.{proofs.Common.{rules, ◌≡◌, ℕ, List, ◌∷◌, length, Some}, proofs.lemmas.Option.slice_get-map}
+use Rattle.yq_core.specs.Paths.{Step}
 use Rattle.yq_outline.{specs.Group.{group, level_or}, specs.Lines.lines_of_rows, specs.Places.content_under, proofs.Finding.path_node}
 use Rattle.yq_outline.proofs.Unique.{group_even}
 use Rattle.yq_row_table.specs.Rows.{Cut}

@@ -1,5 +1,5 @@
 -- Where something is written in a flow collection, no CR comes before an LF.
-use Rattle.std.proofs.Common.{rules, ◌≡◌, ℕ, Bool, true, false, not, ◌&&◌, cond, eqb, List, [], ◌∷◌, ◌++◌, Some, refl, sym, ap, ◌∙◌, subst}
+use Rattle.std.proofs.Common.{rules, ◌≡◌, ℕ, Bool, true, false, not, cond, eqb, List, [], ◌∷◌, ◌++◌, Some, refl, sym, ap, ◌∙◌, subst}
 use Rattle.std.{proofs.Common.append_assoc, proofs.lemmas.Bool.false≢true}
 use Rattle.yq_core.{specs.Paths.Step, specs.Text.{front, is_feed}, specs.Collections.{CollAt, IsCollAt, item_in}}
 use Rattle.yq_core.specs.Entries.{EntryPieces, pieces_text}

@@ -1,5 +1,5 @@
 -- A value on one line in the place of an inline node changes its row alone, and leaves its shape.
-use Rattle.std.proofs.Common.{rules, ◌≡◌, [], ◌∷◌, ◌++◌, is_some, sym, ap, ◌∙◌}
+use Rattle.std.proofs.Common.{rules, ◌≡◌, [], ◌∷◌, is_some, sym, ap, ◌∙◌}
 use Rattle.yq_core.specs.declared.style.Place.TheVariants.{Block as InBlock}
 use Rattle.yq_row_table.specs.Rows.{parent_indent}
 use Rattle.yq_places.specs.Placements.{held}

@@ -3,7 +3,7 @@ use Rattle.std.proofs.Common.{rules, ◌≡◌, ℕ, ◌≤◌, true, not, List,
 use Rattle.std.proofs.Common.{option_map}
 use denote.Bor.{Bor}
 use Rattle.yq_core.{specs.Collections.{CollAt, CollPieces, IsCollAt, coll_along, coll_in}, specs.Entries.tree_step, specs.Paths.Step}
-use Rattle.yq_core.{specs.declared.style.Place.TheVariants.Block, specs.Nodes.{FlowNode, coll, empty, is_empty_node, node_text}}
+use Rattle.yq_core.{specs.declared.style.Place.TheVariants.Block, specs.Nodes.{FlowNode, empty, is_empty_node, node_text}}
 use Rattle.yq_flow_edits.{specs.FlowEdits.FlowEdit, specs.FlowPlaces.{PlacedEdit, place_edit}}
 use Rattle.yq_inline.{specs.Along.front_read, specs.Neighbours.coll_read, specs.declared.before_offset.LeadingNode.LeadingNode}
 use Rattle.yq_row_table.specs.Rows.{Cut, cut_text, parent_indent}

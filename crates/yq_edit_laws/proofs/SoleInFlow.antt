@@ -1,5 +1,5 @@
 -- What is known of a flow collection with one item or entry, by what is next to that and by how the collection ends.
-use Rattle.std.proofs.Common.{rules, ◌≡◌, ℕ, Bool, true, false, cond, eqb, List, [], ◌∷◌, map, Some, None, option_map, refl, sym, ap, ◌∙◌}
+use Rattle.std.proofs.Common.{rules, ◌≡◌, ℕ, Bool, true, false, cond, eqb, List, [], ◌∷◌, Some, None, option_map, refl, sym, ap, ◌∙◌}
 use Rattle.std.{proofs.lemmas.Option.{none-some, same_Some}, specs.Prelude.nat_lt}
 use Rattle.yq_core.{specs.Answers.◌>>=◌, specs.Collections.{CollPieces, coll_along, coll_in}, specs.Paths.{Step, further, is_here}}
 use Rattle.yq_core.specs.Entries.{EntryPieces, entry_pieces_at}
@@ -13,9 +13,7 @@ use Rattle.yq_outline.specs.Counts.{count}
 use Rattle.yq_places.specs.NodesAt.{NodeAt, node_summary}
 use Rattle.yq_lookup.specs.RowFronts.{summary_along}
 use Rattle.yq_core.specs.Tree as tree
-use Rattle.yq_core.specs.declared.path.Step as declared
 use Rattle.yq_places.specs.NodesAt as nodes
-use Rattle.yq_places.specs.declared.places.node_at.NodeAt as found
 
 -- ---- what a collection is
 

@@ -2,7 +2,7 @@
 use Rattle.std.proofs.Common.{◌≡◌, ℕ, true, false, not, List, [], ◌∷◌, ◌++◌, length, Some, None, refl, rules, sym, ap, ◌∙◌, subst}
 use Rattle.std.{proofs.Common.append_assoc, proofs.lemmas.Bool.{cond-false, false≢true}}
 use Rattle.yq_text.specs.Script.{Segment}
-use Rattle.yq_core.{specs.Answers.◌>>=◌, specs.Paths.Step, specs.Text.is_empty, specs.Tree.Node}
+use Rattle.yq_core.{specs.Paths.Step, specs.Text.is_empty, specs.Tree.Node}
 use Rattle.yq_outline.specs.Outline.{null_node}
 use Rattle.yq_row_table.{specs.Rows.{Cut, Row, cut_text, print_row, rows_text}, specs.Seams.is_block, specs.View.slices}
 use Rattle.yq_documents.specs.Reading.{read_at}

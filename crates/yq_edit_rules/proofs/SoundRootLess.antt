@@ -1,8 +1,7 @@
 -- What one less, or another label, leaves of what is asked of a document's root.
 use Rattle.std.proofs.Common.{◌≡◌, ℕ, suc, ◌≤◌, List, [], ◌++◌, Option, Some, None, Bool, true, false, cond, refl, sym, ap, ◌∙◌, rules}
 use Rattle.std.proofs.Common.{subst, arith, append_assoc, not, bytes_eq}
-use Rattle.std.{proofs.lemmas.Bool.{and_parts, and_from, or_parts, or_from, not-true}, proofs.lemmas.Option.{none-some, same_Some}}
-use Rattle.std.specs.List.{list_any}
+use Rattle.std.{proofs.lemmas.Bool.{and_parts, and_from, or_parts, or_from, not-true}, proofs.lemmas.Option.none-some, specs.List.list_any}
 use Rattle.yq_core.specs.Keys.{AreDistinct, keys_of, HasUniqueKeys, EachHasUniqueKeys, depth, deepest, are_distinct}
 use Rattle.yq_core.specs.Paths.{Step, is_here, further, child_at, relabel_child, remove_child, within}
 use Rattle.yq_core.specs.Tree.{Label, Node, alias, scalar, list, map, Children, none, child, children_of}

@@ -1,4 +1,4 @@
-use Rattle.std.{proofs.Common.{List, ℕ, length, map, ap, ◌∙◌, arith, subst, sym}, proofs.lemmas.Result.err_from_is_err_and}
+use Rattle.std.{proofs.Common.{length, map, ap, ◌∙◌, arith}, proofs.lemmas.Result.err_from_is_err_and}
 use Rattle.yq_core.specs.Entries.{tree_step}
 use Rattle.yq_documents.specs.Located.{steps_of}
 use Rattle.yq_places.specs.Placements.{last_step}

@@ -1,7 +1,5 @@
-use Rattle.std.proofs.Common.{◌≡◌, ◌∙◌, ◌++◌, ℕ, List, Option, length, map, slice_index_or, sym, ap, subst}
-use Rattle.std.proofs.lemmas.Result.{err_from_is_err_and}
+use Rattle.std.{proofs.Common.{◌≡◌, ◌∙◌, ℕ, List, Option, length, slice_index_or, sym, ap, subst}, proofs.lemmas.Result.err_from_is_err_and}
 use Rattle.yq_text.specs.TextGapBuffer.{buffer_text}
-use Rattle.yq_core.specs.Entries.{tree_step}
 use Rattle.yq_semantics.{specs.Operations.Operation, specs.declared.op.Op.Op, specs.Under.ops_under}
 use Rattle.yq_documents.specs.Reading.{cut_of}
 use Rattle.yq_edit_laws.{specs.Carried.{carried, carry_all}, specs.Edit.edit_after, specs.Valid.AreServed, proofs.OrderLaws.following_none}

@@ -1,5 +1,5 @@
-use Rattle.std.proofs.Common.{◌≡◌, List, ℕ, Some, map, sym, subst, ap, ◌∙◌, rules}
-use Rattle.yq_core.{specs.Answers.◌>>=◌, specs.Entries.tree_step, specs.Values.value_node}
+use Rattle.std.proofs.Common.{List, ℕ, Some, map, sym, subst, ap, ◌∙◌, rules}
+use Rattle.yq_core.{specs.Entries.tree_step, specs.Values.value_node}
 use Rattle.yq_edit_rules.specs.Answers.{GivesSegments}
 use Rattle.yq_text.specs.Halves.{whole}
 use Rattle.yq_flow_edits.specs.FlowPlaces.{edit_view}

@@ -1,4 +1,4 @@
-use Rattle.std.proofs.Common.{◌∷◌, ◌∙◌, rules}
+use Rattle.std.proofs.Common.{rules}
 use Rattle.yq_edit_laws.proofs.FlowAnswers.{whole_text}
 use Rattle.yq_edit_laws.proofs.edit.unchanged.Goals as goal
 
