@@ -24,7 +24,7 @@ import tempfile
 sys.path.insert(0, os.path.dirname(os.path.abspath(__file__)))
 
 from harness import Folder, equal
-from random_edits import FILE, Update, is_right
+from random_edits import FILE, Program, is_right
 from oracle import documents_of
 
 LARGEST = 200_000
@@ -105,7 +105,7 @@ def random_edits(yaml, yq, room, text, seed):
     source, came, texts = random.Random(seed), [], [text]
     try:
         for _ in range(4):
-            what, roots = is_right(yaml, folder, roots, Update(source, roots))
+            what, roots = is_right(yaml, folder, roots, Program(source, roots))
             came.append(what)
             if folder.read(FILE) != texts[-1]:
                 texts.append(folder.read(FILE))

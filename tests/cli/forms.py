@@ -21,7 +21,7 @@ sys.path.insert(0, os.path.dirname(os.path.abspath(__file__)))
 from corpus import library
 from harness import ROOT, Folder, equal, seed_of_run
 from oracle import documents_of
-from random_edits import FILE, Update, is_right
+from random_edits import FILE, Program, is_right
 
 FORMS = os.path.join(ROOT, "tests", "data", "forms")
 VALUES, LISTS, EDITS = 5, 3, 3
@@ -88,7 +88,7 @@ def at_random(yaml, folder, text, source, tally):
         put(folder, text)
         now, texts = roots, [text]
         for _ in range(EDITS):
-            came, now = is_right(yaml, folder, now, Update(source, now))
+            came, now = is_right(yaml, folder, now, Program(source, now))
             tally["random edits" if came == "edited" else "random edits refused"] += 1
             if folder.read(FILE) != texts[-1]:
                 texts.append(folder.read(FILE))

@@ -1,9 +1,10 @@
 """Random edits of random texts, next to PyYAML and a second implementation of what updates mean.
 
-usage: random_edits.py PATH_OF_YQ COUNT [SEED]
+usage: random_edits.py PATH_OF_YQ COUNT [SEED [MOST]]
 
-Each edited text reads as the meant tree, each refusal is the meant one, an edit that is undone gives the first bytes
-back. Its last line says how many lists of commands were run, and what came of their edits.
+Each edit is one update, or with MOST a program of 2 to MOST updates, each of which is for the documents that those before
+it leave. Each edited text reads as the meant tree, each refusal is the meant one, an edit that is undone gives the first
+bytes back. Its last line says how many lists of commands were run, and what came of their edits.
 """
 
 import collections
@@ -20,6 +21,7 @@ from random_texts import Texts
 from oracle import EACH, Node, Refused, comes_to_a_place, documents_of, meaning
 
 LISTS = 300
+PROGRAMS, DRAWS = 100, 4
 FILE = "f"
 LITERALS = [("1", Node("int", "1")), ('"y"', Node("str", "y")), ('"true"', Node("str", "true")), ("true", Node("bool", "true")),
             ("null", Node("null", "null")), ("1.5", Node("float", "1.5")), ('"- z"', Node("str", "- z")),
@@ -98,31 +100,62 @@ def shown(roots):
     return [root.shown() for root in roots]
 
 
-def meant(roots, update):
+class Program:
+    """Updates one after another: their text, the documents after them or why they are refused."""
+
+    def __init__(self, source, roots, most=1):
+        self.new, self.refusal, self.lacks_room, texts = roots, "", False, []
+        for _ in range(1 if most == 1 else source.randrange(2, most + 1)):
+            update = self.drawn(source, 1 if most == 1 else DRAWS)
+            texts.append(update.text)
+            if not self.refusal:
+                self.follow(update)
+        self.text = " | ".join(texts)
+        if self.refusal:
+            self.new = roots
+
+    def drawn(self, source, draws):
+        """An update, one that is accepted if some draws give one."""
+        for _ in range(draws):
+            update = Update(source, self.new)
+            if draws == 1 or not refusal_of(self.new, update):
+                break
+        return update
+
+    def follow(self, update):
+        if update.operator.endswith("_comment") and comes_to_a_place(self.new, update):
+            self.lacks_room = True
+        self.refusal = refusal_of(self.new, update)
+        if not self.refusal:
+            self.new = meaning(self.new, update)
+
+
+def refusal_of(roots, update):
+    """Why an update is refused, or an empty text."""
     try:
-        return meaning(roots, update), None
+        meaning(roots, update)
     except Refused as why:
-        return roots, str(why)
+        return str(why)
+    return ""
 
 
-def is_right(yaml, folder, roots, update):
+def is_right(yaml, folder, roots, program):
     """One edit of the file, whose documents are these; what came of it, and the documents then."""
     old = folder.read(FILE)
-    status, out, err = folder.run("-i", update.text, FILE)
+    status, out, err = folder.run("-i", program.text, FILE)
     code = err.split(b" ")[1].decode() if status else ""
-    new, refusal = meant(roots, update)
     equal((status, out), (1 if code else 0, b""))
-    if code == "X10" and update.operator.endswith("_comment") and comes_to_a_place(roots, update):
+    if code == "X10" and program.lacks_room:
         return "no room for a comment", roots
-    equal(code, refusal or "", f"refusal of {update.text}")
+    equal(code, program.refusal, f"refusal of {program.text}")
     if code:
         equal(folder.read(FILE), old)
         return code, roots
-    equal(shown(documents_of(yaml, folder.read(FILE).decode())), shown(new), f"tree after {update.text}")
-    return "edited", new
+    equal(shown(documents_of(yaml, folder.read(FILE).decode())), shown(program.new), f"tree after {program.text}")
+    return "edited", program.new
 
 
-def one_list(yaml, folder, source, tally):
+def one_list(yaml, folder, source, tally, most):
     """A random text with some edits, each of which is undone in the end."""
     text = Texts(source).text()
     try:
@@ -138,11 +171,11 @@ def one_list(yaml, folder, source, tally):
         return
     texts = [text.encode()]
     for _ in range(source.randrange(1, 4)):
-        update = Update(source, roots)
+        program = Program(source, roots, most)
         try:
-            came, roots = is_right(yaml, folder, roots, update)
+            came, roots = is_right(yaml, folder, roots, program)
         except AssertionError as why:
-            raise AssertionError(f"{texts[-1]!r}, {update.text}: {why}") from None
+            raise AssertionError(f"{texts[-1]!r}, {program.text}: {why}") from None
         tally[came] += 1
         if folder.read(FILE) != texts[-1]:
             texts.append(folder.read(FILE))
@@ -151,14 +184,14 @@ def one_list(yaml, folder, source, tally):
         equal(folder.read(FILE), before, "undone")
 
 
-def run_lists(folder, count, seed):
+def run_lists(folder, count, seed="1", most=1):
     try:
         import yaml
     except ImportError:
         raise Skip("needs PyYAML") from None
     tally = collections.Counter()
     for number in range(count):
-        one_list(yaml, folder, random.Random(f"{seed} {number}"), tally)
+        one_list(yaml, folder, random.Random(f"{seed} {number}"), tally, most)
     return tally
 
 
@@ -167,7 +200,12 @@ def check_random_edits_read_as_they_are_meant(folder):
     equal(tally["edited"] > 0, True)
 
 
+def check_random_programs_read_as_they_are_meant(folder):
+    tally = run_lists(folder, PROGRAMS, 1, 6)
+    equal(tally["edited"] > 0, True)
+
+
 if __name__ == "__main__":
     with tempfile.TemporaryDirectory(prefix="yq-random-") as path:
-        seen = run_lists(Folder(os.path.realpath(sys.argv[1]), path), int(sys.argv[2]), sys.argv[3] if len(sys.argv) > 3 else "1")
+        seen = run_lists(Folder(os.path.realpath(sys.argv[1]), path), int(sys.argv[2]), *sys.argv[3:4], *map(int, sys.argv[4:5]))
     print(f"{sys.argv[2]} lists: " + ", ".join(f"{number} {what}" for what, number in sorted(seen.items())))
