@@ -1,7 +1,7 @@
 //! The line to which the steps before the last one of a path lead: walks along paths next to it go on from there.
-ghost use Rattle.std.specs.Prelude.{◌≡◌, IfOk, IfSome};
+ghost use Rattle.std.specs.Prelude.{◌≡◌, ◌+◌, ◌<◌, length, IfOk, IfSome, IsTrue};
 ghost use Rattle.yq_documents.specs.Reading.{cut_of};
-ghost use Rattle.yq_row_table.{specs.Rows.Cut, specs.View.{RowsView, rows_view}};
+ghost use Rattle.yq_row_table.{specs.RowStarts.row_start, specs.Rows.Cut, specs.View.{RowsView, rows_view}};
 ghost use Rattle.yq_row_walk.specs.Walk.{IsLineAbove};
 ghost use Rattle.yq_outline.specs.RowWalk.{HasDocument};
 ghost use Rattle.yq_lookup.specs.Knowledge.{IsLineKept, IsFrontLine, StaysFront};
@@ -38,6 +38,15 @@ fn is_as_deep(kept: &Option<LineAbove>, line: KnownLine<'_>) -> bool {
     }
 }
 
+/// Whether the row after that of a line begins in front of so many bytes.
+fn ends_before(rows: &Rows<'_>, at: Position, front: usize) -> bool
+    ensures within { IsTrue result → at.row + 1 < length rows.now.rows }
+    ensures before { IsTrue result → row_start (at.row + 1) rows.now < front }
+{
+    let last = rows.len().saturating_sub(1);
+    at.row < last && rows.start(at.row + 1) < front
+}
+
 /// A line that is kept, in each text that keeps so many bytes in front: where its document is this one, and the row
 /// after its own begins in front of them.
 fn line_before(
@@ -53,8 +62,7 @@ fn line_before(
     if kept.document.first != document.first || kept.document.end != document.end {
         return None;
     }
-    let next = kept.at.row.checked_add(1)?;
-    if next >= rows.len() || rows.start(next) >= front {
+    if !ends_before(rows, kept.at, front) {
         return None;
     }
     Some(kept)
@@ -176,8 +184,9 @@ impl CutText<'_, '_> {
         self.keep_line(alloc, line);
     }
 
-    /// The same of the last path, but only if those of the path before it led there too.
-    fn keep_parent(&mut self, alloc: Global)
+    /// The same of the last path, but only if those of the path before it led there too, and the row after the line
+    /// begins in front of so many bytes: else it isn't known in a text that keeps these.
+    fn keep_parent(&mut self, alloc: Global, front: usize)
         ensures { self.new ≡ self.old }
     {
         let Some(line) = self.line_above() else {
@@ -187,7 +196,9 @@ impl CutText<'_, '_> {
             self.parent = Some(line.at);
             return;
         }
-        self.keep_line(alloc, line);
+        if ends_before(self.rows, line.at, front) {
+            self.keep_line(alloc, line);
+        }
     }
 
     /// Takes the line that is kept.
@@ -203,7 +214,7 @@ impl CutText<'_, '_> {
         ensures same { self.new ≡ self.old }
         ensures still { IfSome result (StaysFront front (cut_of self.old)) }
     {
-        self.keep_parent(alloc);
+        self.keep_parent(alloc, front);
         let kept = self.take_above()?;
         let (_, document) = self.last_document()?;
         line_before(self.rows(), document, kept, front)

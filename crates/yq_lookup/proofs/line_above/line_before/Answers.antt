@@ -1,4 +1,4 @@
-use Rattle.std.proofs.Common.{◌≡◌, ◌<◌, ◌+◌, ℕ, length, map, take, arith, sym, ap, ◌∙◌, subst}
+use Rattle.std.proofs.Common.{◌≡◌, ◌<◌, ◌+◌, length, map, take, arith, sym, ap, ◌∙◌, subst}
 use Rattle.yq_core.specs.Entries.{tree_step}
 use Rattle.yq_outline.specs.RowWalk.{HasDocument}
 use Rattle.yq_row_table.{specs.RowStarts.row_start, specs.View.{RowsView, rows_view}}
@@ -12,11 +12,8 @@ returns c = λ cut is new back touched end less.
     let first : c.args.document.first ≡ k.document.first = omega (arith, c.if-kept-document.false) in
     let stop : c.args.document.end ≡ k.document.end = omega (arith, c.if-kept-document-2.false) in
     let document : c.args.document ≡ k.document = λ i. record { first = first i; end = stop i } in
-    let within : k.at.row + 1 < length s.rows = omega (arith, c.if-next-len.false, c.len.ensures, c.in_ok-next.ensures) in
-    let next : c.in_ok-next.next ≡ k.at.row + 1 = omega (arith, c.in_ok-next.ensures) in
-    let before : row_start (k.at.row + 1) s < c.args.front =
-    subst (λ (n : ℕ). row_start n s < c.args.front) next (omega (arith, c.if-start-front.false, c.start.ensures))
-    in
+    let within : k.at.row + 1 < length s.rows = c.ends_before.ensures.within c.if-not-ends_before.false in
+    let before : row_start (k.at.row + 1) s < c.args.front = c.ends_before.ensures.before c.if-not-ends_before.false in
     let same : take (k.at.row + 1) (rows_view new).rows ≡ take (k.at.row + 1) s.rows =
     rows_stay cut (k.at.row + 1) c.args.front (subst (λ (x : RowsView). k.at.row + 1 < length x.rows) is within) (subst (λ (x : RowsView). row_start (k.at.row + 1) x < c.args.front) is before) new back touched
     ∙ ap (λ (x : RowsView). take (k.at.row + 1) x.rows) (sym is)
