@@ -12,18 +12,19 @@ use Rattle.yq_documents.{specs.Documents.document_parts, specs.PartNumbers.part_
 use Rattle.yq_places.{specs.FirstBreak.first_break, specs.PlacedRows.{PlacedPart, before_part}}
 use Rattle.yq_places.specs.Placements.{RowsOfEntry, before_entry, after_entry, rows_of_entry}
 use Rattle.yq_semantics.{specs.Fits.Fits, specs.Operations.append, specs.Rooms.room_of}
-use Rattle.yq_edit_rules.{specs.Appends.inserted, specs.BlockReading.is_filled, specs.BlockRows.key_row, specs.Changed.put_document}
-use Rattle.yq_edit_rules.{specs.EntryEdits.{entry_lines, more_lines}, specs.Layouts.layout_of, specs.Operands.HasOperand}
-use Rattle.yq_edit_rules.{specs.PlacedParts.IsDocumentAt, specs.Rooms.{RowShape, row_shape}, specs.RowChanges.ChangesRow}
-use Rattle.yq_edit_rules.{specs.PlacementLaws.HasItsRows, proofs.CommentRowLaws.rows_front, proofs.FlowKeptLaws.one_other}
-use Rattle.yq_edit_rules.{proofs.LayoutLaws.more_like, proofs.PlacedPartLaws.document_is_there_at, proofs.PlacementRows.rows_located}
+use Rattle.yq_edit_rules.{proofs.RowStayLaws.placed_put, specs.Appends.inserted, specs.BlockReading.is_filled, specs.BlockRows.key_row}
+use Rattle.yq_edit_rules.{specs.Changed.put_document, specs.EntryEdits.{entry_lines, more_lines}, specs.Layouts.layout_of}
+use Rattle.yq_edit_rules.{specs.Operands.HasOperand, specs.PlacedParts.IsDocumentAt, specs.Rooms.{RowShape, row_shape}}
+use Rattle.yq_edit_rules.{specs.RowChanges.ChangesRow, specs.PlacementLaws.HasItsRows, proofs.CommentRowLaws.rows_front}
+use Rattle.yq_edit_rules.{proofs.FlowKeptLaws.one_other, proofs.LayoutLaws.more_like, proofs.PlacedPartLaws.document_is_there_at}
+use Rattle.yq_edit_rules.proofs.PlacementRows.{rows_located}
 use Rattle.yq_edit_laws.{proofs.CutLaws.text_read, proofs.EntryAdds.{AddsEntry, adds_as, new, next, read_next, row_is, unfilled_alike}}
 use Rattle.yq_edit_laws.proofs.LinesAppends.{compact_adds, compact_last_some, dash_is_there, root_adds, root_last_some}
 use Rattle.yq_edit_laws.proofs.UnderAppends.{last_some, is_located, under_adds}
 use Rattle.yq_batch.{specs.OpenRows.head_front, proofs.KeptBreakLaws.{break_before, holds_after}}
 use Rattle.yq_batch.specs.RowEnds.{AreMappingRows, EndOfEntries, EndsAfterRows, EndsHere, EndsInEntry, HasNoHead, IsAfterDash, IsUnderMark}
 use Rattle.yq_batch.proofs.RowOrder.{StaysBefore, begins_within, entry_placed, front_stays, one_end, one_keeps, one_rows, others_stay}
-use Rattle.yq_batch.{proofs.RowOrder.{part_put, q, stays_before}, proofs.RowsTakenOn.placed_put}
+use Rattle.yq_batch.proofs.RowOrder.{part_put, q, stays_before}
 use Rattle.yq_batch.proofs.RowsUnder.{IsRowIn, deeper_by_shapes, deeper_more, entries_more, entries_then, level_by_shape, row_in}
 use Rattle.yq_batch.{proofs.RowsUnder.{rows_split, same_split, under_size, under_then}, proofs.RowShapes.entry_like}
 

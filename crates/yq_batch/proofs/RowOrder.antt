@@ -21,9 +21,9 @@ use Rattle.yq_places.{proofs.RowLineSpans.steps_row, proofs.UnderExchange.lines_
 use Rattle.yq_edit_rules.{specs.Appends.inserted, specs.Changed.{KeepsRows, put_document}, specs.DocumentRows.after_document}
 use Rattle.yq_edit_rules.{specs.Rooms.row_shape, specs.RowStays.StaysFrom, specs.PlacementLaws.HasItsRows, proofs.HeldLaws.front_is}
 use Rattle.yq_edit_rules.{proofs.ChangedLaws.{document_put, nth_changed}, proofs.CommentRowLaws.rows_front}
-use Rattle.yq_edit_rules.{proofs.PlacedPartLaws.document_is_there_at, proofs.RowStayLaws.rows_stay_there, proofs.PlacementRows.rows_located}
+use Rattle.yq_edit_rules.{proofs.PlacedPartLaws.document_is_there_at, proofs.RowStayLaws.{placed_put, rows_stay_there}}
+use Rattle.yq_edit_rules.proofs.PlacementRows.{rows_located}
 use Rattle.yq_batch.{specs.OpenRows.head_front, proofs.OwnRowsStay.row_size, proofs.RowsBeforeOffset.split_front}
-use Rattle.yq_batch.proofs.RowsTakenOn.{placed_put}
 
 -- ---- the text in front
 

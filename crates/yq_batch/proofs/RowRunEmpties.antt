@@ -9,13 +9,13 @@ use Rattle.yq_row_table.{specs.Splices.first_gap, proofs.seams.SeamLaws.rows_tex
 use Rattle.yq_documents.{specs.LinesInRows.{RowLine, document_row, row_line_of}, specs.Reading.{documents, read_at}}
 use Rattle.yq_places.{specs.PlacedRows.{PlacedPart, placed_at, placed_document}, specs.Placements.{Held, RowsOfEntry, entry_rows_at}}
 use Rattle.yq_places.{specs.RemovalPlaces.{OwnRows, own_rows, rows_out}, proofs.PlacedPartLaws.map_some, proofs.RemovalTexts.texts_then}
-use Rattle.yq_edit_rules.{specs.Appends.inserted, specs.Changed.{KeepsRows, put_document}, specs.LineRows.Begins}
+use Rattle.yq_edit_rules.{proofs.RowStayLaws.placed_put, specs.Appends.inserted, specs.Changed.{KeepsRows, put_document}}
+use Rattle.yq_edit_rules.specs.LineRows.{Begins}
 use Rattle.yq_semantics.{specs.Fits.Fits, specs.Operations.remove, specs.Rooms.room_of}
 use Rattle.yq_edit_laws.proofs.HeldInline.{RowMade}
 use Rattle.yq_batch.specs.RowRemovals.{AreLow, BeginAsLow, IsPlacedBefore, IsRowRemovalRun, StayLow, stop_after}
 use Rattle.yq_batch.specs.declared.changed_rows.ChangedRows.{ChangedRows}
 use Rattle.yq_batch.{proofs.EntryRemains.{begins, begins_after, entry_remains, has, own_first}, proofs.RowsBeforeOffset.{ends, split_front}}
-use Rattle.yq_batch.proofs.RowsTakenOn.{placed_put}
 use Rattle.yq_batch.proofs.EmptiedTexts as texts
 use Rattle.yq_batch.proofs.RowsEmptied as emptied
 

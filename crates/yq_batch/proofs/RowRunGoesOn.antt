@@ -12,8 +12,9 @@ use Rattle.yq_documents.{specs.LinesInRows.document_row, specs.Pieces.{before_ru
 use Rattle.yq_places.specs.PlacedRows.{PlacedPart, placed_at, placed_document}
 use Rattle.yq_places.specs.RemovalPlaces.{OwnRows, Removal, has_others_at, kept_gap, own_rows, removal_place, rows_out}
 use Rattle.yq_places.{proofs.PlacedPartLaws.{map_some, part_rows}, proofs.RemovalTexts.run_parts}
-use Rattle.yq_edit_rules.{specs.Changed.KeepsRows, specs.Removes.left_gap, proofs.RemovalChangeLaws.removal_is_there}
-use Rattle.yq_edit_rules.{proofs.RemovalTextLaws.gap_mended, specs.DocumentRows.IsDocumentPart, specs.LineRows.Begins}
+use Rattle.yq_edit_rules.{proofs.RowStayLaws.placed_put, specs.Changed.KeepsRows, specs.Removes.left_gap}
+use Rattle.yq_edit_rules.{proofs.RemovalChangeLaws.removal_is_there, proofs.RemovalTextLaws.gap_mended, specs.DocumentRows.IsDocumentPart}
+use Rattle.yq_edit_rules.specs.LineRows.{Begins}
 use Rattle.yq_semantics.{specs.Fits.Fits, specs.Operations.remove, specs.Rooms.room_of}
 use Rattle.yq_edit_laws.proofs.CutLaws.{cut_read}
 use Rattle.yq_outline.specs.Lines.{lines_of_rows}
@@ -22,7 +23,7 @@ use Rattle.yq_batch.{specs.declared.changed_rows.ChangedRows.ChangedRows, proofs
 use Rattle.yq_batch.proofs.EntryRemains.{begins, entry_remains, following_rows, has, lower_after, own_first}
 use Rattle.yq_batch.proofs.ChangedRowLaws.{from_own, stop_lower}
 use Rattle.yq_batch.proofs.RowsTaken.{before_is, left_is, low_now, old, old_now, out, start, there}
-use Rattle.yq_batch.proofs.RowsTakenOn.{back_same, mended_is, next_cut, placed_put, q, read_next, text_next}
+use Rattle.yq_batch.proofs.RowsTakenOn.{back_same, mended_is, next_cut, q, read_next, text_next}
 
 -- ---- low lines
 

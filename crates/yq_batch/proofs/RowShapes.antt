@@ -10,8 +10,9 @@ use Rattle.yq_documents.{specs.Documents.document_parts, specs.LinesInRows.{RowL
 use Rattle.yq_documents.{specs.PartNumbers.part_number, proofs.PartNumberLaws.part_there}
 use Rattle.yq_places.specs.PlacedRows.{PlacedPart, before_part, placed_at, placed_document}
 use Rattle.yq_places.{specs.Placements.{RowsOfEntry, entry_rows_at, rows_of_entry, under_count}, proofs.PlacedPartLaws.map_some}
-use Rattle.yq_edit_rules.{specs.Changed.{KeepsRows, put_document}, specs.Rooms.row_shape, proofs.ShapeLaws.line_by_shape}
-use Rattle.yq_batch.{proofs.RowOrder.some_line, proofs.RowsTakenOn.placed_put, proofs.RowsUnder.{deeper_by_shapes, level_by_shape}}
+use Rattle.yq_edit_rules.{proofs.RowStayLaws.placed_put, specs.Changed.{KeepsRows, put_document}, specs.Rooms.row_shape}
+use Rattle.yq_edit_rules.proofs.ShapeLaws.{line_by_shape}
+use Rattle.yq_batch.{proofs.RowOrder.some_line, proofs.RowsUnder.{deeper_by_shapes, level_by_shape}}
 
 like_size : (rs ss : List Row) → map row_shape ss ≡ map row_shape rs → length ss ≡ length rs
 like_size rs ss e = sym (length-map ss row_shape) ∙ (ap length e ∙ length-map rs row_shape)

@@ -1,25 +1,22 @@
 -- The cut of a text after one more item or entry was taken out of it with its lines, and what is still there.
-use Rattle.std.proofs.Common.{◌≡◌, inl, inr, replicate, arith, ◌&&◌, ℕ, zero, suc, ◌+◌, ◌≤◌, Bool, true, false, ◌||◌, not, cond, List, []}
-use Rattle.std.proofs.Common.{◌∷◌, ◌++◌, length, slice_get, Option, Some, None, option_map, refl, sym, ap, ◌∙◌, subst}
-use Rattle.std.{proofs.lemmas.List.append_cancel_left, proofs.lemmas.Bool.{le-leb, lt-ltb}, proofs.lemmas.Str.is_utf8-from_IsUtf8}
+use Rattle.std.proofs.Common.{◌≡◌, inl, inr, replicate, arith, ◌&&◌, ℕ, ◌+◌, ◌≤◌, Bool, true, false, not, cond, List, [], ◌∷◌, ◌++◌, length}
+use Rattle.std.{proofs.Common.{Option, Some, None, refl, sym, ap, ◌∙◌, subst}, proofs.lemmas.List.append_cancel_left}
+use Rattle.std.{proofs.lemmas.Bool.{le-leb, lt-ltb}, proofs.lemmas.Str.is_utf8-from_IsUtf8}
 use Rattle.yq_text.specs.Limit.{text_limit}
 use Rattle.yq_core.{specs.Paths.{Step, changed_at, remove_child, within}, specs.Text.{joined, text_lines, ends_line, past_white}}
 use Rattle.yq_core.proofs.LineLaws.{joined_lines}
 use Rattle.yq_core.specs.BlockRepair.{is_outdented_comment, is_short, repair, repaired_blank, repaired_comment}
 use Rattle.yq_core.specs.Lines.{without_spaces, is_blank, is_tab, spaces}
-use Rattle.yq_row_table.{specs.Grammar.begins_document, specs.Rows.{Row, Part, Cut, last, marked, cut_text, part_text}}
-use Rattle.yq_row_table.specs.Splices.{after_part, nth_part, with_first_gap}
+use Rattle.yq_row_table.{specs.Rows.{Row, Part, Cut, cut_text}, specs.Splices.with_first_gap}
 use Rattle.yq_outline.{specs.Laws.with_lines, specs.Lines.lines_of_rows}
-use Rattle.yq_edit_rules.{specs.Siblings.put_lines, specs.Changed.{IsChanged, KeepsRows, put_document, put_part}}
+use Rattle.yq_edit_rules.{specs.Siblings.put_lines, specs.Changed.{IsChanged, put_document}}
 use Rattle.yq_edit_rules.{specs.RemovalChanges.{HasOwnRows, MayTakeOut, mended}, specs.DocumentRows.IsDocumentPart}
-use Rattle.yq_edit_rules.{specs.Removes.{left_gap, without}, specs.TextPieces.IsPiece}
-use Rattle.yq_edit_rules.{proofs.ChangedLaws.{document_put, first_stays, nth_changed}, proofs.PlacedLaws.entry_placed}
+use Rattle.yq_edit_rules.{specs.Removes.{left_gap, without}, specs.TextPieces.IsPiece, proofs.PlacedLaws.entry_placed}
 use Rattle.yq_edit_rules.{proofs.PlacedPartLaws.document_is_there_at, proofs.RemovalChangeLaws.{entry_taken, may_go}}
 use Rattle.yq_edit_rules.{proofs.RemovalTextLaws.new_text, proofs.PartLaws.document_known, proofs.RemoveLaws.block_gone}
 use Rattle.yq_edit_rules.proofs.TextPieceLaws.{text_is_piece}
-use Rattle.yq_documents.{specs.Documents.{begins_bare, document_parts, has_begin, lead_of}, specs.PartNumbers.{number_from, part_number}}
-use Rattle.yq_documents.specs.Reading.{documents, read_at}
-use Rattle.yq_places.specs.PlacedRows.{PlacedPart, before_part, placed_at, placed_document}
+use Rattle.yq_documents.{specs.Documents.lead_of, specs.Reading.{documents, read_at}}
+use Rattle.yq_places.specs.PlacedRows.{PlacedPart, placed_document}
 use Rattle.yq_places.{specs.RemovalPlaces.{OwnRows, Removal, Seam, has_others_at, own_rows, rows_out}, specs.RowPaths.IsReadable}
 use Rattle.yq_places.proofs.UnderExchange.{lines_append}
 use Rattle.yq_semantics.{specs.Fits.Fits, specs.Operations.remove, specs.Rooms.room_of}
@@ -55,43 +52,6 @@ gap_same (Some s) n gap (inl none) low =
     ap (λ (ls : List (List ℕ)). joined (repair s.keeps s.indent s.column ls)) is ∙ (sym (ap joined is) ∙ joined_lines gap)
 gap_same (Some s) n gap (inr deep) low =
     ap (λ (b : Bool). joined (repair b s.indent s.column (text_lines gap))) deep.0 ∙ (ap joined (lines_same s.indent s.column n (text_lines gap) deep.1 low) ∙ joined_lines gap)
-
--- ---- a document with another part, in its place
-
-number_stays : (is : Bool) (k i : ℕ) (q : Part) (c : Cut) → number_from is k (put_part i q c) ≡ number_from is k c
-number_stays is k i q (last p) = refl
-number_stays true zero zero q (marked p marker c) = refl
-number_stays true (suc k) zero q (marked p marker c) = refl
-number_stays false k zero q (marked p marker c) = refl
-number_stays true zero (suc i) q (marked p marker c) = refl
-number_stays true (suc k) (suc i) q (marked p marker c) = ap suc (number_stays (begins_document marker) k i q c)
-number_stays false k (suc i) q (marked p marker c) = ap suc (number_stays (begins_document marker) k i q c)
-
-before_put : (i : ℕ) (q : Part) (c : Cut) → before_part i (put_part i q c) ≡ before_part i c
-before_put i q (last p) = refl
-before_put zero q (marked p marker c) = refl
-before_put (suc i) q (marked p marker c) = ap (λ (t : List ℕ). part_text p marker ++ t) (before_put i q c)
-
-nth_put : (i : ℕ) (q : Part) (c : Cut) → nth_part i (put_part i q c) ≡ q
-nth_put i q (last p) = refl
-nth_put zero q (marked p marker c) = refl
-nth_put (suc i) q (marked p marker c) = nth_put i q c
-
-past_put : (i : ℕ) (q : Part) (c : Cut) → after_part i (put_part i q c) ≡ after_part i c
-past_put i q (last p) = refl
-past_put zero q (marked p marker c) = refl
-past_put (suc i) q (marked p marker c) = past_put i q c
-
-pub placed_put : (c : Cut) (k : ℕ) (p q : Part) → slice_get (document_parts c) k ≡ Some p → KeepsRows p q →
-    placed_document k (put_document k q c) ≡ Some (record { before = before_part (part_number k c) c; part = q; after = after_part (part_number k c) c })
-placed_put c k p q there keeps =
-    let i : ℕ = part_number k c in
-    let still : slice_get (document_parts (put_document k q c)) k ≡ Some q =
-    ap (λ (ps : List Part). slice_get ps k) (document_put c k p q there keeps) ∙ nth_changed k p q (document_parts c) there in
-    let number : part_number k (put_document k q c) ≡ i =
-    ap (λ (b : Bool). number_from b k (put_document k q c)) (first_stays c k p q there keeps) ∙ number_stays (begins_bare c || not (has_begin c)) k i q c in
-    ap (option_map (λ (x : Part). placed_at (part_number k (put_document k q c)) (put_document k q c))) still
-    ∙ (ap (λ (j : ℕ). Some (placed_at j (put_document k q c))) number ∙ (λ j. Some (record { before = before_put i q c j; part = nth_put i q c j; after = past_put i q c j })))
 
 -- ---- the next cut
 

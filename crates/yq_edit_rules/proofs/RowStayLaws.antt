@@ -114,8 +114,21 @@ nth_other (suc k) zero q (x ∷ ps) less = absurd (omega (arith, less))
 nth_other (suc k) (suc m) q (x ∷ ps) less = nth_other k m q ps (omega (arith, less))
 
 -- document k with this part, between the texts that are around it
-abbrev around : ℕ → Part → Cut → PlacedPart
+abbrev pub around : ℕ → Part → Cut → PlacedPart
 around k p c = record { before = before_part (part_number k c) c; part = p; after = after_part (part_number k c) c }
+
+there_then : (c : Cut) (k : ℕ) (p q : Part) → slice_get (document_parts c) k ≡ Some p → KeepsRows p q → slice_get (document_parts (put_document k q c)) k ≡ Some q
+there_then c k p q there keeps = ap (λ (ps : List Part). slice_get ps k) (document_put c k p q there keeps) ∙ nth_changed k p q (document_parts c) there
+
+-- a document with another part, in its place
+pub placed_put : (c : Cut) (k : ℕ) (p q : Part) → slice_get (document_parts c) k ≡ Some p → KeepsRows p q → placed_document k (put_document k q c) ≡ Some (around k q c)
+placed_put c k p q there keeps =
+    let new : Cut = put_document k q c in
+    let i : ℕ = part_number k c in
+    let number : part_number k new ≡ i =
+    ap (λ (b : Bool). number_from b k new) (first_stays c k p q there keeps) ∙ number_stays (begins_bare c || not (has_begin c)) k i q c in
+    ap (option_map (λ (x : Part). placed_at (part_number k new) new)) (there_then c k p q there keeps)
+    ∙ (ap (λ (j : ℕ). Some (placed_at j new)) number ∙ (λ j. Some (record { before = before_put i q c j; part = nth_put i q c j; after = past_put i q c j })))
 
 module _ (c : Cut) (k n : ℕ) (p q : Part) (there : slice_get (document_parts c) k ≡ Some p) (stays : StaysFrom n p q) where
   abbrev new : Cut
@@ -128,18 +141,13 @@ module _ (c : Cut) (k n : ℕ) (p q : Part) (there : slice_get (document_parts c
   keeps = keeps_rows p.rows q.rows stays.shapes
 
   pub there_still : slice_get (document_parts new) k ≡ Some q
-  there_still = ap (λ (ps : List Part). slice_get ps k) (document_put c k p q there keeps) ∙ nth_changed k p q (document_parts c) there
-
-  pub number_is : part_number k new ≡ i
-  number_is = ap (λ (b : Bool). number_from b k new) (first_stays c k p q there keeps) ∙ number_stays (begins_bare c || not (has_begin c)) k i q c
+  there_still = there_then c k p q there keeps
 
   placed_old : placed_document k c ≡ Some (around k p c)
   placed_old = search (rules, part_there)
 
   placed_new : placed_document k new ≡ Some (around k q c)
-  placed_new =
-      ap (option_map (λ (x : Part). placed_at (part_number k new) new)) there_still
-      ∙ (ap (λ (j : ℕ). Some (placed_at j new)) number_is ∙ (λ j. Some (record { before = before_put i q c j; part = nth_put i q c j; after = past_put i q c j })))
+  placed_new = placed_put c k p q there keeps
 
   -- the rows of an item or entry after those that are others
   module _ (steps : List Step) (e : RowsOfEntry) (is : rows_of_entry k steps c ≡ Some e) (less : n ≤ length e.front) where
