@@ -10,7 +10,7 @@ ghost use Rattle.yq_failure.specs.declared.failure.Failure.TheVariants as failur
 use crate::changes::left;
 use crate::document::DocumentRoot;
 use crate::modified::are_many;
-use crate::path_weights::{most_of_path, paths_weight};
+use crate::path_weights::{has_each, most_of_path, paths_weight};
 use crate::weights::{
     ADDITION_WEIGHT, SCALAR_WEIGHT, VALUES_LIMIT, assignment, sole_weight, weight, weight_at,
 };
@@ -20,7 +20,7 @@ use std::alloc::Global;
 use yq_documents::Documents;
 use yq_eval::{FoundPlaces, find_places};
 use yq_nodes::Node;
-use yq_semantics::{Assignment, ExprError, Operator, Program, Syntax, Term, Update};
+use yq_semantics::{Assignment, ExprError, Operator, Program, Stage, Syntax, Term, Update};
 
 /// How many bytes a key of a text has at most.
 const KEY_MOST: usize = 4096;
@@ -37,12 +37,17 @@ struct Most {
 }
 
 impl Most {
-    /// What a text of that length has at most: an item takes two bytes or more, with its dash or comma, and so does
-    /// an entry.
-    fn of_length(length: usize) -> Most {
+    /// What documents have at most to which a pipe leads: an item takes two bytes or more, with its dash or comma, and
+    /// so does an entry; without `[]` there is one place in a document.
+    fn of_documents(documents: &Documents<'_>, pipe: &[Stage]) -> Most {
+        let length = documents.text().len();
         Most {
             length,
-            places: length / 2 + 1,
+            places: if has_each(pipe) {
+                length / 2 + 1
+            } else {
+                documents.count()
+            },
             key: KEY_MOST.min(length),
         }
     }
@@ -107,14 +112,16 @@ impl Most {
     }
 }
 
-/// How many bytes the values of an assignment take at most in a text, more or less, where they could take too many
+/// How many bytes the values of an assignment take at most in documents, more or less, where they could take too many
 /// with its paths.
-fn too_many(assignment: &Assignment, text: &[u8]) -> Option<usize> {
-    let (values, paths) = Most::of_length(text.len()).of_assignment(assignment);
+fn too_many(assignment: &Assignment, documents: &Documents<'_>) -> Option<usize> {
+    let most = Most::of_documents(documents, &assignment.left);
+    let (values, paths) = most.of_assignment(assignment);
     if values.saturating_add(paths) <= VALUES_LIMIT {
         return None;
     }
-    let (values, paths) = Most::of_text(text).of_assignment(assignment);
+    let most = Most::of_text(documents.text().as_bytes());
+    let (values, paths) = most.of_assignment(assignment);
     if values.saturating_add(paths) <= VALUES_LIMIT {
         return None;
     }
@@ -223,7 +230,7 @@ pub fn is_heavy(
     let Some(assignment) = assignment(update) else {
         return Ok(false);
     };
-    let Some(values) = too_many(assignment, documents.text().as_bytes()) else {
+    let Some(values) = too_many(assignment, documents) else {
         return Ok(false);
     };
     if values <= VALUES_LIMIT

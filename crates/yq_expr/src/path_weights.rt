@@ -75,6 +75,19 @@ fn steps_weight(steps: &[PathStep]) -> (usize, usize) {
     (sum, each)
 }
 
+/// Whether a pipe has a step to each item or value.
+pub(crate) fn has_each(pipe: &[Stage]) -> bool {
+    'stages: for stage in pipe {
+        if let Stage::Path(steps) = stage {
+            let (_, each) = steps_weight(steps);
+            if each > 0 {
+                return true;
+            }
+        }
+    }
+    false
+}
+
 /// How many bytes the path of a place takes at most, more or less, to which a pipe leads, where no key has more
 /// bytes than `key`. The keys that the last `[]` finds are apart in the text, so that they take no more than it.
 pub(crate) fn most_of_path(pipe: &[Stage], key: usize) -> usize {
