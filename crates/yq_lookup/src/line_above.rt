@@ -30,6 +30,14 @@ fn is_at(line: Option<Position>, at: Position) -> bool {
     }
 }
 
+/// Whether the line that is kept is that one.
+fn is_kept(kept: &Option<LineAbove>, at: Position) -> bool {
+    match kept {
+        Some(there) => is_at(Some(there.at), at),
+        None => false,
+    }
+}
+
 /// Whether as many steps lead to a line as to the one that is kept.
 fn is_as_deep(kept: &Option<LineAbove>, line: KnownLine<'_>) -> bool {
     match kept {
@@ -158,9 +166,7 @@ impl CutText<'_, '_> {
         requires { IsLineAbove (rows_view (cut_of self.old)) line }
         ensures { self.new ≡ self.old }
     {
-        if let Some(there) = &self.above
-            && is_at(Some(there.at), line.at)
-        {
+        if is_kept(&self.above, line.at) {
             return;
         }
         if let Ok(kept) = LineAbove::of(alloc, line) {
@@ -196,7 +202,7 @@ impl CutText<'_, '_> {
             self.parent = Some(line.at);
             return;
         }
-        if ends_before(self.rows, line.at, front) {
+        if !is_kept(&self.above, line.at) && ends_before(self.rows, line.at, front) {
             self.keep_line(alloc, line);
         }
     }
