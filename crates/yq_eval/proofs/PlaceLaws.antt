@@ -1,5 +1,5 @@
 -- What is missing from a place.
-use Rattle.std.proofs.Common.{rules, ◌≡◌, ℕ, ◌+◌, List, [], ◌∷◌, ◌++◌, map, refl, append_assoc, add-one, arith, Fits, w64, ◌<◌}
+use Rattle.std.proofs.Common.{rules, ◌≡◌, ℕ, ◌+◌, List, [], ◌∷◌, ◌++◌, map, refl, append_assoc, add-one, arith}
 use Rattle.std.proofs.lemmas.List.{map_push}
 use Rattle.yq_core.specs.Tree.{Label, Node, Children, none, child}
 use Rattle.yq_outline.{specs.Counts.count, specs.Outline.null_node}
@@ -28,6 +28,3 @@ children_more p before cs rest label n items new all is place so_far = search (r
 pub none_counted : (cs : Children) → count cs ≡ 0 → cs ≡ none
 none_counted none h = refl
 none_counted (child label n cs) h = absurd (omega arith)
-
-pub next_fits : (n all : ℕ) → n < all → all < 18446744073709551616 → Fits w64 (n + 1)
-next_fits n all less fits = omega arith

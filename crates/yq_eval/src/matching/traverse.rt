@@ -66,13 +66,9 @@ fn push_children<'a, 't>(
     ensures { PutsPlaces result places.old places.new (places_below place.now) }
 {
     let path: &'a NodePath<'a> = bump.try_alloc(place.path)?;
-    let count = place.node.count();
     let mut children = place.node.children();
     let mut before = 0;
-    'each: while before < count {
-        let Some(child) = children.next() else {
-            return Ok(());
-        };
+    'each: while let Some(child) = children.next() {
         places.push(FoundPlace::nth_below(path, before, &child))?;
         before += 1;
     }

@@ -1,4 +1,4 @@
-use Rattle.std.proofs.Common.{◌≡◌, ◌+◌, ◌-◌, ◌++◌, map}
+use Rattle.std.proofs.Common.{◌≡◌, ◌+◌, ◌++◌, length, map}
 use Rattle.yq_core.specs.Tree.{children_of}
 use Rattle.yq_nodes.{specs.Children.left_of, specs.Nodes.node_of}
 use Rattle.yq_outline.specs.Counts.{count}
@@ -9,11 +9,11 @@ use Rattle.yq_eval.proofs.matching.traverse.push_children.Given as goal
 abbrev pub invariant-each : goal.invariant-each
 invariant-each l = record {
   path : path_of l.path ≡ path_of l.fn.place.path;
-  counted : l.before + count (left_of l.children) ≡ l.count;
+  counted : length l.initial.places.items + l.before ≡ length l.places.items;
   so_far : places_of l.places.items
       ++ map (child_place (place_of l.fn.place)) (stepped l.before (left_of l.children)) ≡ places_of l.initial.places.items
       ++ map (child_place (place_of l.fn.place)) (stepped 0 (children_of (node_of l.fn.place.node)));
 }
 
 abbrev pub decreases-each : goal.decreases-each
-decreases-each l = l.count - l.before
+decreases-each l = count (left_of l.children)
