@@ -14,3 +14,4 @@ pub mod OversizedLaws
 pub mod GrowthLaws
 pub mod SpreadOps
 pub mod OversizedOps
+pub mod TreeSizes

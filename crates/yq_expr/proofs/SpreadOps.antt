@@ -1,41 +1,115 @@
--- The operations of an assignment that adds a list to many lists, or puts it at many places.
-use Rattle.std.proofs.Common.{◌≡◌, ℕ, zero, suc, ◌+◌, ◌*◌, ◌<◌, ◌≤◌, true, false, List, [], ◌∷◌, ◌++◌, take, drop, length, map, None}
-use Rattle.std.proofs.Common.{if◌then◌else◌, Bool, refl, sym, mul-le-mul_left, suc-mul, zero-mul, ap, ◌∙◌, subst, arith, append_assoc}
-use Rattle.std.proofs.Common.{append-nil}
+-- The operations of a value that is put at places, or of a list that is added: what comes at each place.
+use Rattle.std.proofs.Common.{◌≡◌, ℕ, zero, suc, ◌+◌, ◌*◌, ◌<◌, ◌≤◌, map, Option, Bool, true, false, List, [], ◌∷◌, ◌++◌, length, None}
+use Rattle.std.{proofs.Common.{if◌then◌else◌, refl, sym, ap, ◌∙◌, subst, arith, append-nil, mul-zero}, specs.List.list_any}
 use Rattle.yq_core.{specs.Tree.{Label, Node, alias, scalar, list, Children, none, child}, specs.Paths.Step}
-use Rattle.yq_flow_edits.specs.Valued.{AreValueTrees}
-use Rattle.yq_semantics.specs.Changes.{Room, Changed, add_at, add_below, additions, all_allowed, at_each, changes_at, put_below}
-use Rattle.yq_semantics.{specs.Changes.{put_with_path, with_value}, specs.Judgement.{Judgement, and_then, gives}}
-use Rattle.yq_semantics.{specs.Operations.{Operation, replace}, specs.Places.{FoundPlace, root_place}, specs.Plans.{add_op, ops_of}}
-use Rattle.yq_semantics.{specs.Program.{Stage, Term, assign, PathStep}, specs.RightValues.right_value, specs.Sizes.{items_in, items_among}}
-use Rattle.yq_semantics.{proofs.JudgementLaws.{gives_same, then_gives}, proofs.updates.Each.joined_gives, proofs.updates.Planned.all_same}
-use Rattle.yq_semantics.specs.PlacesApart.{AreApart, IsBeforeAll}
-use Rattle.yq_planner.specs.declared.updating.list_size.ListSize.{ListSize}
-use Rattle.yq_expr.specs.Oversized.{FirstGetLists, BeginsOversized, GivesList, GetsList, items_limit}
-use Rattle.yq_expr.{proofs.GrowthLaws.{AreAppends, appended, both_append, by_appends, by_puts, nothing, put_ops}, proofs.PartLaws.ops_join}
-use Rattle.yq_nodes.specs.Nodes.{kind_of}
+use Rattle.yq_flow_edits.specs.Valued.{IsValueTree, AreValueTrees}
+use Rattle.yq_semantics.specs.Changes.{Changed, Change, replaces, add_at, add_below, added, additions, all_allowed, at_each, created}
+use Rattle.yq_semantics.{specs.Changes.{nested, put_below, put_with_path}, specs.Judgement.{Judgement, and_then, gives, refuses}}
+use Rattle.yq_semantics.{specs.Places.FoundPlace, specs.Plans.{add_op, change_ops, ops_of}}
+use Rattle.yq_semantics.{specs.Program.{is_index, PathStep, key, index, each}, specs.RightValues.is_null}
+use Rattle.yq_semantics.{specs.Sizes.{items_in, items_among}, proofs.JudgementLaws.{gives_same, then_gives}}
+use Rattle.yq_semantics.{proofs.updates.Each.joined_gives, proofs.updates.Planned.all_same}
+use Rattle.yq_semantics.{specs.declared.refusal.Refusal.TheVariants.{IndexOutOfRange, KindMismatch}, specs.PlacesApart.AreApart}
+use Rattle.yq_expr.specs.Oversized.{BeginsOversized, HaveUtf8Keys, IsList, items_limit}
+use Rattle.yq_expr.{proofs.GrowthLaws.{AreAppends, Gain, GainEach, appended, appends, by_gains, nothing, puts}, proofs.PartLaws.ops_join}
 use Rattle.yq_core.specs.Tree as tree
-use Rattle.yq_nodes.specs.declared.nodes.node.NodeKind.TheVariants as kinds
-use Rattle.yq_semantics.specs.declared.program.Operator.TheVariants as operator
 
--- the operations that append items to the list at a path
-abbrev pub item_ops : ℕ → List Step → Children → List Operation
-item_ops doc path items = map (add_op doc path) (additions none items)
+-- the keys that are missing at each of places are UTF-8
+abbrev pub AllHaveUtf8Keys : List FoundPlace → Type 0
+AllHaveUtf8Keys [] = Unit {0}
+AllHaveUtf8Keys (p ∷ ps) = HaveUtf8Keys p.missing × AllHaveUtf8Keys ps
 
-pub item_appends : (doc : ℕ) (path : List Step) (items : Children) → AreValueTrees false items → AreAppends (item_ops doc path items) (items_among items)
+-- ---- a value that is put
+
+nested_items : (ms : List PathStep) (v : Node) → items_in v ≤ items_in (nested ms v)
+nested_items [] v = omega arith
+nested_items (key k ∷ ms) v = omega (arith, nested_items ms v)
+nested_items (index i ∷ ms) v = nested_items ms v
+nested_items (each ∷ ms) v = nested_items ms v
+
+nested_valid : (ms : List PathStep) (v : Node) → HaveUtf8Keys ms → IsValueTree v → IsValueTree (nested ms v)
+nested_valid [] v keys valid = valid
+nested_valid (key k ∷ ms) v keys valid = (refl, ((k, refl, keys.0), nested_valid ms v keys.1 valid, tt))
+nested_valid (index i ∷ ms) v keys valid = nested_valid ms v keys valid
+nested_valid (each ∷ ms) v keys valid = nested_valid ms v keys valid
+
+module _ (doc : ℕ) (v : Node) (valid : IsValueTree v) where
+  -- by a change at a path so much comes as is in the value
+  abbrev Comes : List Step → Change → Type 0
+  Comes path c = Gain doc path (items_in v) (change_ops doc (path, c))
+
+  -- put below a mapping as an entry more
+  entry_comes : (path : List Step) (m : PathStep) (ms : List PathStep) (a : Option (List ℕ)) (cs : Children) → HaveUtf8Keys (m ∷ ms) → Comes path (created (tree.map a cs) m ms v)
+  entry_comes path (key k) ms a cs keys = appends keys.0 (nested_valid ms v keys.1 valid) nothing (omega (arith, nested_items ms v))
+  entry_comes path (index i) ms a cs keys = appends tt (nested_valid ms v keys valid) nothing (omega (arith, nested_items ms v))
+  entry_comes path each ms a cs keys = appends tt (nested_valid ms v keys valid) nothing (omega (arith, nested_items ms v))
+
+  -- or in the place of what is there
+  value_comes : (path : List Step) (ms : List PathStep) → HaveUtf8Keys ms → Comes path (replaces (nested ms v))
+  value_comes path ms keys = puts (nested_valid ms v keys valid) (nested_items ms v)
+
+  created_comes : (path : List Step) (n : Node) (m : PathStep) (ms : List PathStep) → HaveUtf8Keys (m ∷ ms) → Comes path (created n m ms v)
+  created_comes path (tree.map a cs) m ms keys = entry_comes path m ms a cs keys
+  created_comes path (alias name) m ms keys = value_comes path (m ∷ ms) keys
+  created_comes path (scalar a k t) m ms keys = value_comes path (m ∷ ms) keys
+  created_comes path (list a cs) m ms keys = value_comes path (m ∷ ms) keys
+
+  put_comes : (path : List Step) (n : Node) (ms : List PathStep) (c : Change) → HaveUtf8Keys ms → put_below n ms v ≡ gives c → Comes path c
+  put_comes path n [] c keys h = subst (Comes path) (gives_same h) (value_comes path [] keys)
+  put_comes path n (m ∷ ms) c keys h = go (list_any is_index (m ∷ ms)) h
+    where
+      go : (b : Bool) → (if b then refuses IndexOutOfRange else gives (created n m ms v)) ≡ gives c → Comes path c
+      go true e = absurd (cc)
+      go false e = subst (Comes path) (gives_same e) (created_comes path n m ms keys)
+
+  -- the operations of a change at a path
+  at_path : (path : List Step) (j : Judgement Change) (cs : List Changed) → ((c : Change) → j ≡ gives c → Comes path c) → and_then (λ c. gives ((path, c) ∷ [])) j ≡ gives cs → Gain doc path (items_in v) (ops_of doc cs)
+  at_path path (refuses why) cs comes h = absurd (cc)
+  at_path path (gives c) cs comes h =
+      subst (λ xs. Gain doc path (items_in v) (ops_of doc xs)) (gives_same h) (subst (Gain doc path (items_in v)) (sym (append-nil (change_ops doc (path, c)))) (comes c refl))
+
+  put_path : (p : FoundPlace) (cs : List Changed) → HaveUtf8Keys p.missing → put_with_path p v ≡ gives cs → Gain doc p.path (items_in v) (ops_of doc cs)
+  put_path p cs keys h = at_path p.path (put_below p.node p.missing v) cs (λ c is. put_comes p.path p.node p.missing c keys is) h
+
+-- ---- a list that is added
+
+item_appends : (doc : ℕ) (path : List Step) (items : Children) → AreValueTrees false items → AreAppends doc path (map (add_op doc path) (additions none items)) (items_among items)
 item_appends doc path none valid = nothing
 item_appends doc path (child label v items) valid =
-    subst (λ (l : Label). AreAppends (item_ops doc path (child l v items)) (suc (items_in v + items_among items))) (sym valid.0)
+    subst (λ (l : Label). AreAppends doc path (map (add_op doc path) (additions none (child l v items))) (suc (items_in v + items_among items))) (sym valid.0)
     (appended tt valid.1 (item_appends doc path items valid.2))
 
--- ---- a value that is added, or put, at many places
+items_come : (doc : ℕ) (path : List Step) (items : Children) → AreValueTrees false items → 0 < items_among items → Gain doc path (items_among items) (map (add_op doc path) (additions none items))
+items_come doc path none valid some = absurd (omega (arith, some))
+items_come doc path (child label v items) valid some =
+    subst (λ (l : Label). Gain doc path (items_among (child label v items)) (map (add_op doc path) (additions none (child l v items)))) (sym valid.0)
+    (appends tt valid.1 (item_appends doc path items valid.2) (omega arith))
 
--- Operations begin with some that append so many items and entries (own).
-record BeginWith (n : ℕ) (ops : List Operation) : Type 0 where
-  first : List Operation
-  others : List Operation
-  all : AreAppends first n
-  split : ops ≡ first ++ others
+module _ (doc : ℕ) (items : Children) (valid : AreValueTrees false items) (some : 0 < items_among items) where
+  abbrev added_list : Node
+  added_list = list None items
+
+  list_valid : IsValueTree added_list
+  list_valid = (refl, valid)
+
+  scalar_comes : (path : List Step) (n : Node) (c : Change) → (null : Bool) → and_then (λ w. gives (replaces w)) (if null then gives added_list else refuses KindMismatch) ≡ gives c → Comes doc added_list list_valid path c
+  scalar_comes path n c true h = subst (Comes doc added_list list_valid path) (gives_same h) (value_comes doc added_list list_valid path [] tt)
+  scalar_comes path n c false h = absurd (cc)
+
+  list_comes : (path : List Step) (n : Node) (c : Change) → added n added_list ≡ gives c → Comes doc added_list list_valid path c
+  list_comes path (alias name) c h = absurd (cc)
+  list_comes path (scalar a k t) c h = scalar_comes path (scalar a k t) c (is_null (scalar None k t)) h
+  list_comes path (list a cs) c h = subst (Comes doc added_list list_valid path) (gives_same h) (items_come doc path items valid some)
+  list_comes path (tree.map a cs) c h = absurd (cc)
+
+  add_path : (p : FoundPlace) (cs : List Changed) → HaveUtf8Keys p.missing → add_at p added_list ≡ gives cs → Gain doc p.path (items_among items) (ops_of doc cs)
+  add_path p cs keys h = go p.missing refl h
+    where
+      go : (ms : List PathStep) → p.missing ≡ ms → add_below ms p added_list ≡ gives cs → Gain doc p.path (items_among items) (ops_of doc cs)
+      go [] is e = at_path doc added_list list_valid p.path (added p.node added_list) cs (λ c same. list_comes p.path p.node c same) e
+      go (m ∷ ms) is e = put_path doc added_list list_valid p cs keys e
+
+-- ---- at each of places
 
 -- what is changed at the first of places, and at the others
 record FirstChanged (doc : ℕ) (root : Node) (f : FoundPlace → Judgement (List Changed)) (p : FoundPlace) (ps : List FoundPlace) (cs : List Changed) : Type 0 where
@@ -57,91 +131,29 @@ first_changed doc root f p ps cs h =
       split = sym (ap (ops_of doc) w.4) ∙ ops_join doc w.0 w.1;
     }
 
-module _ (doc : ℕ) (root : Node) (items : Children) (valid : AreValueTrees false items) where
-  list_appends : (p : FoundPlace) (ds : List Changed) → GetsList true p → add_at p (list None items) ≡ gives ds → AreAppends (ops_of doc ds) (items_among items)
-  list_appends p ds there h = go p.missing p.node there.0 (there.1 refl) h
-    where
-      go : (ms : List PathStep) (n : Node) → ms ≡ [] → kind_of n ≡ kinds.List → add_below ms (record { path = p.path; node = n; missing = ms }) (list None items) ≡ gives ds → AreAppends (ops_of doc ds) (items_among items)
-      go (m ∷ ms) n gone same e = absurd (cc)
-      go [] (alias name) gone same e = absurd (cc)
-      go [] (scalar a k t) gone same e = absurd (cc)
-      go [] (tree.map a cs) gone same e = absurd (cc)
-      go [] (list a cs) gone same e = subst (λ xs. AreAppends (ops_of doc xs) (items_among items)) (gives_same e)
-          (subst (λ xs. AreAppends xs (items_among items)) (sym (append-nil (item_ops doc p.path items))) (item_appends doc p.path items valid))
+each_comes : (doc n : ℕ) (root : Node) (f : FoundPlace → Judgement (List Changed)) → ((p : FoundPlace) (ds : List Changed) → HaveUtf8Keys p.missing → f p ≡ gives ds → Gain doc p.path n (ops_of doc ds)) →
+    (ps : List FoundPlace) (cs : List Changed) → AllHaveUtf8Keys ps → at_each root f ps ≡ gives cs → GainEach doc n ps (ops_of doc cs)
+each_comes doc n root f comes [] cs keys h = ap (ops_of doc) (sym (gives_same h))
+each_comes doc n root f comes (p ∷ ps) cs keys h =
+    let w = first_changed doc root f p ps cs h in
+    (ops_of doc w.here, ops_of doc w.there, w.split, comes p w.here keys.0 w.first, each_comes doc n root f comes ps w.there keys.1 w.others)
 
-  lists_begin : (n : ℕ) (ps : List FoundPlace) (cs : List Changed) → FirstGetLists true n ps → at_each root (λ p. add_at p (list None items)) ps ≡ gives cs → BeginWith (n * items_among items) (ops_of doc cs)
-  lists_begin zero ps cs lists h = record { first = []; others = ops_of doc cs; all = subst (AreAppends []) (sym (zero-mul (items_among items))) nothing; split = refl }
-  lists_begin (suc n) [] cs lists h = absurd lists
-  lists_begin (suc n) (p ∷ ps) cs lists h =
-      let w = first_changed doc root (λ q. add_at q (list None items)) p ps cs h in
-      let one = list_appends p w.here lists.0 w.first in
-      let more = lists_begin n ps w.there lists.1 w.others in
-      let sum : items_among items + n * items_among items ≡ suc n * items_among items = omega (arith, suc-mul n (items_among items)) in
-      record {
-        first = ops_of doc w.here ++ more.first;
-        others = more.others;
-        all = subst (AreAppends (ops_of doc w.here ++ more.first)) sum (both_append (ops_of doc w.here) more.first (items_among items) (n * items_among items) one more.all);
-        split = w.split ∙ (ap (λ xs. ops_of doc w.here ++ xs) more.split ∙ sym (append_assoc (ops_of doc w.here) more.first more.others));
-      }
+-- a product that is more than something has no factor 0
+factor_some : (m n k : ℕ) → k < m * n → 0 < n
+factor_some m zero k h = absurd (omega (arith, h, mul-zero m))
+factor_some m (suc n) k h = omega arith
 
-module _ (doc : ℕ) (root v : Node) where
-  put_there : (p : FoundPlace) (ds : List Changed) → p.missing ≡ [] → put_with_path p v ≡ gives ds → ops_of doc ds ≡ replace doc p.path v ∷ []
-  put_there p ds gone h = go p.missing gone h
-    where
-      go : (ms : List PathStep) → ms ≡ [] → and_then (λ c. gives ((p.path, c) ∷ [])) (put_below p.node ms v) ≡ gives ds → ops_of doc ds ≡ replace doc p.path v ∷ []
-      go (m ∷ ms) is e = absurd (cc)
-      go [] is e = ap (ops_of doc) (sym (gives_same e))
+module _ (doc : ℕ) (root v : Node) (valid : IsValueTree v) (ps : List FoundPlace) (keys : AllHaveUtf8Keys ps) (apart : AreApart ps) (more : items_limit < length ps * items_in v) (cs : List Changed) where
+  -- a value that is put at places
+  pub puts_begin : at_each root (λ p. put_with_path p v) ps ≡ gives cs → BeginsOversized (ops_of doc cs)
+  puts_begin h = by_gains doc (items_in v) ps (ops_of doc cs) (each_comes doc (items_in v) root (λ p. put_with_path p v) (put_path doc v valid) ps cs keys h) apart more
 
-  puts_begin : (n : ℕ) (ps : List FoundPlace) (cs : List Changed) → FirstGetLists false n ps → at_each root (λ p. put_with_path p v) ps ≡ gives cs →
-      (others : List Operation) × (ops_of doc cs ≡ put_ops doc v (take n ps) ++ others)
-  puts_begin zero ps cs there h = (ops_of doc cs, refl)
-  puts_begin (suc n) [] cs there h = absurd there
-  puts_begin (suc n) (p ∷ ps) cs there h =
-      let w = first_changed doc root (λ q. put_with_path q v) p ps cs h in
-      let more = puts_begin n ps w.there there.1 w.others in
-      (more.0, w.split ∙ (ap (λ xs. xs ++ ops_of doc w.there) (put_there p w.here there.0.0 w.first) ∙ ap (λ xs. replace doc p.path v ∷ xs) more.1))
-
--- ---- places of which none lies in another
-
-before_some : (x : List Step) (n : ℕ) (ps : List FoundPlace) → IsBeforeAll x ps → IsBeforeAll x (take n ps)
-before_some x (suc n) (p ∷ ps) h = (h.0, before_some x n ps h.1)
-before_some x _ _ h = tt
-
-some_apart : (n : ℕ) (ps : List FoundPlace) → AreApart ps → AreApart (take n ps)
-some_apart (suc n) (p ∷ ps) h = (before_some p.path n ps h.0, some_apart n ps h.1)
-some_apart _ _ h = tt
-
-pub rest_apart : (n : ℕ) (ps : List FoundPlace) → AreApart ps → AreApart (drop n ps)
-rest_apart zero ps h = h
-rest_apart (suc n) [] h = tt
-rest_apart (suc n) (p ∷ ps) h = rest_apart n ps h.1
-
-first_length : (adds : Bool) (n : ℕ) (ps : List FoundPlace) → FirstGetLists adds n ps → length (take n ps) ≡ n
-first_length adds zero ps h = refl
-first_length adds (suc n) [] h = absurd h
-first_length adds (suc n) (p ∷ ps) h = ap suc (first_length adds n ps h.1)
-
--- ---- what is assigned
-
-module _ (doc : ℕ) (root : Node) (right : List Term) (size : ListSize) (g : GivesList (right_value doc right (root_place root)) size)
-    (n : ℕ) (ps : List FoundPlace) (cs : List Changed) (more : items_limit < n * size.items) where
-  abbrev value : Node
-  value = list None g.0
-
-  each_gets : (f : FoundPlace → Node → Judgement (List Changed)) (qs : List FoundPlace) → with_value root (right_value doc right (root_place root)) f qs ≡ gives cs →
-      at_each root (λ p. f p value) qs ≡ gives cs
-  each_gets f [] h = h
-  each_gets f (p ∷ qs) h = sym (ap (and_then (λ w. at_each root (λ q. f q w) (p ∷ qs))) g.1) ∙ h
-
-  many : items_limit < n * items_among g.0
-  many = let least : size.items ≤ items_among g.0 = g.2.sized.many in omega (arith, more, mul-le-mul_left n least)
-
-  pub spread_begins : (room : Room) (adds : Bool) (left : List Stage) → FirstGetLists adds n ps → AreApart ps →
-      changes_at doc room root (assign left (if adds then operator.Add else operator.Set) right) ps ≡ gives cs → BeginsOversized (ops_of doc cs)
-  spread_begins room true left first apart h =
-      let b = lists_begin doc root g.0 g.2.valid n ps cs first (each_gets add_at ps h) in
-      by_appends (ops_of doc cs) b.first b.others (n * items_among g.0) b.all many b.split
-  spread_begins room false left first apart h =
-      let b = puts_begin doc root value n ps cs first (each_gets put_with_path ps h) in
-      let all : length (take n ps) * items_among g.0 ≡ n * items_among g.0 = ap (λ k. k * items_among g.0) (first_length false n ps first) in
-      by_puts doc value (ops_of doc cs) (take n ps) b.0 (refl, g.2.valid) (some_apart n ps apart) (omega (arith, many, all)) b.1
+  -- a list that is added there
+  pub adds_begin : IsList v → at_each root (λ p. add_at p v) ps ≡ gives cs → BeginsOversized (ops_of doc cs)
+  adds_begin g h =
+      let items : Children = g.0 in
+      let ok : IsValueTree (list None items) = subst IsValueTree g.1 valid in
+      let many : items_limit < length ps * items_among items = subst (λ w. items_limit < length ps * items_in w) g.1 more in
+      let each : at_each root (λ p. add_at p (list None items)) ps ≡ gives cs = subst (λ w. at_each root (λ p. add_at p w) ps ≡ gives cs) g.1 h in
+      by_gains doc (items_among items) ps (ops_of doc cs)
+      (each_comes doc (items_among items) root (λ p. add_at p (list None items)) (add_path doc items ok.1 (factor_some (length ps) (items_among items) items_limit many)) ps cs keys each) apart many

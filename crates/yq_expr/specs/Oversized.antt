@@ -1,5 +1,5 @@
--- Values that no text can hold, since they have more items and entries than a text may have (own).
-use Rattle.std.specs.Prelude.{◌≡◌, ◌<◌, ◌*◌, ◌⊎◌, ℕ, zero, suc, false, List, [], ◌∷◌, ◌++◌, map, if◌then◌else◌, Option, Some, None, ⊤, Bool}
+-- Values that no text can hold, once or at many places, since they have more items and entries than a text may have (own).
+use Rattle.std.specs.Prelude.{◌≡◌, ◌<◌, ◌*◌, ◌⊎◌, ℕ, false, List, [], ◌∷◌, ◌++◌, length, map, if◌then◌else◌, Option, Some, None, ⊤, Bool}
 use Rattle.std.{specs.Prelude.{Result, ◌≤◌, true, IfOk, IfSome}, specs.Str.IsUtf8, specs.declared.alloc.AllocError.AllocError}
 use Rattle.yq_core.{specs.Tree.{Node, list, Children}, specs.Values.value_node, specs.declared.value.Value.Value}
 use Rattle.yq_documents.specs.Documents.{Document}
@@ -15,9 +15,8 @@ use Rattle.yq_eval.specs.PlaceView.{place_of, places_of}
 use Rattle.yq_expr.{specs.FixedPaths.IfAny, specs.Parts.{IsLater, values_limit}, specs.PlannedUpdates.{ops_inside, rest_in}}
 use Rattle.yq_expr.{specs.declared.parts.PlanPart.PlanPart, specs.declared.parts.OpenPart.OpenPart}
 use Rattle.yq_expr.specs.declared.document.DocumentRoot.{DocumentRoot}
-use Rattle.yq_nodes.specs.Nodes.{kind_of, node_of}
+use Rattle.yq_nodes.specs.Nodes.{node_of}
 use Rattle.yq_eval.specs.declared.matching.place.FoundPlace as place
-use Rattle.yq_nodes.specs.declared.nodes.node.NodeKind.TheVariants as kinds
 use Rattle.yq_semantics.specs.declared.program.Term as term
 use Rattle.yq_semantics.specs.declared.program.Operator.TheVariants as operator
 use Rattle.yq_semantics.specs.declared.program.Update as declared
@@ -101,31 +100,29 @@ MakesThere d u p = MakesOversized d u (place_of p)
 abbrev pub MakesFirst : DocumentRoot → declared.Update → List place.FoundPlace → Type 0
 MakesFirst d u ps = FirstMakesOversized d u (places_of ps)
 
--- a list may be put at a place: nothing is missing there; and added, if there is a list (own)
-abbrev pub GetsList : Bool → FoundPlace → Type 0
-GetsList adds p = (p.missing ≡ []) × (adds ≡ true → kind_of p.node ≡ kinds.List)
+-- a value is a list (own)
+abbrev pub IsList : Node → Type 0
+IsList v = (cs : Children) × (v ≡ list None cs)
 
--- so many of the first places are such (own)
-abbrev pub FirstGetLists : Bool → ℕ → List FoundPlace → Type 0
-FirstGetLists adds zero ps = ⊤
-FirstGetLists adds (suc n) [] = ⊥
-FirstGetLists adds (suc n) (p ∷ ps) = GetsList adds p × FirstGetLists adds n ps
+-- A valid value is put, or is a list that is added, so many times that no text can hold all items and entries (own).
+pub record IsSpread (adds : Bool) (v : Node) (count : ℕ) : Type 0 where
+  pub valid : IsValueTree v
+  pub added : adds ≡ true → IsList v
+  pub more : items_limit < count * items_in v
 
--- An assignment adds a list to lists, or puts it, at so many of the first places that no text can hold all items and entries (own).
-pub record SpreadsTooMany (d : DocumentRoot) (u : declared.Update) (ps : List FoundPlace) : Type 0 where
+-- An assignment adds a list, or puts a value, at so many places that no text can hold all items and entries (own).
+pub record SpreadsTooMany (d : DocumentRoot) (u : declared.Update) (count : ℕ) : Type 0 where
   pub adds : Bool
   pub left : List Stage
   pub right : List Term
-  pub size : ListSize
-  pub count : ℕ
+  pub value : Node
   pub by : update_of u ≡ assign left (if adds then operator.Add else operator.Set) right
-  pub value : GivesList (right_value d.doc right (root_place (node_of d.root))) size
-  pub first : FirstGetLists adds count ps
-  pub more : items_limit < count * size.items
+  pub found : right_value d.doc right (root_place (node_of d.root)) ≡ gives value
+  pub spreads : IsSpread adds value count
 
 -- an update begins at places with what no text can hold (own)
 abbrev pub BeginsLarge : DocumentRoot → declared.Update → List place.FoundPlace → Type 0
-BeginsLarge d u ps = MakesFirst d u ps ⊎ SpreadsTooMany d u (places_of ps)
+BeginsLarge d u ps = MakesFirst d u ps ⊎ SpreadsTooMany d u (length ps)
 
 -- a key is UTF-8, if there is one (own)
 abbrev pub MayBeUtf8 : Option (List ℕ) → Type 0

@@ -91,7 +91,7 @@ fn size_with_terms<'a, 't>(
 }
 
 /// How large the sum of terms is, where that is a list.
-pub(crate) fn size_of_sum<'a, 't>(
+fn size_of_sum<'a, 't>(
     alloc: Global,
     doc: usize,
     terms: &'a [Term],
