@@ -95,7 +95,7 @@ module _ (t : List ℕ) (p : Places) (h : HasPlaces t p) where
 
 -- ---- what is known
 
--- the items in front of an offset are the first ones
+-- the items before an offset are the first ones
 front_part : (n : ℕ) (xs : List Item) → (ys : List Item) × (xs ≡ before_offset n xs ++ ys)
 front_part n [] = ([], refl)
 front_part n (i ∷ xs) = go (front_part (n - length (item_text i)) xs) (ltb (length (item_text i)) n) refl

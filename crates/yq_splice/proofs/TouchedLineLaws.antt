@@ -320,7 +320,7 @@ module _ (t new : List ℕ) (kept : Kept) (c d : Cut) (ss : List Segment) (h : C
   new_rows : (a b : List Item) → items_of_cut d ≡ a ++ b → AreRowItems (asked_of nothing_asked a) b []
   new_rows a b e = items_joined a b nothing_asked [] (subst (λ (l : List Item). AreRowItems nothing_asked l []) e (parts_are_items d true h.new_is.parts))
 
-  -- the end with which what is written begins, where it ends with the bytes in front, and a line begins after it: it was there before
+  -- the end with which what is written begins, where it ends with the first bytes that are kept, and a line begins after it: it was there before
   module _ (gap marker : List ℕ) (rest : List Item) (first : w ≡ end_item gap marker ∷ rest) (some : 0 < length marker) (at : text_length f + length (gap ++ marker) ≡ kept.front) (begins : begins_line new kept.front ≡ true) where
     abbrev y : List ℕ
     y = items_text (rest ++ z) []
@@ -536,7 +536,7 @@ module _ (t new : List ℕ) (kept : Kept) (c d : Cut) (ss : List Segment) (h : C
         let same : text_read (kept.back - text_length z) touched written ≡ items_text k.front [] ++ k.gap = ap (λ (n : ℕ). without_line n (items_text written [])) (marker k) ∙ left_out k in
         omega (arith, ap line_count same, k.lines, among)
 
-  -- where no end is kept in front
+  -- where no end is kept among the first bytes
   strict : keeps_end kept c tch ≡ false → line_count (text_read (kept.back - text_length z) tch w) ≤ Lines t new kept es 0 (items_of_cut d)
   strict none = read_lines f w h.touches.new_are tch
       (λ k. let s = stays f w h.touches.new_are k in kept_there f w h.touches.new_are k tch s.0 s.1 s.2)

@@ -12,7 +12,7 @@ is_touched from to [] = false
 is_touched from to (e ∷ es) = (nat_le e.from to && nat_le from e.to) || is_touched from to es
 
 -- whether a change from text t to a new one keeps the line of a marker, which goes from one offset of the new text up to another: it ends, with its break,
--- among the bytes that are kept in front; or it begins among those that are kept at the end, and a line begins there in both texts (own)
+-- among the bytes that are kept at the beginning; or it begins among those that are kept at the end, and a line begins there in both texts (own)
 abbrev pub keeps_line : (t new : List ℕ) → Kept → (from to : ℕ) → Bool
 keeps_line t new kept from to =
     (nat_le to kept.front && begins_line new to)

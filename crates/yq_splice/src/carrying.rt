@@ -5,7 +5,7 @@ ghost use Rattle.yq_documents.specs.Reading.{cut_of, read_at};
 ghost use Rattle.yq_row_table.specs.View.{rows_view};
 ghost use Rattle.yq_edit_laws.{specs.Answers.Edits, specs.Edit.edit_after, specs.Theorems.{HasReading, IsApplied, IsFitting, OpRefused}};
 ghost use Rattle.yq_edit_laws.specs.Valid.{AreServed};
-ghost use Rattle.yq_splice.{specs.Answers.MayEdit, specs.Session.HasPlaces};
+ghost use Rattle.yq_splice.specs.Answers.{MayEdit};
 ghost use Rattle.yq_edit_laws.specs.Carried as spec;
 
 use crate::others::{is_worth, with_others};
@@ -17,7 +17,7 @@ use yq_documents::Documents;
 use yq_edit_laws::operand_holds;
 use yq_lookup::CutText;
 use yq_operation::carry_one;
-use yq_row_table::{Places, Rows};
+use yq_row_table::Rows;
 use yq_rows::scan;
 use yq_semantics::{ExprError, Op};
 use yq_text::{Edited, Splice};
@@ -50,21 +50,18 @@ pub fn apply_op(alloc: Global, text: &str, op: &Op) -> Result<Edited, ExprError>
     carry(alloc, text, op)
 }
 
-/// Operations carried out on a text, whose rows are there; their splices come after others. The rows
-/// follow each operation but the last one.
+/// Operations carried out in a session; their splices come after others. The rows follow each operation but the
+/// last one.
 pub(crate) fn carry_all(
-    alloc: Global,
-    text: String,
-    places: Places,
+    session: Session,
     splices: Vec<Splice>,
     ops: &[Op],
 ) -> Result<Edited, ExprError>
-    requires places { HasPlaces (string_bytes text) places }
-    requires serves { AreServed (operations_of ops.now) (string_bytes text) }
+    requires { AreServed (operations_of ops.now) session.text }
     ensures { Edits result (edit_after splices.items (spec.carry_all (operations_of ops.now)
-        (string_bytes text))) }
+        session.text)) }
 {
-    let mut session = Session::of(alloc, text, places);
+    let mut session = session;
     let mut splices = splices;
     let mut rest = ops;
     'operations: while let [op, after @ ..] = rest {
@@ -124,23 +121,15 @@ fn carry_at_once<'d>(
     Ok(Some(carried))
 }
 
-/// Operations carried out one by one on a copy of a text that was read; their splices come after others.
-fn carry_each(
-    alloc: Global,
-    text: &str,
-    rows: Rows<'_>,
-    splices: Vec<Splice>,
-    ops: &[Op],
-) -> Result<Edited, ExprError>
+/// A session on a copy of a text that was read, with its rows.
+pub(crate) fn session_on(alloc: Global, text: &str, rows: Rows<'_>) -> Result<Session, AllocError>
     requires rows { rows ≡ rows_view (cut_of text.now) }
     requires read { read_at text.now ≡ Some (cut_of text.now) }
-    requires serves { AreServed (operations_of ops.now) text.now }
-    ensures { Edits result (edit_after splices.items (spec.carry_all (operations_of ops.now)
-        text.now)) }
+    ensures { IfOk result (λ s. s.text ≡ text.now) }
 {
     let places = rows.into_places();
     let kept = String::from_str(alloc, text)?;
-    carry_all(alloc, kept, places, splices, ops)
+    Ok(Session::of(alloc, kept, places))
 }
 
 /// Operations carried out on a text with its rows; their splices come after others. For a sole one the text
@@ -162,7 +151,8 @@ pub(crate) fn carry_rows(
     if let Some(edited) = at_once {
         return Ok(edited_after(splices, edited)?);
     }
-    carry_each(alloc, text, rows, splices, ops)
+    let session = session_on(alloc, text, rows)?;
+    carry_all(session, splices, ops)
 }
 
 /// The documents of a text that has a reading.

@@ -1,5 +1,5 @@
 //! Editing: a program carried out on a text.
-ghost use Rattle.std.specs.Prelude.{◌≡◌, ◌++◌, ◌<◌, ◌≤◌, ℕ, List, [], Some, IfErr, IfOk, IfSome, string_bytes};
+ghost use Rattle.std.specs.Prelude.{◌≡◌, ◌++◌, ◌<◌, ◌≤◌, ℕ, List, [], Some, IfErr, IfOk, string_bytes};
 ghost use Rattle.yq_documents.specs.Reading.{cut_of, documents_of, read_at};
 ghost use Rattle.yq_expr.{specs.FixedPaths.{IfAny, IsSole, PlansAlone}, specs.Parts.IsInOrder};
 ghost use Rattle.yq_semantics.{specs.Program.{LiteralsHold, Update, update_at, update_count, updates}, specs.View.program_of};
@@ -8,10 +8,9 @@ ghost use Rattle.yq_edit_laws.specs.Valid.{FailsAt, FailsEach, IsStep, ProgramFa
 ghost use Rattle.yq_splice.{specs.Answers.{EditRefused, EditsText}, specs.Updates.{FailAfter, LeadOn}};
 ghost use Rattle.yq_edit_laws.specs.Carried as spec;
 
-use crate::carrying::read_again;
+use crate::carrying::{read_again, session_on};
 use crate::in_parts::carry_parts;
 use crate::planned::carry_plan;
-use crate::session::Session;
 use crate::updating::update_session;
 use std::alloc::{AllocError, Global};
 use yq_documents::Documents;
@@ -127,9 +126,7 @@ fn steps(
 {
     let planned = planned_by_rows(alloc, &documents, program, nth)?;
     if let Some(first) = planned {
-        let places = documents.into_rows().into_places();
-        let kept = String::from_str(alloc, text)?;
-        let session = Session::of(alloc, kept, places);
+        let session = session_on(alloc, text, documents.into_rows())?;
         return update_session(session, splices, program, nth, first);
     }
     let _count = program.updates();

@@ -1,6 +1,6 @@
 //! Updates whose values would take too much memory at once: planned and carried out part by part.
 ghost use Rattle.std.specs.Prelude.{◌≡◌, ◌<◌, ◌++◌, IfErr, IfOk, List, Some, string_bytes};
-ghost use Rattle.yq_documents.specs.Reading.{cut_of, documents_of, read_at};
+ghost use Rattle.yq_documents.specs.Reading.{cut_of, read_at};
 ghost use Rattle.yq_semantics.{specs.Operations.operations_of, specs.Program.{LiteralsHold, Update, update_at, update_count}};
 ghost use Rattle.yq_semantics.specs.View.{program_of};
 ghost use Rattle.yq_edit_laws.{specs.Answers.Edits, specs.Carried.carry_all, specs.Edit.edit_after};

@@ -7,6 +7,7 @@ ghost use Rattle.yq_splice.specs.Others as runs;
 ghost use Rattle.yq_edit_laws.specs.Carried as spec;
 
 use crate::carrying::{carry, carry_all, cut_again, edited_after};
+use crate::session::Session;
 use std::alloc::Global;
 use yq_batch::{Together, carry_together};
 use yq_lookup::CutText;
@@ -112,7 +113,7 @@ fn with_each(alloc: Global, together: Together<'_>) -> Result<Edited, ExprError>
     let Edited { text, splices } = edited;
     let rows = cut_again(alloc, text.as_str())?;
     let places = rows.into_places();
-    carry_all(alloc, text, places, splices, left)
+    carry_all(Session::of(alloc, text, places), splices, left)
 }
 
 /// What so many operations give, of which the first ones were carried out together, with those that are left:

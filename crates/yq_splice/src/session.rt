@@ -1,5 +1,5 @@
 //! Sessions: operations applied to one text, whose rows are kept.
-ghost use Rattle.std.specs.Prelude.{◌≡◌, ◌<◌, IfErr, IfOk, IfSome, OnErr, string_bytes};
+ghost use Rattle.std.specs.Prelude.{◌≡◌, ◌<◌, IfErr, IfOk, OnErr, string_bytes};
 ghost use Rattle.yq_documents.specs.Reading.{cut_of, documents_of, read_at};
 ghost use Rattle.yq_semantics.{specs.Operations.operation_of, specs.Program.update_count, specs.View.program_of};
 ghost use Rattle.yq_row_table.specs.Meter.{count_after, line_count};

@@ -8,7 +8,7 @@ ghost use Rattle.yq_edit_laws.{specs.Answers.Edits, specs.Edit.edit_after, specs
 ghost use Rattle.yq_batch.specs.Under.{path_in};
 ghost use Rattle.yq_edit_laws.specs.Carried as spec;
 
-use crate::session::Session;
+use crate::carrying::session_on;
 use std::alloc::{AllocError, Global};
 use yq_core::{Step, copied_steps};
 use yq_documents::Path;
@@ -80,24 +80,16 @@ fn op_after(way: Vec<Step>, depth: usize, op: Op) -> Result<Op, AllocError>
     }
 }
 
-/// The steps of a path.
-fn path_steps(path: Path) -> Vec<Step>
-    ensures { result.items ≡ path.steps.items }
-{
-    let Path { doc: _, steps } = path;
-    steps
-}
-
 /// The steps of an operation's path.
 fn steps_in(op: Op) -> Vec<Step>
     ensures { result.items ≡ (path_in op).steps.items }
 {
     match op {
-        Op::Replace(path, _) => path_steps(path),
-        Op::Append(path, _, _) => path_steps(path),
-        Op::Remove(path) => path_steps(path),
-        Op::LineComment(path, _) => path_steps(path),
-        Op::HeadComment(path, _) => path_steps(path),
+        Op::Replace(path, _) => path.steps,
+        Op::Append(path, _, _) => path.steps,
+        Op::Remove(path) => path.steps,
+        Op::LineComment(path, _) => path.steps,
+        Op::HeadComment(path, _) => path.steps,
     }
 }
 
@@ -115,9 +107,7 @@ pub(crate) fn carry_each_under(
     requires serves { AreServed (part_ops part) text.now }
     ensures { Edits result (edit_after splices.items (spec.carry_all (part_ops part) text.now)) }
 {
-    let places = rows.into_places();
-    let kept = String::from_str(alloc, text)?;
-    let mut session = Session::of(alloc, kept, places);
+    let mut session = session_on(alloc, text, rows)?;
     let mut splices = splices;
     let OpsUnder { front, ops } = part;
     let depth = front.len();

@@ -1,8 +1,8 @@
-use Rattle.std.{proofs.Common.{ap, sym, ◌∙◌, subst, eqb-true, List, ℕ, arith}, proofs.lemmas.Result.err_from_is_err_and}
+use Rattle.std.{proofs.Common.{ap, refl, sym, ◌∙◌, subst, eqb-true, List, ℕ, arith}, proofs.lemmas.Result.err_from_is_err_and}
 use Rattle.yq_edit_laws.{specs.Answers.{Edits, EditFails}, specs.Edit.{edit_after, gives}}
 use Rattle.yq_edit_laws.proofs.OperationsLaws.{last_comes, others_come, others_served, first_fails, first_fits, first_operand, none_come}
-use Rattle.yq_edit_laws.{specs.Carried.carry_all, specs.Valid.AreServed, proofs.ApplyLaws.applied_by}
-use Rattle.yq_semantics.specs.Operations.{operation_of, operations_of}
+use Rattle.yq_edit_laws.proofs.ApplyLaws.{applied_by}
+use Rattle.yq_semantics.specs.Operations.{operation_of}
 use Rattle.yq_splice.proofs.carrying.carry_all.Goals as goal
 
 pub operations-preserved : goal.operations-preserved
@@ -22,10 +22,7 @@ returns-then-is_empty c =
     subst (Edits c.close_by.result) (ap (edit_after c.operations.splices.items) last ∙ c.operations.invariant.whole) c.close_by.ensures
 
 pub operations-init : goal.operations-init
-operations-init c = record {
-  whole = ap (λ (t : List ℕ). edit_after c.args.splices.items (carry_all (operations_of c.args.ops.now) t)) c.of-session.ensures;
-  serves = subst (AreServed (operations_of c.args.ops.now)) (sym c.of-session.ensures) c.requires.serves;
-}
+operations-init c = record { whole = refl; serves = c.requires }
 
 pub apply_valid-requires-clause-operand : goal.apply_valid-requires-clause-operand
 apply_valid-requires-clause-operand c =

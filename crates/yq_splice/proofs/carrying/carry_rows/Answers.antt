@@ -3,7 +3,7 @@ use Rattle.std.proofs.lemmas.Result.{err_from_is_err_and}
 use Rattle.yq_semantics.specs.Operations.{operations_of}
 use Rattle.yq_documents.specs.Reading.{cut_of, read_at}
 use Rattle.yq_text.specs.declared.edited.Edited.{Edited}
-use Rattle.yq_edit_laws.{specs.Answers.EditFails, specs.Carried.carry_all, specs.Edit.{edit_after, gives}, specs.Valid.AreServed}
+use Rattle.yq_edit_laws.{specs.Answers.{Edits, EditFails}, specs.Carried.carry_all, specs.Edit.{edit_after, gives}, specs.Valid.AreServed}
 use Rattle.yq_edit_laws.proofs.OrderLaws.{fails_after}
 use Rattle.yq_splice.{specs.Answers.MayEdit, proofs.SessionLaws.has_cut}
 use Rattle.yq_splice.proofs.carrying.carry_rows.Goals as goal
@@ -16,6 +16,12 @@ carry_at_once-requires-clause-read c = subst (λ (t : List ℕ). read_at t ≡ S
 
 pub carry_at_once-requires-clause-serves : goal.carry_at_once-requires-clause-serves
 carry_at_once-requires-clause-serves c = subst (AreServed (operations_of c.args.ops.now)) (sym c.new.ensures) c.requires.serves
+
+pub carry_all-requires : goal.carry_all-requires
+carry_all-requires c = subst (AreServed (operations_of c.args.ops.now)) (sym c.in_ok-session.ensures) c.requires.serves
+
+pub returns : goal.returns
+returns c = subst (λ (t : List ℕ). Edits c.carry_all.result (edit_after c.args.splices.items (carry_all (operations_of c.args.ops.now) t))) c.in_ok-session.ensures c.carry_all.ensures
 
 pub returns-in-Some : goal.returns-in-Some
 returns-in-Some c =

@@ -15,7 +15,7 @@ operations-init c =
     take_all c.len-depth.result c.args.part.front.items (omega (arith, c.len-depth.ensures, c.args.part.front.ok.0))
     in
     let all : ops_under (take c.len-depth.result c.args.part.front.items) its ≡ part_ops c.args.part = λ i. ops_under (front i) (items i) in
-    let text : c.of-session.result.text ≡ c.args.text.now = c.of-session.ensures ∙ c.in_ok-kept.ensures.ok in
+    let text = c.in_ok-session.ensures in
     record {
       whole = λ i. edit_after c.args.splices.items (carry_all (all i) (text i));
       serves = subst (λ (t : List ℕ). AreServed (ops_under (take c.len-depth.result c.args.part.front.items) its) t) (sym text) (subst (λ (os : List Operation). AreServed os c.args.text.now) (sym all) c.requires.serves);
