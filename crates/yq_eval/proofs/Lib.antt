@@ -4,5 +4,7 @@ pub mod CopyLaws
 pub mod TreeScalarLaws
 pub mod MatchLaws
 pub mod FoundLaws
+pub mod TogetherLaws
+pub mod AlongLaws
 pub mod StepLaws
 pub mod StepLists

@@ -1,7 +1,8 @@
 -- What is compared in conditions, by values of the code (own).
-use Rattle.std.specs.Prelude.{ℕ, Bool, List, map}
+use Rattle.std.specs.Prelude.{ℕ, Bool, List, Option, Some, None, map}
 use Rattle.yq_core.{specs.Scalar.ScalarText, specs.SchemaReading.int_value, specs.Tree.Node}
-use Rattle.yq_semantics.{specs.Conditions.{condition_holds, first_equals, is_scalar, operand_is, same_int}, specs.Judgement.Judgement}
+use Rattle.yq_semantics.specs.Conditions.{condition_holds, first_equals, is_scalar, operand_is, same_int}
+use Rattle.yq_semantics.{specs.Judgement.{Judgement, gives, refuses}, specs.declared.refusal.Refusal.TheVariants.ThroughAlias}
 use Rattle.yq_semantics.{specs.Places.FoundPlace, specs.Program.value_at, specs.View.{condition_of, operand_of, program_step}}
 use Rattle.yq_semantics.{specs.declared.program.Condition.Condition, specs.declared.program.Comparison.Comparison}
 use Rattle.yq_semantics.specs.declared.program.PathStep.{PathStep}
@@ -25,6 +26,11 @@ equals_scalar doc c p = operand_is doc (operand_of c.operand) c.scalar.kind c.sc
 -- whether the value to which steps lead from a place is a scalar
 abbrev pub value_equals : List PathStep → ScalarText → FoundPlace → Judgement Bool
 value_equals steps s p = operand_is 0 (value_at (map program_step steps)) s.kind s.text p
+
+-- what is known of a node, or the refusal of an alias
+abbrev pub unless_alias : Option Bool → Judgement Bool
+unless_alias (Some b) = gives b
+unless_alias None = refuses ThroughAlias
 
 -- whether a condition holds at a place of the document of that number
 abbrev pub holds_at : ℕ → Condition → FoundPlace → Judgement Bool

@@ -6,4 +6,5 @@ pub mod FoundView
 pub mod MatchView
 pub mod PlaceAnswers
 pub mod ConditionAnswers
+pub mod ValuesAlong
 pub mod MatchAnswers

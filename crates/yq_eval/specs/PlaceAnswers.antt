@@ -1,12 +1,14 @@
 -- What calls on places of the code answer (own).
-use Rattle.std.{specs.Prelude.{◌≡◌, ◌++◌, ◌∷◌, [], ℕ, List, Option, OnOk, Result, Vec, Bool, map}, specs.declared.alloc.Global.Global}
+use Rattle.std.specs.Prelude.{◌≡◌, ◌++◌, ◌∷◌, [], ℕ, IfSome, List, Option, OnOk, Result, Vec, Bool, map}
+use Rattle.std.specs.declared.alloc.Global.{Global}
 use Rattle.yq_core.{specs.Tree.{Node as TreeNode, children_of}, specs.Paths.Step}
 use Rattle.yq_nodes.{specs.Nodes.{label_of, node_of}, specs.declared.nodes.node.Node.Node}
 use Rattle.yq_semantics.specs.Judgement.{Judgement, Judges, gives, ExprError}
 use Rattle.yq_semantics.specs.Places.{child_place, for_each, further_place, found_place, miss, step_by, step_on, stepped}
-use Rattle.yq_semantics.{specs.Places.FoundPlace as Place, specs.Pipes.{places, select_on}, specs.Program.{each, path}}
-use Rattle.yq_semantics.{specs.View.{condition_of, program_step, stage_of}, specs.declared.program.PathStep.PathStep}
-use Rattle.yq_semantics.{specs.declared.program.Condition.Condition, specs.declared.program.Stage.Stage}
+use Rattle.yq_semantics.{specs.Places.FoundPlace as Place, specs.Pipes.{kept_place, places, pipe_on, select_on, stage_on}}
+use Rattle.yq_semantics.{specs.Program.{each, path}, specs.View.{condition_of, program_step, stage_of}}
+use Rattle.yq_semantics.{specs.declared.program.PathStep.PathStep, specs.declared.program.Condition.Condition}
+use Rattle.yq_semantics.specs.declared.program.Stage.{Stage}
 use Rattle.yq_eval.{specs.FoundView.child_places, specs.PlaceView.{found_of, missing_of, path_of, place_of, places_of, put_after}}
 use Rattle.yq_eval.{specs.declared.matching.place.FoundPlace.FoundPlace, specs.declared.matching.place.Missing.Missing}
 use Rattle.yq_eval.{specs.declared.matching.place.NodePath.NodePath, specs.declared.matching.place.NodeStep.NodeStep}
@@ -38,6 +40,26 @@ places_in v = places_of v.items
 -- the places to which a pipe leads from the root of the document of that number
 abbrev pub pipe_places : ℕ → List Stage → Node → Judgement (List Place)
 pipe_places doc pipe root = places doc (map stage_of pipe) (node_of root)
+
+-- the places to which stages lead from a place
+abbrev pub pipe_from : ℕ → List Stage → FoundPlace → Judgement (List Place)
+pipe_from doc stages p = pipe_on doc (map stage_of stages) (place_of p ∷ [])
+
+-- the places to which a stage leads from a place
+abbrev pub stage_from : ℕ → Stage → FoundPlace → Judgement (List Place)
+stage_from doc stage p = stage_on doc (stage_of stage) (place_of p ∷ [])
+
+-- where it is known whether a place is kept, something leads to it alone, or to none
+abbrev pub KnowsKept : Option Bool → Judgement (List Place) → Place → Type 0
+KnowsKept o j p = IfSome o (λ b. j ≡ gives (kept_place p b))
+
+-- the places to which stages lead from those of a vector
+abbrev pub pipe_places_from : ℕ → List Stage → Vec FoundPlace Global → Judgement (List Place)
+pipe_places_from doc stages v = pipe_on doc (map stage_of stages) (places_in v)
+
+-- stages lead from places to these
+abbrev pub KeepsPlaces : ℕ → List Stage → (ps kept : List FoundPlace) → Type 0
+KeepsPlaces doc stages ps kept = pipe_on doc (map stage_of stages) (places_of ps) ≡ gives (places_of kept)
 
 -- the place alone, if the condition holds there, in the document of that number
 abbrev pub kept_if : ℕ → Condition → Place → Judgement (List Place)

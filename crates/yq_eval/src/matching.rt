@@ -3,6 +3,7 @@ ghost use Rattle.std.specs.Prelude.{◌≡◌, IfOk};
 ghost use Rattle.yq_core.specs.Entries.{tree_step};
 ghost use Rattle.yq_eval.specs.PlaceView.{node_step_of};
 
+mod along;
 mod condition;
 pub(crate) mod copy;
 pub(crate) mod found;
@@ -10,6 +11,7 @@ pub(crate) mod pipe;
 pub(crate) mod place;
 mod step;
 pub(crate) mod steps;
+mod together;
 pub(crate) mod traverse;
 
 use self::place::NodeStep;

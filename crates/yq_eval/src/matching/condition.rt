@@ -1,11 +1,12 @@
 //! What `select` asks of a place.
-ghost use Rattle.std.specs.Prelude.{◌≡◌};
-ghost use Rattle.yq_nodes.specs.Nodes.{node_of};
-ghost use Rattle.yq_semantics.specs.Judgement.{Judges};
-ghost use Rattle.yq_eval.{specs.PlaceView.{place_of, places_of}, specs.PlaceAnswers.JudgesWhether};
+ghost use Rattle.std.specs.Prelude.{◌≡◌, IfSome};
+ghost use Rattle.yq_semantics.specs.Judgement.{gives};
+ghost use Rattle.yq_eval.{specs.PlaceView.{node_or_null, place_of, places_of}, specs.PlaceAnswers.JudgesWhether};
 ghost use Rattle.yq_eval.specs.ConditionAnswers.{are_same_ints, is_that_scalar, first_is_that, equals_scalar, value_equals, holds_at};
+ghost use Rattle.yq_eval.specs.ConditionAnswers.{unless_alias};
 ghost use Rattle.yq_semantics.specs.Conditions as spec;
 
+use crate::matching::along::value_along;
 use crate::matching::place::FoundPlace;
 use crate::matching::steps::at_place;
 use crate::matching::traverse::traverse;
@@ -50,14 +51,31 @@ fn same_scalar(kind: Kind, text: &str, scalar: &Scalar) -> bool
     }
 }
 
-/// Whether a node is that scalar.
-fn node_is(node: &Node<'_, '_>, scalar: &Scalar) -> Result<bool, ExprError>
-    ensures { JudgesWhether result (is_that_scalar scalar.now (node_of node.now)) }
+/// Whether a node is that scalar, or null where there is no node; nothing, where it is an alias.
+fn node_is(node: Option<&Node<'_, '_>>, scalar: &Scalar) -> Option<bool>
+    ensures { is_that_scalar scalar.now (node_or_null node.entry) ≡ unless_alias result }
 {
+    let Some(node) = node else {
+        return Some(same_scalar(Kind::Null, "null", scalar));
+    };
     match node.kind() {
-        NodeKind::Alias => Err(Refusal::ThroughAlias.error()),
-        NodeKind::Scalar(kind) => Ok(same_scalar(kind, node.text(), scalar)),
-        NodeKind::List | NodeKind::Map => Ok(false),
+        NodeKind::Alias => None,
+        NodeKind::Scalar(kind) => Some(same_scalar(kind, node.text(), scalar)),
+        NodeKind::List | NodeKind::Map => Some(false),
+    }
+}
+
+/// What is known at a place, or the refusal of the alias there.
+fn unless_alias(
+    alloc: Global,
+    place: &FoundPlace<'_, '_>,
+    known: Option<bool>,
+) -> Result<bool, ExprError>
+    ensures { JudgesWhether result (unless_alias known) }
+{
+    match known {
+        Some(known) => Ok(known),
+        None => at_place(alloc, place, Err(Refusal::ThroughAlias.error())),
     }
 }
 
@@ -65,10 +83,7 @@ fn node_is(node: &Node<'_, '_>, scalar: &Scalar) -> Result<bool, ExprError>
 fn place_is(alloc: Global, place: &FoundPlace<'_, '_>, scalar: &Scalar) -> Result<bool, ExprError>
     ensures { JudgesWhether result (is_that_scalar scalar.now (spec.value_of (place_of place.now))) }
 {
-    match place.found() {
-        Some(node) => at_place(alloc, place, node_is(node, scalar)),
-        None => Ok(same_scalar(Kind::Null, "null", scalar)),
-    }
+    unless_alias(alloc, place, node_is(place.found(), scalar))
 }
 
 /// Whether the value at the first of places is that scalar.
@@ -85,10 +100,40 @@ fn first_is(
     }
 }
 
+/// Whether the value to which steps lead from a place is that scalar, by the places on the way.
+fn found_is<'a, 't>(
+    alloc: Global,
+    bump: &'a Bump,
+    steps: &'a [PathStep],
+    scalar: &Scalar,
+    place: FoundPlace<'a, 't>,
+) -> Result<bool, ExprError>
+    ensures { JudgesWhether result (value_equals steps.now scalar.now (place_of place.entry)) }
+{
+    let places = traverse(alloc, bump, steps, place.alone(alloc)?)?;
+    first_is(alloc, &places, scalar)
+}
+
+/// The same without places, where no step leads to all items or values and nothing refuses.
+fn is_known<'a, 't>(
+    steps: &'a [PathStep],
+    scalar: &Scalar,
+    place: &FoundPlace<'a, 't>,
+) -> Option<bool>
+    ensures { IfSome result (λ b. value_equals steps.now scalar.now (place_of place.now) ≡ gives b) }
+{
+    let Some(value) = value_along(steps, place) else {
+        return None;
+    };
+    match value {
+        Some(node) => node_is(Some(&node), scalar),
+        None => node_is(None, scalar),
+    }
+}
+
 /// Whether the value to which steps lead from a place is that scalar.
 fn value_is<'a, 't>(
     alloc: Global,
-    bump: &'a Bump,
     steps: &'a [PathStep],
     scalar: &Scalar,
     place: &FoundPlace<'a, 't>,
@@ -98,14 +143,16 @@ fn value_is<'a, 't>(
     if let [] = steps {
         return place_is(alloc, place, scalar);
     }
-    let places = traverse(alloc, bump, steps, place.alone(alloc)?)?;
-    first_is(alloc, &places, scalar)
+    if let Some(same) = is_known(steps, scalar, place) {
+        return Ok(same);
+    }
+    let bump = Bump::new(alloc);
+    found_is(alloc, &bump, steps, scalar, *place)
 }
 
 /// Whether what is compared is the scalar of a comparison, at a place in document `doc`.
 fn operand_is<'a, 't>(
     alloc: Global,
-    bump: &'a Bump,
     doc: usize,
     comparison: &'a Comparison,
     place: &FoundPlace<'a, 't>,
@@ -114,7 +161,7 @@ fn operand_is<'a, 't>(
 {
     let scalar = &comparison.scalar;
     match &comparison.operand {
-        Operand::Path(steps) => value_is(alloc, bump, steps, scalar, place),
+        Operand::Path(steps) => value_is(alloc, steps, scalar, place),
         Operand::DocumentIndex => {
             let number = doc.to_string(alloc)?;
             Ok(same_scalar(Kind::Int, number.as_str(), scalar))
@@ -122,42 +169,41 @@ fn operand_is<'a, 't>(
     }
 }
 
-/// Whether a node is a mapping with that key.
-fn node_has(node: &Node<'_, '_>, key: &str) -> Result<bool, ExprError>
-    ensures { Judges (λ b. b) result (spec.has_key key.now (node_of node.now)) }
+/// Whether a node is a mapping with that key; nothing, where it is an alias.
+fn node_has(node: Option<&Node<'_, '_>>, key: &str) -> Option<bool>
+    ensures { spec.has_key key.now (node_or_null node.entry) ≡ unless_alias result }
 {
+    let Some(node) = node else {
+        return Some(false);
+    };
     match node.kind() {
-        NodeKind::Alias => Err(Refusal::ThroughAlias.error()),
-        NodeKind::Scalar(_) | NodeKind::List => Ok(false),
-        NodeKind::Map => Ok(node.entry(key).is_some()),
+        NodeKind::Alias => None,
+        NodeKind::Scalar(_) | NodeKind::List => Some(false),
+        NodeKind::Map => Some(node.entry(key).is_some()),
     }
 }
 
 /// Whether the value at a place is a mapping with that key.
 fn place_has(alloc: Global, place: &FoundPlace<'_, '_>, key: &str) -> Result<bool, ExprError>
-    ensures { Judges (λ b. b) result (spec.has_key key.now (spec.value_of (place_of place.now))) }
+    ensures { JudgesWhether result (spec.has_key key.now (spec.value_of (place_of place.now))) }
 {
-    match place.found() {
-        Some(node) => at_place(alloc, place, node_has(node, key)),
-        None => Ok(false),
-    }
+    unless_alias(alloc, place, node_has(place.found(), key))
 }
 
 /// Whether a condition holds at a place in document `doc`.
 pub(crate) fn holds<'a, 't>(
     alloc: Global,
-    bump: &'a Bump,
     doc: usize,
     condition: &'a Condition,
-    place: FoundPlace<'a, 't>,
+    place: &FoundPlace<'a, 't>,
 ) -> Result<bool, ExprError>
-    ensures { JudgesWhether result (holds_at doc condition.now (place_of place.entry)) }
+    ensures { JudgesWhether result (holds_at doc condition.now (place_of place.now)) }
 {
     match condition {
         Condition::Compare(comparison) => {
-            let same = operand_is(alloc, bump, doc, comparison, &place)?;
+            let same = operand_is(alloc, doc, comparison, place)?;
             Ok(same_bool(comparison.equal, same))
         }
-        Condition::Has(key) => place_has(alloc, &place, key.as_str()),
+        Condition::Has(key) => place_has(alloc, place, key.as_str()),
     }
 }

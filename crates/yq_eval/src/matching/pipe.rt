@@ -1,12 +1,13 @@
-//! Where a pipe leads: each stage acts on all places before the next one does.
+//! Where a pipe leads, as if each stage acted on all places before the next one does.
 ghost use Rattle.std.specs.Prelude.{map};
 ghost use Rattle.yq_semantics.{specs.Places.for_each, specs.View.stage_of};
 ghost use Rattle.yq_eval.specs.PlaceView.{place_of, places_of};
-ghost use Rattle.yq_eval.specs.PlaceAnswers.{JudgesPlaces, AddsPlaces, FillsPlaces, places_in, pipe_places, kept_if};
+ghost use Rattle.yq_eval.specs.PlaceAnswers.{JudgesPlaces, AddsPlaces, FillsPlaces, places_in, pipe_places, pipe_places_from, kept_if};
 ghost use Rattle.yq_semantics.specs.Pipes as spec;
 
 use crate::matching::condition::holds;
 use crate::matching::place::FoundPlace;
+use crate::matching::together::{count_keeping, keep_each};
 use crate::matching::traverse::traverse;
 use bumpalo::Bump;
 use std::alloc::Global;
@@ -24,8 +25,7 @@ fn push_kept<'a, 't>(
 ) -> Result<(), ExprError>
     ensures { AddsPlaces result places.old places.new (kept_if doc condition.now (place_of place.now)) }
 {
-    let bump = Bump::new(alloc);
-    if holds(alloc, &bump, doc, condition, *place)? {
+    if holds(alloc, doc, condition, place)? {
         places.push(*place)?;
     }
     Ok(())
@@ -80,7 +80,64 @@ fn stage_on<'a, 't>(
     }
 }
 
-/// Where a pipe leads from places. Two lists serve all conditions.
+/// Where stages lead from places, one after the other. Two lists serve all conditions.
+fn stages_on<'a, 't>(
+    alloc: Global,
+    bump: &'a Bump,
+    doc: usize,
+    stages: &'a [Stage],
+    start: Vec<FoundPlace<'a, 't>>,
+) -> Result<Vec<FoundPlace<'a, 't>>, ExprError>
+    ensures { JudgesPlaces result (pipe_places_from doc stages.now start.entry) }
+{
+    let mut places = start;
+    let mut unused = Vec::new(alloc);
+    'stages: for stage in stages {
+        places = stage_on(alloc, bump, doc, stage, places, &mut unused)?;
+    }
+    Ok(places)
+}
+
+/// Where stages lead from places: all of them at one place before the next one, if each leads to places that it was
+/// given alone, and none refuses.
+fn run_on<'a, 't>(
+    alloc: Global,
+    bump: &'a Bump,
+    doc: usize,
+    run: &'a [Stage],
+    places: Vec<FoundPlace<'a, 't>>,
+) -> Result<Vec<FoundPlace<'a, 't>>, ExprError>
+    ensures { JudgesPlaces result (pipe_places_from doc run.now places.entry) }
+{
+    if let [] = run {
+        return Ok(places);
+    }
+    let mut kept = Vec::new(alloc);
+    if keep_each(alloc, doc, run, &places, &mut kept)? {
+        return Ok(kept);
+    }
+    stages_on(alloc, bump, doc, run, places)
+}
+
+/// Where a part of a pipe leads from places: a stage, and a run after it.
+fn part_on<'a, 't>(
+    alloc: Global,
+    bump: &'a Bump,
+    doc: usize,
+    part: &'a [Stage],
+    places: Vec<FoundPlace<'a, 't>>,
+) -> Result<Vec<FoundPlace<'a, 't>>, ExprError>
+    ensures { JudgesPlaces result (pipe_places_from doc part.now places.entry) }
+{
+    let [stage, run @ ..] = part else {
+        return Ok(places);
+    };
+    let mut unused = Vec::new(alloc);
+    let places = stage_on(alloc, bump, doc, stage, places, &mut unused)?;
+    run_on(alloc, bump, doc, run, places)
+}
+
+/// Where a pipe leads from places.
 pub fn pipe_on<'a, 't>(
     alloc: Global,
     bump: &'a Bump,
@@ -91,9 +148,11 @@ pub fn pipe_on<'a, 't>(
     ensures { JudgesPlaces result (spec.pipe_on doc (map stage_of pipe.now) (places_in start.entry)) }
 {
     let mut places = start;
-    let mut unused = Vec::new(alloc);
-    'stages: for stage in pipe {
-        places = stage_on(alloc, bump, doc, stage, places, &mut unused)?;
+    let mut rest = pipe;
+    'parts: while let [_, after @ ..] = rest {
+        let (part, others) = rest.split_at(count_keeping(after) + 1);
+        places = part_on(alloc, bump, doc, part, places)?;
+        rest = others;
     }
     Ok(places)
 }
