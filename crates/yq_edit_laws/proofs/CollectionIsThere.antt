@@ -56,26 +56,26 @@ module _ (n : ℕ) (s : Step) (ss : List Step) (c : Cut) (e : RowsOfEntry) (ther
       sym (get_after (lines_of_rows e.front) rest (e.line + i))
       ∙ ((λ j. slice_get ((sym rows ∙ found) j) (same j)) ∙ get_after (lines_before f.place) (f.line ∷ (flatten f.under ++ after)) i)
 
+  own_line : e.line ≤ length e.row.dashes → IsLineOf e.row.column e.row.dashes e.row.mark e.row.content e.line f.line
+  own_line within =
+      let l = line_in (head_comment e.row.gap) e.row.column e.row.dashes e.row.mark e.row.content e.line within in
+      let at : slice_get (row_lines e.row ++ (lines_of_rows e.under ++ lines_of_rows e.back)) e.line ≡ Some l.0 =
+      get_front (row_lines e.row) (lines_of_rows e.under ++ lines_of_rows e.back) e.line l.0 l.1 in
+      let plain : e.line ≡ e.line + 0 = omega arith in
+      let same : l.0 ≡ f.line =
+      same_Some _ _ (sym at ∙ (ap (slice_get (row_lines e.row ++ (lines_of_rows e.under ++ lines_of_rows e.back))) plain ∙ lines_there 0)) in
+      subst (IsLineOf e.row.column e.row.dashes e.row.mark e.row.content e.line) same l.2
+
   -- where the key or dash has nothing after it
   pub headless_mark : e.line ≡ length e.row.dashes → is_empty (slices e.row).head ≡ true → f.line.head ≡ None
-  headless_mark last none =
-      let l = line_in (head_comment e.row.gap) e.row.column e.row.dashes e.row.mark e.row.content e.line (omega (arith, last)) in
-      let at : slice_get (row_lines e.row ++ (lines_of_rows e.under ++ lines_of_rows e.back)) e.line ≡ Some l.0 = get_front (row_lines e.row) (lines_of_rows e.under ++ lines_of_rows e.back) e.line l.0 l.1 in
-      let plain : e.line + 0 ≡ e.line = omega arith in
-      let same : l.0 ≡ f.line = same_Some _ _ (sym at ∙ (ap (slice_get (row_lines e.row ++ (lines_of_rows e.under ++ lines_of_rows e.back))) (sym plain) ∙ lines_there 0)) in
-      ap (λ (x : Line). x.head) (sym same) ∙ ((l.2.mark last).1 ∙ no_head (head_of e.row.content) (sym row_agrees.head ∙ none))
+  headless_mark last none = ((own_line (omega (arith, last))).mark last).1 ∙ no_head (head_of e.row.content) (sym row_agrees.head ∙ none)
     where
       no_head : (o : Option Node) → is_none o ≡ true → o ≡ None
       no_head None h = refl
       no_head (Some m) h = absurd (false≢true h)
 
   pub headless_dash : e.line < length e.row.dashes → f.line.head ≡ None
-  headless_dash less =
-      let l = line_in (head_comment e.row.gap) e.row.column e.row.dashes e.row.mark e.row.content e.line (omega (arith, less)) in
-      let at : slice_get (row_lines e.row ++ (lines_of_rows e.under ++ lines_of_rows e.back)) e.line ≡ Some l.0 = get_front (row_lines e.row) (lines_of_rows e.under ++ lines_of_rows e.back) e.line l.0 l.1 in
-      let plain : e.line + 0 ≡ e.line = omega arith in
-      let same : l.0 ≡ f.line = same_Some _ _ (sym at ∙ (ap (slice_get (row_lines e.row ++ (lines_of_rows e.under ++ lines_of_rows e.back))) (sym plain) ∙ lines_there 0)) in
-      ap (λ (x : Line). x.head) (sym same) ∙ (l.2.dash less).1
+  headless_dash less = ((own_line (omega (arith, less))).dash less).1
 
   -- the first line under it
   begins : (x : Line) (column : ℕ) → slice_get (row_lines e.row ++ (lines_of_rows e.under ++ lines_of_rows e.back)) (e.line + 1) ≡ Some x →

@@ -25,22 +25,11 @@ use Rattle.yq_edit_rules.{specs.EntryEdits.one_removed, specs.FlowParts.{flow_pu
 use Rattle.yq_edit_rules.{specs.ReplaceEdits.{has_text, value_put}, specs.Replacing.keeps_scalar, proofs.DoneLaws.read_cut}
 use Rattle.yq_semantics.{specs.Fits.Fits, specs.Operations.{replace, append, remove, line_comment, head_comment}, specs.Rooms.room_of}
 use Rattle.yq_text.specs.Script.{Segment, keep}
-use Rattle.yq_edit_laws.{proofs.FlowSoundLaws.{above_is, last_is}, proofs.PlacementExists.last_there, proofs.RemoveExists.one_there}
+use Rattle.yq_edit_laws.{proofs.FlowSoundLaws.{above_is, last_is}, proofs.PlacementExists.last_there}
+use Rattle.yq_edit_laws.proofs.RemoveExists.{IsThere, first_there, one_there, second_there}
 use Rattle.yq_core.specs.Tree as tree
 use Rattle.yq_row_table.specs.Rows as rows
 use Rattle.yq_edit_laws.proofs.DocumentParts as parts
-
--- there is an edit
-abbrev IsThere : Option (List Segment) → Type 0
-IsThere o = (ss : List Segment) × (o ≡ Some ss)
-
--- the first of two that is there
-first_there : (a b : Option (List Segment)) → IsThere a → IsThere (option_or a b)
-first_there a b h = (h.0, ap (λ (x : Option (List Segment)). option_or x b) h.1)
-
-second_there : (a b : Option (List Segment)) → IsThere b → IsThere (option_or a b)
-second_there None b h = h
-second_there (Some ss) b h = (ss, refl)
 
 -- ---- a part of a flow collection that has others beside it
 

@@ -5,7 +5,7 @@ use Rattle.yq_core.{specs.Answers.◌>>=◌, specs.Paths.{Step, child_at, node_a
 use Rattle.yq_core.{specs.Collections.{CollPieces, coll_along}, specs.Entries.{EntryPieces, path_inside, item_at}, specs.Nodes.FlowNode}
 use Rattle.yq_core.specs.Trees.{tree_of}
 use Rattle.yq_outline.{specs.Ends.found_line, specs.Group.level_or, specs.Outline.{Outline, IsEven, level, row, anchored, head_or, value}}
-use Rattle.yq_outline.{specs.Places.{FoundLine, lines_before}, proofs.Finding.{FoundNode, node-anchored, path_node}}
+use Rattle.yq_outline.{specs.Places.{FoundLine, content_under, lines_before}, proofs.Finding.{FoundNode, node-anchored, path_node}}
 use Rattle.yq_outline.{proofs.Plug.allows_from, specs.Lines.{content_anchor, head_of}}
 use Rattle.yq_row_table.{specs.Exchange.after_row, specs.Rows.{Content, Nothing, Inline, Block, Part, Cut, cut_text}}
 use Rattle.yq_documents.{specs.Documents.document_parts, specs.Reading.{part_outline, read_at}}
@@ -73,6 +73,27 @@ line_at c n steps w e =
     let s = bind_some (row_line (length (lines_before x.0.0.place)) d.0.rows) x.2 in
     record { part = d.0; there = d.1; line = x.0; found = x.1; row_line_is = s.0; printed_line = s.1; flow = s.2 }
 
+-- what is in the row of that line, and the head there, which with what is under the line makes its node
+pub line_head : (c : Cut) (n : ℕ) (steps : List Step) (w : CollPieces) (h : LineAt c n steps w) → read_at (cut_text c) ≡ Some c →
+    (x : Content) × (m : tree.Node) × (head_of x ≡ Some m) × (content_flow h.line.1 x (after_row (document_row n c + h.row_line_is.before) c) ≡ Some w) ×
+    (anchored (content_anchor x) m ≡ content_under h.line.0.line h.line.0.under)
+line_head c n steps w h read =
+    let o : Outline = part_outline h.part in
+    let f : FoundLine = h.line.0 in
+    let known = document_known (cut_text c) c n h.part (record { read = read; there = h.there }) in
+    let m : ℕ = level_or 0 o in
+    let r = head_row m h.part steps f h.line.1 known.even h.found in
+    let even : IsEven (level f.line) (row f.line f.under f.after) =
+    (allows_from m f.place f.line f.under f.after (subst (IsEven m) (sym (head_whole m o steps f h.line.1 known.even h.found)) known.even)).1 in
+    let head = head_there f (head_takes m o steps f h.line.1 known.even h.found) even.2 in
+    let same : r.row_line_is ≡ h.row_line_is = same_Some _ _ (sym r.there ∙ h.printed_line) in (
+      r.row_line_is.row.content,
+      head.0,
+      r.head ∙ head.1,
+      ap (λ (z : RowLine). content_flow h.line.1 z.row.content (after_row (document_row n c + h.row_line_is.before) c)) same ∙ h.flow,
+      (λ i. anchored (r.anchor i) (head_or (sym head.1 i) (value f.under))),
+    )
+
 -- the node at a path is the one that its line means
 node_found : (steps : List Step) (s : Step) (o : Outline) → node_at (steps ++ (s ∷ [])) (value o) ≡ FoundNode (found_at (steps ++ (s ∷ [])) o)
 node_found [] s o = path_node s [] o
@@ -81,20 +102,10 @@ node_found (t ∷ ts) s o = path_node t (ts ++ (s ∷ [])) o
 line_node : (c : Cut) (n : ℕ) (steps : List Step) (s : Step) (w : CollPieces) (h : LineAt c n steps w) → read_at (cut_text c) ≡ Some c →
     node_at (steps ++ (s ∷ [])) (value (part_outline h.part)) ≡ option_map entry_tree (item_at w.close s w.items w.rest)
 line_node c n steps s w h read =
-    let o : Outline = part_outline h.part in
-    let f : FoundLine = h.line.0 in
-    let known = document_known (cut_text c) c n h.part (record { read = read; there = h.there }) in
-    let m : ℕ = level_or 0 o in
-    let r = head_row m h.part steps f h.line.1 known.even h.found in
-    let even : IsEven (level f.line) (row f.line f.under f.after) = (allows_from m f.place f.line f.under f.after (subst (IsEven m) (sym (head_whole m o steps f h.line.1 known.even h.found)) known.even)).1 in
-    let head = head_there f (head_takes m o steps f h.line.1 known.even h.found) even.2 in
-    let same : r.row_line_is ≡ h.row_line_is = same_Some _ _ (sym r.there ∙ h.printed_line) in
-    let flow : content_flow h.line.1 r.row_line_is.row.content (after_row (document_row n c + h.row_line_is.before) c) ≡ Some w =
-    ap (λ (z : RowLine). content_flow h.line.1 z.row.content (after_row (document_row n c + h.row_line_is.before) c)) same ∙ h.flow in
-    node_found steps s o
-    ∙ (ap FoundNode (head_on steps s o h.line h.found)
-    ∙ ((λ i. node_at (h.line.1 ++ (s ∷ [])) (anchored (sym r.anchor i) (head_or (head.1 i) (value f.under))))
-    ∙ content_node r.row_line_is.row.content head.0 h.line.1 s _ w (r.head ∙ head.1) flow))
+    let x = line_head c n steps w h read in
+    node_found steps s (part_outline h.part)
+    ∙ (ap FoundNode (head_on steps s (part_outline h.part) h.line h.found)
+    ∙ (ap (node_at (h.line.1 ++ (s ∷ []))) (sym x.4) ∙ content_node x.0 x.1 h.line.1 s _ w x.2 x.3))
 
 -- ---- nothing outside flow collections
 

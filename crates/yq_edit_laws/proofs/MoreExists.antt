@@ -1,7 +1,7 @@
 -- One more item or entry that fits has a place in a flow collection, or at the end of a block collection.
 use Rattle.std.proofs.Common.{rules, ◌≡◌, ◌⊎◌, inl, inr, ℕ, Bool, true, false, cond, eqb, eqb-true, List, [], ◌∷◌, length, Option, Some}
 use Rattle.std.{proofs.Common.{None, option_map, refl, sym, ap, ◌∙◌, subst}, proofs.lemmas.Bool.{cond-false, cond-true, false≢true}}
-use Rattle.std.{proofs.lemmas.Option.{none-some, same_Some}, specs.List.slice_get, specs.Option.option_or, specs.Prelude.is_some}
+use Rattle.std.{proofs.lemmas.Option.{none-some, same_Some}, specs.List.slice_get, specs.Prelude.is_some}
 use Rattle.yq_core.{specs.Answers.◌>>=◌, specs.Paths.{Step, node_at}, specs.Text.is_empty, specs.Collections.CollPieces}
 use Rattle.yq_core.{specs.Nodes.{IsFlowNode, FlowNode, node_text}, specs.Trees.node_head}
 use Rattle.yq_outline.{specs.Outline.{Line, Outline, flatten}, specs.Places.{FoundLine, find}, specs.Positions.has_no_mark}
@@ -22,6 +22,7 @@ use Rattle.yq_semantics.specs.Fits.{Takes}
 use Rattle.yq_text.specs.Script.{Segment}
 use Rattle.yq_edit_laws.{proofs.FlowHeldNodes.{collection_cases, FlowContent as Holds, held as held_in}, proofs.DocumentParts.part_of}
 use Rattle.yq_edit_laws.{proofs.FlowHeldLines.flow_there, proofs.PlacementExists.{placed_there, rows_there}}
+use Rattle.yq_edit_laws.proofs.RemoveExists.{second_there}
 use Rattle.yq_core.specs.Tree as tree
 use Rattle.yq_outline.specs.Outline as outlines
 
@@ -116,10 +117,6 @@ bracket_takes key w e = search rules
 
 -- ---- either
 
-or_second : (a b : Option (List Segment)) (ss : List Segment) → b ≡ Some ss → (us : List Segment) × (option_or a b ≡ Some us)
-or_second None b ss e = (ss, e)
-or_second (Some us) b ss e = (us, refl)
-
 pub takers_have_edit : AppendHasEdit
 takers_have_edit n steps key v c read fits =
     let p = part_of c n fits.0 fits.1 in
@@ -132,5 +129,6 @@ takers_have_edit n steps key v c read fits =
     go p there at x holds takes (inl y) =
         let w = flow_there c n steps x (record { read = read; part = p; there = there; line = y.0.0; rest = y.0.1; found = y.1; at = (fits.2.2.0, at, holds) }) in
         let own : takes_key w.0.close key ≡ true = bracket_takes key w.0 (ap (λ (z : Holds). z.0) w.2 ∙ takes) in
-        or_second (placement_at n steps c >>= block_more (layout_of n c) key v) (flow_collection n steps c >>= flow_more (cut_text c) key v) _ (ap (λ (o : Option CollPieces). o >>= flow_more (cut_text c) key v) w.1 ∙ cond-true _ _ _ own)
+        second_there (placement_at n steps c >>= block_more (layout_of n c) key v) (flow_collection n steps c >>= flow_more (cut_text c) key v)
+        (_, ap (λ (o : Option CollPieces). o >>= flow_more (cut_text c) key v) w.1 ∙ cond-true _ _ _ own)
     go p there at x holds takes (inr b) = search (rules, block_put (layout_of n c) key v n steps c p b.0 read there b.1)

@@ -3,8 +3,8 @@ use Rattle.std.proofs.Common.{rules, ◌≡◌, ℕ, Bool, true, false, cond, eq
 use Rattle.std.{proofs.lemmas.Option.{none-some, same_Some}, specs.Prelude.nat_lt}
 use Rattle.yq_core.{specs.Answers.◌>>=◌, specs.Collections.{CollPieces, coll_along, coll_in}, specs.Paths.{Step, further, is_here}}
 use Rattle.yq_core.specs.Entries.{EntryPieces, entry_pieces_at}
-use Rattle.yq_core.{specs.Nodes.{FlowNode, Items, none, item, empty, alias, scalar, coll, anchored}, specs.Places.Placed}
-use Rattle.yq_core.{specs.Tree.key_label, specs.Trees.{items_tree, key_content, placed_tree, tree_of, with_name}, proofs.Bools.bind_some}
+use Rattle.yq_core.{specs.Nodes.{FlowNode, Items, none, item, empty, alias, scalar, coll, anchored}}
+use Rattle.yq_core.{specs.Tree.key_label, specs.Trees.{items_tree, key_content, tree_of, with_name}, proofs.Bools.bind_some}
 use Rattle.yq_core.proofs.TreeLaws.{node_tree}
 use Rattle.yq_inline.specs.Along.{as_item, front_read}
 use Rattle.yq_inline.specs.Neighbours.{PartTexts, PartsAround, around_part, coll_around, coll_end, coll_read, first_ends, first_text}
@@ -66,9 +66,6 @@ module _ (ss : List Step) (n : LeadingNode) (s : Step) (y : PartsAround) (is : S
 
   abbrev there : (z : EntryPieces) × (entry_pieces_at ss (as_item x.0) ≡ Some z) × (coll_in z.node z.rest ≡ Some w.0)
   there = coll_there ss (as_item x.0) w.0 x.2
-
-  abbrev summary_of : List ℕ × Placed → NodeAt
-  summary_of z = node_summary (placed_tree z.1)
 
   few : nat_lt 1 (count (items_tree w.0.items)) ≡ false
   few = one_left w.0.close s w.0.items w.0.rest y w.2 first last
