@@ -13,10 +13,9 @@ use Rattle.yq_documents.specs.LinesInRows.{RowLine, document_row, row_line, row_
 use Rattle.yq_places.{specs.FlowNodes.{content_flow, find_head}, specs.NodesAt.node_in, specs.PlacedRows.{PlacedPart, placed_document}}
 use Rattle.yq_places.{specs.Placements.{entry_rows_at, entry_placement, last_step, placement_at}, proofs.FlowPieces.head_tree}
 use Rattle.yq_places.proofs.PlacedRowLaws.{document_placed, part_of}
-use Rattle.yq_edit_rules.{proofs.FlowLineLaws.{head_takes, head_whole}, proofs.PartLaws.document_known}
-use Rattle.yq_edit_laws.{proofs.EntryLines.found_at, proofs.FlowHeldLines.{head_row, head_there}}
-use Rattle.yq_edit_laws.{proofs.FlowHeldNodes.{entry_tree, inside_child, kids_held}, proofs.FlowSoundLaws.last_is}
-use Rattle.yq_edit_laws.{proofs.FlowPlacements.{EntryAt, coll_entry}, proofs.StepsOn.head_on}
+use Rattle.yq_edit_rules.{proofs.FlowLineLaws.{head_takes, head_whole}, proofs.PartLaws.document_known, proofs.PathLaws.found_at}
+use Rattle.yq_edit_laws.{proofs.FlowHeldLines.{head_row, head_there}, proofs.FlowHeldNodes.{entry_tree, inside_child, kids_held}}
+use Rattle.yq_edit_laws.{proofs.FlowSoundLaws.last_is, proofs.FlowPlacements.{EntryAt, coll_entry}, proofs.StepsOn.head_on}
 use Rattle.yq_core.specs.Tree as tree
 
 -- ---- in an inline node

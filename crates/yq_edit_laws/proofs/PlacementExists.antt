@@ -15,10 +15,9 @@ use Rattle.yq_places.specs.Placements.{FlowPart, RowsOfEntry, entry_rows_at, flo
 use Rattle.yq_places.{specs.Placements.root_placement, proofs.FoundEntries.middle, proofs.PlacedRowLaws.{document_placed, part_of}}
 use Rattle.yq_places.{proofs.RowPathLaws.found_lines, proofs.DashLineLaws.row_line_found, proofs.PrintedTexts.map_some}
 use Rattle.yq_edit_rules.{specs.Siblings.{IsCollectionAt, IsEntryAt, NodeLines}, specs.PlacementLaws.{EntriesOccur, RootsOccur}}
-use Rattle.yq_edit_rules.{proofs.EditedLaws.lines_are_there, proofs.RemovalChangeLaws.{children-value, take_init}}
+use Rattle.yq_edit_rules.{proofs.EditedLaws.lines_are_there, proofs.RemovalChangeLaws.{children-value, take_init}, proofs.PathLaws.found_at}
 use Rattle.yq_edit_laws.{proofs.FlowHeldNodes.{collection_cases, FlowContent, entry_tree, held, item_child}, proofs.DocumentParts.PartOf}
-use Rattle.yq_edit_laws.{proofs.EntryLines.{entry_line, found_at}, proofs.FlowHeldLines.flow_there}
-use Rattle.yq_edit_laws.proofs.FlowSoundLaws.{above_is, last_is}
+use Rattle.yq_edit_laws.{proofs.EntryLines.entry_line, proofs.FlowHeldLines.flow_there, proofs.FlowSoundLaws.{above_is, last_is}}
 use Rattle.yq_core.specs.Tree as tree
 use Rattle.yq_edit_laws.proofs.DocumentParts as parts
 

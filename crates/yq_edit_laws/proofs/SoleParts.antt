@@ -14,8 +14,8 @@ use Rattle.yq_places.specs.FlowNodes.{content_flow, find_head, flow_collection, 
 use Rattle.yq_places.{specs.RemovalPlaces.{has_others_at, has_several}, specs.Placements.last_step}
 use Rattle.yq_semantics.{specs.Fits.Fits, specs.Operations.{remove, replace}, specs.Rooms.room_of}
 use Rattle.yq_edit_rules.{proofs.RemovalChangeLaws.take_init, specs.FlowParts.{flow_removed, flow_segments}}
-use Rattle.yq_edit_rules.specs.Edits.{empty_collection, op_edits, part_removed, replace_segments, sole_removed}
-use Rattle.yq_edit_laws.{proofs.EntryLines.found_at, proofs.FlowPartNodes.{LineAt, line_at, part_node}, proofs.FlowSoundLaws.last_is}
+use Rattle.yq_edit_rules.{specs.Edits.{empty_collection, op_edits, part_removed, replace_segments, sole_removed}, proofs.PathLaws.found_at}
+use Rattle.yq_edit_laws.{proofs.FlowPartNodes.{LineAt, line_at, part_node}, proofs.FlowSoundLaws.last_is}
 use Rattle.yq_edit_laws.{proofs.FlowPlacements.{EntryAt, coll_entry}, proofs.SoleLaws.sole_fits, proofs.StepsOn.head_on}
 use Rattle.yq_edit_laws.{specs.Carried.carried, specs.Theorems.IsFitting}
 use Rattle.yq_core.specs.Tree as tree
