@@ -1,6 +1,6 @@
 -- A collection that ends before one from which an item or entry is taken out is there after that, before another text.
-use Rattle.std.proofs.Common.{◌≡◌, ◌⊎◌, inl, inr, ℕ, ◌<◌, ◌≤◌, Bool, true, false, cond, List, [], ◌∷◌, ◌++◌, length, Some, None}
-use Rattle.std.proofs.Common.{option_map, refl, sym, ap, ◌∙◌, subst, arith, append_assoc, append-nil, length-append}
+use Rattle.std.proofs.Common.{◌≡◌, ◌⊎◌, inl, inr, ℕ, ◌<◌, ◌≤◌, Bool, true, false, cond, List, [], ◌∷◌, ◌++◌, length, Some, None, option_map}
+use Rattle.std.proofs.Common.{refl, sym, ap, ◌∙◌, subst, arith, append_assoc, append-nil, length-append}
 use Rattle.std.{proofs.lemmas.List.append_cancel_right, proofs.lemmas.Option.{none-some, same_Some}, specs.Option.option_or}
 use Rattle.yq_core.{specs.Paths.{Step, is_here, further}, specs.Alike.fresh}
 use Rattle.yq_core.{specs.Collections.{CollPieces, coll_along, coll_in, collection_put}, specs.Entries.{EntryPieces, item_at}}
@@ -12,8 +12,7 @@ use Rattle.yq_flow_edits.specs.Removals.{removing, removing_from, with_gap}
 use Rattle.yq_flow_edits.proofs.RemoveTexts.{LastBytes, comma_new_bytes, comma_old_bytes, either, gone_bytes, option_some, removed_text}
 use Rattle.yq_flow_edits.proofs.ItemSwaps.{item_cut}
 use Rattle.yq_edit_laws.proofs.EarlierParts.{ComesBefore, PartsBefore, Turns, earlier_coll, front_turn, item_before, rest_within, turn_as}
-use Rattle.yq_edit_laws.proofs.LaterEnds.{last_longer, rest_in}
-use Rattle.yq_edit_laws.proofs.LaterParts.{content_within, node_in_items}
+use Rattle.yq_edit_laws.{proofs.LaterEnds.{last_longer, rest_in}, proofs.LaterParts.{content_within, node_in_items}}
 
 -- ---- before an item or entry that is taken out
 

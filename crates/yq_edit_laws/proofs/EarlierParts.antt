@@ -1,4 +1,5 @@
 -- A part of a node that ends before a place at which one of its collections changes is there after that, before another text; and so is a collection that does.
+use Rattle.yq_edit_rules.proofs.FlowLocationLaws.{coll_entry}
 use Rattle.std.proofs.Common.{rules, ◌≡◌, ◌⊎◌, inl, inr, ℕ, ◌<◌, ◌≤◌, Bool, true, false, cond, List, [], ◌∷◌, ◌++◌, length, Option, Some}
 use Rattle.std.proofs.Common.{None, drop, option_map, option_and_then, refl, sym, ap, ◌∙◌, subst, arith, append_assoc, length-append}
 use Rattle.std.{proofs.Math.Seq.drop-append_seam, proofs.lemmas.List.drop-append-le, proofs.lemmas.Option.{none-some, same_Some}}
@@ -133,14 +134,6 @@ part_in (r ∷ q) v z e =
     let u = then_some (path_inside r v.node v.rest) e in
     omega (arith, part_in q u.0 z u.2, content_within u.0.node u.0.rest, (inside_within r v.node v.rest u.0 u.1).0)
 
--- the node of a collection
-coll_part : (q : List Step) (x : EntryPieces) (z : CollPieces) → coll_along q x.node x.rest ≡ Some z → (u : EntryPieces) × (entry_pieces_at q x ≡ Some u) × (coll_in u.node u.rest ≡ Some z)
-coll_part [] x z e = (x, refl, e)
-coll_part (r ∷ q) x z e =
-    let v = then_some (path_inside r x.node x.rest) e in
-    let u = coll_part q v.0 z v.2 in
-    (u.0, ap (option_and_then (entry_pieces_at q)) v.1 ∙ u.1, u.2)
-
 part_coll : (q : List Step) (x u : EntryPieces) → entry_pieces_at q x ≡ Some u → coll_along q x.node x.rest ≡ coll_in u.node u.rest
 part_coll [] x u e = ap (λ (v : EntryPieces). coll_in v.node v.rest) (same_Some _ _ e)
 part_coll (r ∷ q) x u e =
@@ -245,7 +238,7 @@ module _ (w : CollPieces) (gap : List ℕ) (is : Items) (t t2 : List ℕ) (short
       ((u : EntryPieces) (o : List Step) → coll_in u.node u.rest ≡ Some z → coll_along o u.node u.rest ≡ Some w → ⊥) → length t < length (after_appended z) →
       (m : List ℕ) × (z.rest ≡ m ++ t) × (coll_along q (collection_put p gap is x.node) x.rest ≡ Some (record z { rest = m ++ t2 }))
   earlier_coll p q x z at there apart long =
-      let u = coll_part q x z there in
+      let u = coll_entry q x z there in
       let b = earlier_part p q x u.0 at u.1 (λ o e. apart u.0 o u.2 e) (omega (arith, long, own_end u.0.node u.0.rest z u.2)) in
       (b.0, rest_in u.0.node u.0.rest z u.2 ∙ b.1, part_coll q (with_node (collection_put p gap is x.node) x) (record u.0 { rest = b.0 ++ t2 }) b.2 ∙ in_rest u.0.node u.0.rest (b.0 ++ t2) z u.2)
 

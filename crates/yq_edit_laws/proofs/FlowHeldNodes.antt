@@ -62,11 +62,9 @@ same_held (s ∷ ss) a b x same h = search (rules, kids_held b ∙ (ap kids (sym
 
 coll_here : (node : FlowNode) (rest : List ℕ) (x : FlowContent) → held (tree_of node) ≡ Some x → (w : CollPieces) × (coll_in node rest ≡ Some w) × (coll_held w ≡ x)
 unfolding tree_of
-coll_here empty rest x e = absurd (none-some _ e)
-coll_here (alias n) rest x e = absurd (none-some _ e)
-coll_here (scalar p) rest x e = absurd (none-some _ e)
 coll_here (coll k gap is) rest x e = (record { close = k; gap = gap; items = is; rest = rest }, refl, same_Some _ _ (sym (held_coll k (items_tree is)) ∙ e))
 coll_here (anchored n gap node) rest x e = coll_here node rest x (sym (held_named n (tree_of node)) ∙ e)
+coll_here _ rest x e = absurd (none-some _ e)
 
 -- the tree of an item or entry
 abbrev pub entry_tree : EntryPieces → tree.Node
@@ -104,11 +102,9 @@ coll_there (s ∷ ss) node rest x h =
 -- What a flow collection in the node holds, the tree's collection there holds.
 coll_inside : (node : FlowNode) (rest : List ℕ) (w : CollPieces) → coll_in node rest ≡ Some w → held (tree_of node) ≡ Some (coll_held w)
 unfolding tree_of
-coll_inside empty rest w e = absurd (none-some _ e)
-coll_inside (alias n) rest w e = absurd (none-some _ e)
-coll_inside (scalar p) rest w e = absurd (none-some _ e)
 coll_inside (coll k gap is) rest w e = held_coll k (items_tree is) ∙ ap (λ (v : CollPieces). Some (coll_held v)) (same_Some _ _ e)
 coll_inside (anchored n gap node) rest w e = held_named n (tree_of node) ∙ coll_inside node rest w e
+coll_inside _ rest w e = absurd (none-some _ e)
 
 pub coll_holds : (ss : List Step) (node : FlowNode) (rest : List ℕ) (w : CollPieces) → coll_along ss node rest ≡ Some w → HeldAt ss (tree_of node) (coll_held w)
 coll_holds [] node rest w e = (tree_of node, refl, coll_inside node rest w e)

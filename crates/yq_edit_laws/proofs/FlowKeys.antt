@@ -1,21 +1,21 @@
 -- No flow collection of a text that reads has a key twice.
-use Rattle.std.proofs.Common.{rules, ◌≡◌, ℕ, ◌++◌, true, List, [], ◌∷◌, length, Option, Some, None, option_map, refl, sym, ap, ◌∙◌}
-use Rattle.std.{proofs.Common.subst, specs.Prelude.⊤, proofs.lemmas.Bool.false≢true, proofs.lemmas.Option.{none-some, same_Some}}
+use Rattle.std.proofs.Common.{rules, ◌≡◌, ℕ, ◌++◌, true, List, [], ◌∷◌, length, Option, Some, None, option_map, refl, sym, ap, ◌∙◌, subst}
+use Rattle.std.{specs.Prelude.⊤, proofs.lemmas.Bool.false≢true, proofs.lemmas.Option.{none-some, same_Some}}
 use Rattle.yq_core.{specs.Answers.◌>>=◌, specs.Keys.{AreDistinct, EachHasUniqueKeys, HasUniqueKeys, keys_of}, specs.Paths.{Step, node_at}}
 use Rattle.yq_core.{specs.Collections.CollPieces, specs.Nodes.coll, specs.Places.{Placed, placed}}
 use Rattle.yq_core.{specs.Trees.{content_tree, items_tree, placed_tree, tree_collection, tree_of}, proofs.TreeLaws.node_tree}
-use Rattle.yq_outline.{specs.Outline.{Outline, anchored, head_or, value}}
+use Rattle.yq_outline.specs.Outline.{Outline, anchored, head_or, value}
 use Rattle.yq_outline.{specs.Places.{FoundLine, find, in_head, place_inside, content_under}, proofs.Finding.{FoundNode, path_node}}
-use Rattle.yq_outline.{specs.Lines.{content_anchor, head_of}}
-use Rattle.yq_row_table.{specs.Rows.{Content, Nothing, Inline, Block, Cut, cut_text}}
-use Rattle.yq_documents.{specs.Reading.{cut_of, part_outline, read_at}}
+use Rattle.yq_outline.specs.Lines.{content_anchor, head_of}
+use Rattle.yq_row_table.specs.Rows.{Content, Nothing, Inline, Block, Cut, cut_text}
+use Rattle.yq_documents.specs.Reading.{cut_of, part_outline, read_at}
 use Rattle.yq_places.specs.FlowNodes.{bare_line, content_flow, find_head, flow_collection, head_line}
 use Rattle.yq_places.{specs.FlowViews.{FlowAgrees, following_anchor}, specs.declared.places.flow_node.FlowHead.FlowHead}
 use Rattle.yq_places.proofs.FlowPieces.{head_tree}
 use Rattle.yq_edit_rules.{proofs.PartLaws.document_known, proofs.SoundRootLaws.unique_at}
 use Rattle.yq_edit_laws.proofs.FlowHeldNodes.{FlowContent, HeldAt, coll_held, coll_holds, held, held_anchored, held_coll, held_named}
-use Rattle.yq_edit_laws.{proofs.FlowHeldNodes.same_held, specs.NearParts.HasUniqueCollection}
-use Rattle.yq_edit_laws.{proofs.FlowAnswers.{CollFound, coll_found}, proofs.FlowHeads.whole_is, proofs.FlowPartNodes.{LineAt, line_at, line_head}}
+use Rattle.yq_edit_laws.{proofs.FlowHeldNodes.same_held, specs.NearParts.HasUniqueCollection, proofs.FlowAnswers.{CollFound, coll_found}}
+use Rattle.yq_edit_laws.{proofs.FlowHeads.whole_is, proofs.FlowPartNodes.{LineAt, line_at, line_head}}
 use Rattle.yq_core.specs.Tree as tree
 
 -- ---- what a node holds

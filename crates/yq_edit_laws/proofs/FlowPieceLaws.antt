@@ -7,7 +7,7 @@ use Rattle.std.specs.Str.{chars, IsUtf8, IsCharBoundary}
 use Rattle.yq_core.{specs.Characters.pairs_returns, specs.Text.{front, is_feed, is_return}}
 use Rattle.yq_flow_edits.{specs.FlowEdits.FlowEdit, proofs.ReturnLaws.Whole}
 use Rattle.yq_row_table.proofs.CharacterLaws.{all_text, all_join, pairs_back}
-use Rattle.yq_edit_rules.{proofs.CommentPieceLaws.nothing, specs.TextPieces.IsPiece}
+use Rattle.yq_edit_rules.{proofs.CommentPieceLaws.{byte_then, nothing}, specs.TextPieces.IsPiece}
 
 -- ---- a text cut in two
 
@@ -52,15 +52,7 @@ edit_pieces t before e piece is start ends whole =
 
 -- ---- what takes the place of an item or entry
 
-ascii_piece : (b : ℕ) → (b ≡ 32) ⊎ (b ≡ 44) → IsPiece (b ∷ [])
-unfolding chars pairs_returns
-ascii_piece b (inl e) = subst (λ (x : ℕ). IsPiece (x ∷ [])) (sym e) (record { utf8 = IsUtf8-from_ascii (32 ∷ []) (IsAscii-cons 32 [] (omega arith) IsAscii-nil); characters = refl })
-ascii_piece b (inr e) = subst (λ (x : ℕ). IsPiece (x ∷ [])) (sym e) (record { utf8 = IsUtf8-from_ascii (44 ∷ []) (IsAscii-cons 44 [] (omega arith) IsAscii-nil); characters = refl })
-
-pub one_space : IsPiece (32 ∷ [])
-one_space = ascii_piece 32 (inl refl)
-
 pub lead_piece : (l : List ℕ) → (l ≡ []) ⊎ ((l ≡ 32 ∷ []) ⊎ (l ≡ 44 ∷ [])) → IsPiece l
 lead_piece l (inl e) = subst IsPiece (sym e) nothing
-lead_piece l (inr (inl e)) = subst IsPiece (sym e) one_space
-lead_piece l (inr (inr e)) = subst IsPiece (sym e) (ascii_piece 44 (inr refl))
+lead_piece l (inr (inl e)) = subst IsPiece (sym e) (byte_then 32 [] refl nothing)
+lead_piece l (inr (inr e)) = subst IsPiece (sym e) (byte_then 44 [] refl nothing)

@@ -116,18 +116,14 @@ last_longer k gap (item j n sep (item j2 n2 sep2 is)) rest = last_longer k gap (
 -- ---- a collection with other items or entries
 
 coll_put : (gap : List ℕ) (is : Items) (node : FlowNode) (rest : List ℕ) (w : CollPieces) → coll_in node rest ≡ Some w → coll_in (put_coll gap is node) rest ≡ Some (record w { gap = gap; items = is })
-coll_put gap is empty rest w e = absurd (none-some _ e)
-coll_put gap is (alias n) rest w e = absurd (none-some _ e)
-coll_put gap is (scalar p) rest w e = absurd (none-some _ e)
 coll_put gap is (coll k g others) rest w e = ap (λ (v : CollPieces). Some (record v { gap = gap; items = is })) (same_Some _ _ e)
 coll_put gap is (anchored n g node) rest w e = coll_put gap is node rest w e
+coll_put gap is _ rest w e = absurd (none-some _ e)
 
 coll_changed : (f : Items → Items) (node : FlowNode) (rest : List ℕ) (w : CollPieces) → coll_in node rest ≡ Some w → coll_in (within_items f node) rest ≡ Some (record w { items = f w.items })
-coll_changed f empty rest w e = absurd (none-some _ e)
-coll_changed f (alias n) rest w e = absurd (none-some _ e)
-coll_changed f (scalar p) rest w e = absurd (none-some _ e)
 coll_changed f (coll k g others) rest w e = ap (λ (v : CollPieces). Some (record v { items = f v.items })) (same_Some _ _ e)
 coll_changed f (anchored n g node) rest w e = coll_changed f node rest w e
+coll_changed f _ rest w e = absurd (none-some _ e)
 
 -- ---- one that ends as another
 

@@ -100,11 +100,9 @@ item_changed k s r f Q (item key n sep is) rest y here there less own_stays =
 
 node_changed : (s r : Step) (f : FlowNode → FlowNode) (Q : EntryPieces → Type 0) (node : FlowNode) (rest : List ℕ) (y : EntryPieces) → path_inside s node rest ≡ Some y → HoldsOf Q (path_inside r node rest) →
     ((u : EntryPieces) → Q u → length u.rest < length (node_text y.node y.rest)) → (Q y → Q (with_node (f y.node) y)) → HoldsOf Q (path_inside r (within_items (change_item s f) node) rest)
-node_changed s r f Q empty rest y here there less own_stays = absurd (none-some _ here)
-node_changed s r f Q (alias n) rest y here there less own_stays = absurd (none-some _ here)
-node_changed s r f Q (scalar p) rest y here there less own_stays = absurd (none-some _ here)
 node_changed s r f Q (coll k gap is) rest y here there less own_stays = item_changed k s r f Q is rest y here there less own_stays
 node_changed s r f Q (anchored n gap node) rest y here there less own_stays = node_changed s r f Q node rest y here there less own_stays
+node_changed s r f Q _ rest y here there less own_stays = absurd (none-some _ here)
 
 -- The items of a collection are others, and a number of bytes at the end of the text stay: what holds of items or entries that end there holds after it, if it
 -- does where that collection is inside them, and where they are inside it.

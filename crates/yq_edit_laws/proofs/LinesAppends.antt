@@ -9,9 +9,9 @@ use Rattle.yq_semantics.specs.Operations.{append}
 use Rattle.yq_places.{specs.CollectionEnds.CollectionEnd, specs.PlacedRows.{PlacedPart, placed_document}, specs.RowPieces.upto_dash}
 use Rattle.yq_places.specs.Placements.{LinesIn, RowsOfEntry, Placement, before_entry, after_entry, compact_in, compact_lines, dash_text}
 use Rattle.yq_places.specs.Placements.{entry_placement, is_alone, root, root_lines, rows_of_entry, placement_at}
-use Rattle.yq_edit_rules.{specs.CollectionPlaces.IsCollectionEnd, specs.Edits.op_edits}
-use Rattle.yq_edit_rules.{specs.EntryEdits.{block_more, more_lines}, specs.Layouts.layout_of, specs.PiecePuts.after_lines}
-use Rattle.yq_edit_rules.{specs.RowChanges.PutsOne, specs.PlacementLaws.HasItsRows, proofs.AppendPlaces.IsAppendPlace}
+use Rattle.yq_edit_rules.{specs.CollectionPlaces.IsCollectionEnd, specs.Edits.op_edits, specs.EntryEdits.{block_more, more_lines}}
+use Rattle.yq_edit_rules.{specs.Layouts.layout_of, specs.PiecePuts.after_lines, specs.RowChanges.PutsOne, specs.PlacementLaws.HasItsRows}
+use Rattle.yq_edit_rules.proofs.AppendPlaces.{IsAppendPlace}
 use Rattle.yq_edit_laws.{proofs.CollectionIsThere.{end_at, front_there, headless_dash, root_rows_there}, proofs.EntryAdds.AddsEntry}
 use Rattle.yq_edit_laws.proofs.FinalBreaks.{feed_last, last_feed}
 use Rattle.yq_edit_laws.proofs.MoreLaws.{compact_column, compact_end, compact_some, compact_spelled, compact_text, root_end, root_place}

@@ -50,15 +50,6 @@ known_text b raw h = search (rules, cases_Bool, false≢true, no_others, literal
 
 -- ---- its indentation, and what comes after it
 
-detected_least : (least : ℕ) (f : TextIndent) (ls : RawLines) → IsDetected least f ls → least ≤ f.columns
-detected_least least f [] h = subst (λ (x : TextIndent). least ≤ x.columns) (sym h) (omega arith)
-detected_least least f (l ∷ ls) (inl h) = detected_least least f ls h.2
-detected_least least f (l ∷ ls) (inr h) = subst (λ (x : TextIndent). least ≤ x.columns) (sym h.1) h.2
-
-pub indent_least : (least : ℕ) (digit : Option ℕ) (f : TextIndent) (ls : RawLines) → IsDigit digit → IsTextIndent least digit f ls → least ≤ f.columns
-indent_least least None f ls d h = detected_least least f ls h
-indent_least least (Some n) f ls d h = subst (λ (x : TextIndent). least ≤ x.columns) (sym h) (let small = d.0 in omega (arith, small))
-
 pub loose : (keep : Bool) (f : TextIndent) (ls : RawLines) → ends_block keep f ls ≡ true → ends_block false f ls ≡ true
 unfolding ends_block
 loose false f ls h = h

@@ -10,26 +10,23 @@ use Rattle.yq_row_table.{specs.Exchange.asked_after, specs.Grammar.{IsContent, I
 use Rattle.yq_row_table.specs.Rows.{Content, Nothing, Inline, Block, Cut, Part, Row, cut_text, parent_indent, rows_text}
 use Rattle.yq_row_table.specs.View.{anchor_cut, content_cut, slices}
 use Rattle.yq_documents.{specs.Documents.document_parts, specs.Reading.{part_outline, read_at, root_of}}
-use Rattle.yq_places.{specs.FlowNodes.{find_head, flow_collection}, specs.PlacedRows.PlacedPart}
+use Rattle.yq_places.{proofs.PlacedPartLaws.placed_is, specs.FlowNodes.{find_head, flow_collection}, specs.PlacedRows.PlacedPart}
 use Rattle.yq_places.specs.Placements.{RowsOfEntry, Placement, after_entry, past_mark, below, beside, entry_placement, held, is_alone}
 use Rattle.yq_places.specs.Placements.{root_placement, placement_at}
-use Rattle.yq_edit_rules.{specs.Siblings.{HasEntries, IsCollectionAt, IsEntry, NodeLines}, specs.PlacementLaws.HasItsRows}
-use Rattle.yq_edit_rules.{proofs.NodeLineLaws.lines_found, proofs.PlacementMarks.{even_there, row_there, under_it}}
-use Rattle.yq_edit_rules.{proofs.PlacementRows.rows_located, proofs.UnderLaws.{line_is, under_is}, specs.declared.layout.Layout.Layout}
-use Rattle.yq_edit_rules.{specs.EditLaws.AppendHasEdit, specs.EntryEdits.block_more, specs.Edits.appended}
-use Rattle.yq_edit_rules.{specs.FlowParts.{flow_more, takes_key}, specs.Layouts.layout_of}
+use Rattle.yq_edit_rules.{proofs.ApartLaws.block_some, specs.Siblings.{HasEntries, IsCollectionAt, IsEntry, NodeLines}}
+use Rattle.yq_edit_rules.{specs.PlacementLaws.HasItsRows, proofs.NodeLineLaws.lines_found}
+use Rattle.yq_edit_rules.{proofs.PlacementMarks.{even_there, row_there, under_it}, proofs.PlacementRows.rows_located}
+use Rattle.yq_edit_rules.{proofs.UnderLaws.{line_is, under_is}, specs.declared.layout.Layout.Layout, specs.EditLaws.AppendHasEdit}
+use Rattle.yq_edit_rules.{specs.EntryEdits.block_more, specs.Edits.appended, specs.FlowParts.{flow_more, takes_key}}
+use Rattle.yq_edit_rules.specs.Layouts.{layout_of}
 use Rattle.yq_semantics.specs.Fits.{Takes}
 use Rattle.yq_text.specs.Script.{Segment}
 use Rattle.yq_edit_laws.{proofs.FlowHeldNodes.{collection_cases, FlowContent as Holds, held as held_in}, proofs.DocumentParts.part_of}
-use Rattle.yq_edit_laws.{proofs.FlowHeldLines.flow_there, proofs.PlacementExists.{placed_there, rows_there}}
-use Rattle.yq_edit_laws.proofs.RemoveExists.{second_there}
+use Rattle.yq_edit_laws.{proofs.FlowHeldLines.flow_there, proofs.PlacementExists.rows_there, proofs.RemoveExists.second_there}
 use Rattle.yq_core.specs.Tree as tree
 use Rattle.yq_outline.specs.Outline as outlines
 
 -- ---- lines of items or entries
-
-none_there : (o : Outline) → HasEntries o → [] ≡ flatten o → ⊥
-none_there o h e = search rules
 
 first_is : (o : Outline) (l : Line) (ls : List Line) → HasEntries o → l ∷ ls ≡ flatten o → IsEntry l.mark
 first_is o l ls h e = search rules
@@ -54,11 +51,11 @@ head_bare flow spaces d node rest h e = search (rules, none-some, false≢true)
 
 module _ (l : Layout) (key : Option (List ℕ)) (v : tree.Node) where
   below_put : (e : RowsOfEntry) (us : List Row) (o : Outline) → HasEntries o → lines_of_rows us ≡ flatten o → IsPut l key v (below e us)
-  below_put e [] o block lines = absurd (none_there o block lines)
+  below_put e [] o block lines = absurd (block_some o block (sym lines))
   below_put e (r ∷ rs) o block lines = (_, ap (block_more l key v) (cond-false _ _ _ (not_alone r rs o block lines)))
 
   root_put : (d : PlacedPart) (rs : List Row) (o : Outline) → HasEntries o → lines_of_rows rs ≡ flatten o → IsPut l key v (root_placement d rs)
-  root_put d [] o block lines = absurd (none_there o block lines)
+  root_put d [] o block lines = absurd (block_some o block (sym lines))
   root_put d (r ∷ rs) o block lines = (_, ap (block_more l key v) (cond-false _ _ _ (not_alone r rs o block lines)))
 
   -- after a mark, where no head is written
@@ -91,7 +88,7 @@ module _ (l : Layout) (key : Option (List ℕ)) (v : tree.Node) where
   block_put : (n : ℕ) (steps : List Step) (c : Cut) (p : Part) (h : NodeLines) → read_at (cut_text c) ≡ Some c → slice_get (document_parts c) n ≡ Some p → IsCollectionAt steps (part_outline p) h →
       (ss : List Segment) × ((placement_at n steps c >>= block_more l key v) ≡ Some ss)
   block_put n [] c p h read there at =
-      let d = placed_there c n p there in
+      let d = placed_is n c p there in
       let own : part_outline p ≡ h.lines = ap (λ (z : NodeLines). z.lines) (same_Some _ _ at.place_is) in
       let lines : lines_of_rows d.0.part.rows ≡ flatten h.lines = ap (λ (q : Part). lines_of_rows q.rows) d.2 ∙ (sym (flatten-group (lines_of_rows p.rows)) ∙ ap flatten own) in
       let w = root_put d.0 d.0.part.rows h.lines at.block lines in

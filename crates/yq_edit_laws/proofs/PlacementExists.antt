@@ -4,13 +4,13 @@ use Rattle.std.{proofs.Common.{option_and_then, refl, sym, ap, ◌∙◌}, proof
 use Rattle.yq_core.{specs.Answers.◌>>=◌, specs.Paths.{Step, child_at, node_at}, specs.Tree.{Node, children_of}, proofs.Bools.bind_some}
 use Rattle.yq_core.{specs.Collections.CollPieces, specs.Entries.{EntryPieces, item_at}, specs.Trees.items_tree}
 use Rattle.yq_outline.{specs.Counts.count, specs.Ends.{found_line, line_at_steps}, specs.Outline.{Line, anchored, children, flatten, value}}
-use Rattle.yq_outline.specs.Places.{FoundLine, find, find_row, lines_after, lines_before}
-use Rattle.yq_outline.{proofs.ChildLaws.anchored_children, proofs.Finding.row_child, specs.Lines.lines_of_rows}
+use Rattle.yq_outline.{specs.Places.{FoundLine, find, find_row, lines_after, lines_before}, proofs.ChildLaws.anchored_children}
+use Rattle.yq_outline.{proofs.Finding.row_child, specs.Lines.lines_of_rows}
 use Rattle.yq_row_table.specs.Rows.{Part, Cut, cut_text}
 use Rattle.yq_documents.{specs.Documents.{Document, document_parts}, specs.Reading.{documents, part_outline, read_at, root_of}}
 use Rattle.yq_documents.specs.LinesInRows.{row_line, row_line_of}
-use Rattle.yq_places.{specs.FlowNodes.find_head, specs.NodesAt.node_in, specs.PlacedRows.{PlacedPart, placed_document}}
-use Rattle.yq_places.specs.RemovalPlaces.{has_others_at, has_several}
+use Rattle.yq_places.{proofs.PlacedPartLaws.placed_is, specs.FlowNodes.find_head, specs.NodesAt.node_in}
+use Rattle.yq_places.{specs.PlacedRows.{PlacedPart, placed_document}, specs.RemovalPlaces.{has_others_at, has_several}}
 use Rattle.yq_places.specs.Placements.{FlowPart, RowsOfEntry, entry_rows_at, flow_part, flow_placement, last_step, rows_of_entry}
 use Rattle.yq_places.{specs.Placements.root_placement, proofs.FoundEntries.middle, proofs.PlacedRowLaws.{document_placed, part_of}}
 use Rattle.yq_places.{proofs.RowPathLaws.found_lines, proofs.DashLineLaws.row_line_found, proofs.PrintedTexts.map_some}
@@ -23,11 +23,9 @@ use Rattle.yq_edit_laws.proofs.DocumentParts as parts
 
 -- ---- roots
 
-pub placed_there : (c : Cut) (n : ℕ) (p : Part) → slice_get (document_parts c) n ≡ Some p → (d : PlacedPart) × (placed_document n c ≡ Some d) × (d.part ≡ p)
-placed_there c n p there = search (rules, document_placed, part_of, none-some, same_Some)
-
 pub roots_are_there : RootsOccur
-roots_are_there n c p there = let d = placed_there c n p there in (root_placement d.0 d.0.part.rows, ap (option_map (λ (d : PlacedPart). root_placement d d.part.rows)) d.1)
+roots_are_there n c p there = let d = placed_is n c p there in
+    (root_placement d.0 d.0.part.rows, ap (option_map (λ (d : PlacedPart). root_placement d d.part.rows)) d.1)
 
 -- ---- the rows of an item or entry
 
@@ -42,7 +40,7 @@ rows_there n s ss c p there f found =
     let rest : List Line = flatten f.under ++ (flatten f.after ++ lines_after f.place) in
     let line : slice_get (lines_of_rows p.rows) k ≡ Some f.line = ap (λ (ls : List Line). slice_get ls k) (found_lines (lines_of_rows p.rows) s ss [] f found) ∙ middle (lines_before f.place) rest f.line in
     let x = row_line_found p.rows k f.line line in
-    let d = placed_there c n p there in
+    let d = placed_is n c p there in
     let printed_line : row_line_of (s ∷ ss) d.0.part.rows ≡ Some x.0 = ap (λ (q : Part). row_line_of (s ∷ ss) q.rows) d.2 ∙ (ap (λ (o : Option ℕ). o >>= λ k. row_line k p.rows) number ∙ x.1) in (
       entry_rows_at d.0 x.0,
       ap (λ (o : Option PlacedPart). o >>= λ q. option_map (entry_rows_at q) (row_line_of (s ∷ ss) q.part.rows)) d.1 ∙ ap (option_map (entry_rows_at d.0)) printed_line,

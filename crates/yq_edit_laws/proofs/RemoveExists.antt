@@ -8,7 +8,7 @@ use Rattle.yq_outline.{specs.Places.{FoundLine, find, lines_after, lines_before}
 use Rattle.yq_row_table.specs.Rows.{Part, Cut, cut_text}
 use Rattle.yq_documents.{specs.declared.path.Part.TheVariants.Entry, specs.Pieces.TextPiece, specs.Reading.read_at}
 use Rattle.yq_documents.{specs.LinesInRows.{RowLine, row_line, row_line_of}, specs.Documents.document_parts}
-use Rattle.yq_places.specs.FirstPlaces.{first_entry, first_out, first_removal}
+use Rattle.yq_places.{proofs.PlacedPartLaws.placed_is, specs.FirstPlaces.{first_entry, first_out, first_removal}}
 use Rattle.yq_places.specs.PathPieces.{BlockEntry, PrintedDocument, entry_piece, found_entry, piece_in, piece_in_entry, printed_document}
 use Rattle.yq_places.{specs.PrintedLines.line_in, specs.RemovalPlaces.{OwnRows, in_three, removal_place, row_count, rows_out}}
 use Rattle.yq_places.{specs.Placements.{RowsOfEntry, rows_of_entry}, proofs.FoundEntries.{entry_there, middle}}
@@ -17,7 +17,6 @@ use Rattle.yq_places.proofs.DashLineLaws.{row_line_found}
 use Rattle.yq_edit_rules.{specs.PlacementLaws.HasItsRows, proofs.PlacementRows.rows_located, specs.EntryEdits.one_removed}
 use Rattle.yq_edit_rules.{specs.Removing.{first_removed, rows_removed}, proofs.PartLaws.document_known, proofs.PlaceTextLaws.around}
 use Rattle.yq_text.specs.Script.{Segment}
-use Rattle.yq_edit_laws.proofs.PlacementExists.{placed_there}
 
 -- ---- the first of two that is there
 
@@ -74,7 +73,7 @@ module _ (n : ℕ) (s : Step) (ss : List Step) (c : Cut) (e : RowsOfEntry) (read
   -- the first line of a row
   by_rows : (w : RowLine) → row_line at p.rows ≡ Some w → eqb w.line 0 ≡ true → (us : List Segment) × (option_map rows_removed (removal_place n (s ∷ ss) c) ≡ Some us)
   by_rows w is first =
-      let d = placed_there c n p x.old.there in
+      let d = placed_is n c p x.old.there in
       let own : OwnRows = in_three w.before (row_count (lines_end at ls - at) (drop w.before p.rows)) p.rows in
       let place : removal_place n (s ∷ ss) c ≡ Some (rows_out d.0 own) = search rules in
       (rows_removed (rows_out d.0 own), ap (option_map rows_removed) place)

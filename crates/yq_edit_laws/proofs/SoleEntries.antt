@@ -16,7 +16,7 @@ use Rattle.yq_places.specs.Placements.{last_step}
 use Rattle.yq_edit_rules.{specs.Edits.empty_collection, specs.FlowRows.{FlowAt, text_after_node}, specs.Replacing.keeps_scalar}
 use Rattle.yq_lookup.proofs.RowParts.{node_entry}
 use Rattle.yq_edit_laws.{proofs.LaterEnds.rest_in, proofs.FlowSoundLaws.last_is, proofs.FlowPlacements.EntryAt}
-use Rattle.yq_edit_laws.proofs.SoleParts.{IsEmptiedBy, last_of}
+use Rattle.yq_edit_laws.proofs.SoleParts.{IsEmptiedBy, last_of, named_children}
 use Rattle.yq_core.specs.Tree as tree
 use Rattle.yq_edit_laws.proofs.FlowPutLaws as put
 use Rattle.yq_edit_laws.proofs.FlowPlacements as placement
@@ -85,10 +85,7 @@ named_empty a (tree.list b cs) = refl
 named_empty a (tree.map b cs) = refl
 
 named_several : (a : List ℕ) (n : Node) → has_several (Some (with_name a n)) ≡ has_several (Some n)
-named_several a (tree.alias name) = refl
-named_several a (tree.scalar b kind t) = refl
-named_several a (tree.list b cs) = refl
-named_several a (tree.map b cs) = refl
+named_several a n = ap (λ (cs : tree.Children). nat_lt 1 (count cs)) (named_children a n)
 
 collection_emptied : (k : ℕ) (cs : tree.Children) → nat_lt 1 (count cs) ≡ false → IsEmptiedBy (empty_tree k) (tree_collection k cs)
 collection_emptied k cs few = go (eqb k 125)
@@ -99,29 +96,23 @@ collection_emptied k cs few = go (eqb k 125)
 
 pub node_emptied : (node : FlowNode) (rest : List ℕ) (z : CollPieces) → coll_in node rest ≡ Some z → nat_lt 1 (count (items_tree z.items)) ≡ false → IsEmptiedBy (empty_tree z.close) (tree_of node)
 unfolding tree_of
-node_emptied empty rest z e few = absurd (none-some _ e)
-node_emptied (alias n) rest z e few = absurd (none-some _ e)
-node_emptied (scalar p) rest z e few = absurd (none-some _ e)
 node_emptied (coll k gap is) rest z e few = search (rules, same_Some, e, collection_emptied, few)
 node_emptied (anchored n gap node) rest z e few =
     let h = node_emptied node rest z e few in
     (named_empty n (tree_of node) ∙ h.0, named_several n (tree_of node) ∙ h.1)
+node_emptied _ rest z e few = absurd (none-some _ e)
 
 -- after its anchor it is the collection
 only_coll : (flow : Bool) (spaces : Option ℕ) (d : ℕ) (node : FlowNode) (rest : List ℕ) (z : CollPieces) → IsFlowNode flow spaces d node rest → coll_in node rest ≡ Some z → without_anchor node ≡ coll z.close z.gap z.items
 unfolding IsFlowNode
-only_coll flow spaces d empty rest z h e = absurd (none-some _ e)
-only_coll flow spaces d (alias n) rest z h e = absurd (none-some _ e)
-only_coll flow spaces d (scalar p) rest z h e = absurd (none-some _ e)
 only_coll flow spaces d (coll k gap is) rest z h e = ap (λ (w : CollPieces). coll w.close w.gap w.items) (same_Some _ _ e)
 only_coll flow spaces d (anchored n gap node) rest z h e = go node h.3 e
   where
     go : (m : FlowNode) → takes_anchor m ≡ true → coll_in m rest ≡ Some z → m ≡ coll z.close z.gap z.items
-    go empty takes e = absurd (none-some _ e)
-    go (alias n) takes e = absurd (none-some _ e)
-    go (scalar p) takes e = absurd (none-some _ e)
     go (coll k gap is) takes e = ap (λ (w : CollPieces). coll w.close w.gap w.items) (same_Some _ _ e)
     go (anchored n gap node) takes e = absurd (false≢true takes)
+    go _ takes e = absurd (none-some _ e)
+only_coll flow spaces d _ rest z h e = absurd (none-some _ e)
 
 no_scalar : (old : Option Node) (k : ℕ) → keeps_scalar old (empty_tree k) ≡ false
 no_scalar old k = go old (eqb k 125)

@@ -67,7 +67,7 @@ sole_items k rest s g (item key n sep none) few = go (is_here s (key_label (key_
     go false = refl
 sole_items k rest s g (item key n sep (item key2 n2 sep2 is)) few = absurd (omega (arith, ltb-false 1 (count (items_tree (item key n sep (item key2 n2 sep2 is)))) few))
 
-named_children : (a : List ℕ) (n : Node) → children_of (with_name a n) ≡ children_of n
+pub named_children : (a : List ℕ) (n : Node) → children_of (with_name a n) ≡ children_of n
 named_children a (tree.alias name) = refl
 named_children a (tree.scalar b kind t) = refl
 named_children a (tree.list b cs) = refl
@@ -75,15 +75,13 @@ named_children a (tree.map b cs) = refl
 
 sole_node : (node : FlowNode) (rest : List ℕ) (w : CollPieces) (s : Step) → nat_lt 1 (count (children_of (tree_of node))) ≡ false → coll_in node rest ≡ Some w → removing s w ≡ None
 unfolding tree_of
-sole_node empty rest w s few e = absurd (none-some _ e)
-sole_node (alias n) rest w s few e = absurd (none-some _ e)
-sole_node (scalar p) rest w s few e = absurd (none-some _ e)
 sole_node (coll k gap is) rest w s few e = subst (λ (v : CollPieces). removing s v ≡ None) (same_Some _ _ e) (sole_items k rest s gap is (go (eqb k 125) few))
   where
     go : (b : Bool) → nat_lt 1 (count (children_of (cond b (tree.map None (items_tree is)) (tree.list None (items_tree is))))) ≡ false → nat_lt 1 (count (items_tree is)) ≡ false
     go true h = h
     go false h = h
 sole_node (anchored n gap node) rest w s few e = sole_node node rest w s (ap (λ (cs : Children). nat_lt 1 (count cs)) (sym (named_children n (tree_of node))) ∙ few) e
+sole_node _ rest w s few e = absurd (none-some _ e)
 
 -- ---- the operation
 

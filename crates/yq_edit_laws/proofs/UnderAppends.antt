@@ -10,8 +10,8 @@ use Rattle.yq_semantics.specs.Operations.{append}
 use Rattle.yq_places.{specs.CollectionEnds.CollectionEnd, specs.CommentPlaces.text_to_line_end, specs.PrintedLines.last_break}
 use Rattle.yq_places.proofs.CommentEndLaws.{row_text_parts}
 use Rattle.yq_places.specs.Placements.{RowsOfEntry, before_entry, after_entry, entry_placement, held, is_alone, rows_of_entry, under}
-use Rattle.yq_edit_rules.{specs.Edits.op_edits, specs.EntryEdits.{after_held, more_lines}}
-use Rattle.yq_edit_rules.{specs.Layouts.layout_of, specs.RowChanges.PutsOne, specs.PlacementLaws.HasItsRows}
+use Rattle.yq_edit_rules.{specs.Edits.op_edits, specs.EntryEdits.{after_held, more_lines}, specs.Layouts.layout_of}
+use Rattle.yq_edit_rules.{specs.RowChanges.PutsOne, specs.PlacementLaws.HasItsRows}
 use Rattle.yq_edit_laws.{proofs.CollectionIsThere.{end_at, front_there, headless_mark}, proofs.EntryAdds.AddsEntry}
 use Rattle.yq_edit_laws.{proofs.FinalBreaks.{feed_last, last_feed}, proofs.MoreLaws.{below_some, there, under_end, under_spelled}}
 use Rattle.yq_edit_laws.proofs.OnePutLaws.{lines_put_one}

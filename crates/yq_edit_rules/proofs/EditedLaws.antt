@@ -10,8 +10,9 @@ use Rattle.yq_outline.{proofs.Decides.{flatten-group, even_from}, proofs.Finding
 use Rattle.yq_outline.{proofs.PlaceLaws.{at, exchanged}, proofs.Plug.allows_from, proofs.Values.{same_rank, same_entry}}
 use Rattle.yq_outline.{proofs.NameLaws.{each_front, each_back}, proofs.NodeLaws.anchored_none}
 use Rattle.yq_row_table.specs.Rows.{Part, Cut}
-use Rattle.yq_documents.{specs.Documents.{document_parts, lead_of}, specs.Reading.{is_document, part_outline, read_at, root_of}}
-use Rattle.yq_documents.{proofs.DocumentLaws.document_is, proofs.ReadLaws.text_takes, specs.TreeEdits.headed}
+use Rattle.yq_documents.{proofs.PartRows.each, specs.Documents.{document_parts, lead_of}}
+use Rattle.yq_documents.{specs.Reading.{is_document, part_outline, read_at, root_of}, proofs.DocumentLaws.document_is}
+use Rattle.yq_documents.{proofs.ReadLaws.text_takes, specs.TreeEdits.headed}
 use Rattle.yq_places.proofs.RowPathLaws.{document_fine}
 use Rattle.yq_edit_rules.{specs.Changed.{IsChanged, put_document, first_comment}, specs.Conditions.{last_anchor, BeginsEntry}}
 use Rattle.yq_edit_rules.specs.Edited.{IsPut, OldIsEven, OldIsSound, LinesAreThere, LineExchanged, LinesExchanged, LinesAppended}
@@ -21,8 +22,7 @@ use Rattle.yq_edit_rules.proofs.AnchorLaws.{any_free, anchors_stay, after_anew, 
 use Rattle.yq_edit_rules.proofs.ChangedLaws.{document_changed, lead_is_first}
 use Rattle.yq_edit_rules.proofs.CollectionLaws.{Splits, some_at, level_mark, appended, removed, relabelled}
 use Rattle.yq_edit_rules.proofs.NodeLineLaws.{lines_found, lines_even, lines_replaced}
-use Rattle.yq_edit_rules.{proofs.SiblingLaws.{entry_out, entries, even_right, next, rest_entries}, proofs.PartLaws.all_at}
-use Rattle.yq_edit_rules.proofs.PlacedLaws.{around}
+use Rattle.yq_edit_rules.{proofs.SiblingLaws.{entry_out, entries, even_right, next, rest_entries}, proofs.PlacedLaws.around}
 use Rattle.yq_outline.proofs.Allowing as allowing
 
 -- What is known of a part that is a document.
@@ -36,7 +36,7 @@ pub known : (t : List ℕ) (c : Cut) (k : ℕ) (p q : Part) → IsPut t c k p q 
 unfolding read_at
 known t c k p q h =
     let old = text_takes t c (guard_then _ h.read).1 in
-    let doc : is_document p ≡ true = all_at (document_parts c) k p old.1 h.there in
+    let doc : is_document p ≡ true = each (document_parts c) old.1 k p h.there in
     let is = document_is p doc in
     record {
       even = even_from _ _ (document_fine p doc);
