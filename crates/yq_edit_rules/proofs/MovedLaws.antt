@@ -4,7 +4,7 @@ use Rattle.yq_outline.{specs.Comments.{head_comment, line_comment}, specs.Lines.
 use Rattle.yq_outline.specs.Outline.{Line}
 use Rattle.yq_row_table.specs.Rows.{Content, Nothing, after_columns}
 use Rattle.yq_places.proofs.UnderExchange.{lines_append}
-use Rattle.yq_edit_rules.{proofs.AppendLaws.around, specs.Moved.{dash_lines, moved_up, DashesFirst, FirstMoved, FirstEmptied}}
+use Rattle.yq_edit_rules.specs.Moved.{dash_lines, moved_up, DashesFirst, FirstMoved, FirstEmptied}
 use Rattle.yq_row_table.specs.Rows as rows
 
 -- the lines of dashes, and those after them
@@ -15,6 +15,9 @@ from_dashes above column n (k ∷ ns) es mark c = ap (λ ls. dash_line above col
 -- lines before, between and after
 three : (a d x g z : List Line) → a ++ ((d ++ x) ++ (g ++ z)) ≡ (a ++ d) ++ ((x ++ g) ++ z)
 three a d x g z = ap (λ y. a ++ y) (append_assoc d x (g ++ z) ∙ ap (λ y. d ++ y) (sym (append_assoc x g z))) ∙ sym (append_assoc a d ((x ++ g) ++ z))
+
+two : (a d z y : List Line) → a ++ ((d ++ y) ++ z) ≡ (a ++ d) ++ (y ++ z)
+two a d z y = ap (λ x. a ++ x) (append_assoc d y z) ∙ sym (append_assoc a d (y ++ z))
 
 pub first_moved : FirstMoved
 first_moved before gone after r b n ns es dashes column bare =
@@ -29,7 +32,7 @@ first_moved before gone after r b n ns es dashes column bare =
           ∙ ((λ i. lines_of_rows before ++ (old i ++ lines_append gone (b ∷ after) i))
           ∙ three (lines_of_rows before) d (lines_from [] b.column es r.mark r.content) (lines_of_rows gone) (lines_of_rows (b ∷ after))),
       lines_append before (moved_up r (n ∷ ns) b ∷ after)
-          ∙ ((λ i. lines_of_rows before ++ (new i ++ lines_of_rows after)) ∙ sym (around (lines_of_rows before) d (row_lines b) (lines_of_rows after))),
+          ∙ ((λ i. lines_of_rows before ++ (new i ++ lines_of_rows after)) ∙ two (lines_of_rows before) d (lines_of_rows after) (row_lines b)),
     )
 
 -- a row with nothing after its last dash has the lines of its dashes
