@@ -1,4 +1,5 @@
 -- A block collection that is at a place, by its rows, and where it ends.
+use Rattle.std.proofs.lemmas.Grind.{common_steps}
 use Rattle.std.proofs.Common.{rules, inl, inr, ◌⊎◌, ◌≡◌, ℕ, suc, ◌+◌, ◌<◌, ◌≤◌, Bool, true, false, ◌&&◌, List, [], ◌∷◌, ◌++◌, length, take}
 use Rattle.std.proofs.Common.{Option, Some, None, refl, sym, ap, ◌∙◌, subst, arith, append_assoc, append-nil, length-append}
 use Rattle.std.{proofs.lemmas.Bool.{cases_lt, false≢true}, proofs.lemmas.Option.same_Some, specs.List.slice_get, specs.Option.is_none}
@@ -68,11 +69,7 @@ module _ (n : ℕ) (s : Step) (ss : List Step) (c : Cut) (e : RowsOfEntry) (ther
 
   -- where the key or dash has nothing after it
   pub headless_mark : e.line ≡ length e.row.dashes → is_empty (slices e.row).head ≡ true → f.line.head ≡ None
-  headless_mark last none = ((own_line (omega (arith, last))).mark last).1 ∙ no_head (head_of e.row.content) (sym row_agrees.head ∙ none)
-    where
-      no_head : (o : Option Node) → is_none o ≡ true → o ≡ None
-      no_head None h = refl
-      no_head (Some m) h = absurd (false≢true h)
+  headless_mark last h1 = grind (arith, common_steps, own_line, row_agrees, false≢true)
 
   pub headless_dash : e.line < length e.row.dashes → f.line.head ≡ None
   headless_dash less = ((own_line (omega (arith, less))).dash less).1
@@ -113,18 +110,13 @@ module _ (n : ℕ) (s : Step) (ss : List Step) (c : Cut) (e : RowsOfEntry) (ther
 
       entry_mark : (m : rows.RowMark) → is_entry m ≡ true → IsEntry (line_mark m)
       entry_mark rows.Bare h = absurd (false≢true h)
-      entry_mark rows.Dash h = tt
-      entry_mark (rows.Key key colon) h = tt
+      entry_mark _ h = tt
 
       row_is : (l : Limit) × IsRow l e.row (rows_text (e.under ++ e.back) (p.end ++ after_document n c))
       row_is = row_there unlimited e.front e.row (e.under ++ e.back) p.end (after_document n c) (subst (λ rs. AreRows unlimited rs p.end (after_document n c)) there.rows_are are)
 
       entry : (l : Line) → IsLineOf e.row.column e.row.dashes e.row.mark e.row.content (suc e.line) l → IsEntry l.mark
-      entry l is = go (cases_lt (suc e.line) (length e.row.dashes))
-        where
-          go : (suc e.line < length e.row.dashes) ⊎ (length e.row.dashes ≤ suc e.line) → IsEntry l.mark
-          go (inl more) = subst IsEntry (sym (is.dash more).0) tt
-          go (inr past) = subst IsEntry (sym (is.mark (omega (arith, past, less))).0) (entry_mark e.row.mark (marked e.row.dashes e.row.mark (omega (arith, less)) row_is.1.dashes))
+      entry l is = grind (arith, common_steps, cases_lt, entry_mark, marked, row_is, is.dash, is.mark)
 
   -- its end
   abbrev pub end_at : ℕ → Bool → CollectionEnd

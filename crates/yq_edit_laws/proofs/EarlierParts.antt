@@ -1,8 +1,9 @@
 -- A part of a node that ends before a place at which one of its collections changes is there after that, before another text; and so is a collection that does.
-use Rattle.yq_edit_rules.proofs.FlowLocationLaws.{coll_entry}
+use Rattle.std.proofs.lemmas.Grind.{common_steps}
 use Rattle.std.proofs.Common.{rules, ◌≡◌, ◌⊎◌, inl, inr, ℕ, ◌<◌, ◌≤◌, Bool, true, false, cond, List, [], ◌∷◌, ◌++◌, length, Option, Some}
 use Rattle.std.proofs.Common.{None, drop, option_map, option_and_then, refl, sym, ap, ◌∙◌, subst, arith, append_assoc, length-append}
 use Rattle.std.{proofs.Math.Seq.drop-append_seam, proofs.lemmas.List.drop-append-le, proofs.lemmas.Option.{none-some, same_Some}}
+use Rattle.yq_edit_rules.proofs.FlowLocationLaws.{coll_entry}
 use Rattle.yq_core.specs.Paths.{Step, is_here, further}
 use Rattle.yq_core.specs.Collections.{CollAt, CollPieces, IsCollAt, change_item, coll_along, coll_in, collection_put, put_coll}
 use Rattle.yq_core.{specs.Collections.within_items, specs.Entries.{EntryPieces, entry_pieces_at, path_inside, item_at}}
@@ -54,13 +55,7 @@ sep_turn (comma b g) h = front_turn b (front_turn (44 ∷ g) h)
 pub item_before : (key : Key) (n : FlowNode) {old new : List ℕ} {u : EntryPieces} {t t2 : List ℕ} {o o2 : Option EntryPieces} (b : Bool) →
     cond b (Some (record { key = key; node = n; rest = old })) o ≡ Some u →
     Turns old new t t2 → (o ≡ Some u → ComesBefore t t2 u o2) → ComesBefore t t2 u (cond b (Some (record { key = key; node = n; rest = new })) o2)
-item_before key n {t2 = t2} true there w later = (
-  w.0,
-  ap (λ (x : EntryPieces). x.rest) (sym (same_Some _ _ there)) ∙ w.1,
-  ap (λ (l : List ℕ). Some (record { key = key; node = n; rest = l })) w.2
-      ∙ ap (λ (x : EntryPieces). Some (record x { rest = w.0 ++ t2 })) (same_Some _ _ there),
-)
-item_before key n false there w later = later there
+item_before key n b there w later = grind (arith, common_steps, same_Some)
 
 items_turn : (k : ℕ) (s : Step) (f : FlowNode → FlowNode) (is : Items) (rest : List ℕ) (y : EntryPieces) (t t2 : List ℕ) → item_at k s is rest ≡ Some y → Turns (node_text y.node y.rest) (node_text (f y.node) y.rest) t t2 →
     Turns (flow_items_text k is rest) (flow_items_text k (change_item s f is) rest) t t2

@@ -1,4 +1,5 @@
 -- What the code finds in the head of a row, and what of that the text has.
+use Rattle.std.proofs.lemmas.Grind.{common_steps}
 use Rattle.std.proofs.Common.{rules, ◌≡◌, ℕ, ◌+◌, ◌≤◌, true, List, [], ◌++◌, length, Option, Some, None, option_map, refl, sym, ap, ◌∙◌}
 use Rattle.std.{proofs.Common.{arith, cond, false, ◌∷◌, append_assoc, length-append}, proofs.lemmas.Option.{none-some, same_Some}}
 use Rattle.yq_core.{proofs.NodeLaws.after, specs.Paths.{Step, further, is_here}, specs.Collections.{CollAt, CollPieces, IsCollAt}}
@@ -43,12 +44,7 @@ next_more : (k : ℕ) (g : List ℕ) (key : Key) (n : FlowNode) (sep : Sep) (is 
 next_more k g key n sep is rest more = search (rules, items_append)
 
 out_more : (k : ℕ) (s : Step) (g : List ℕ) (key : Key) (n : FlowNode) (sep : Sep) (is : Items) (rest more : List ℕ) → last_out k (rest ++ more) s g key n sep is ≡ option_map (edit_more more) (last_out k rest s g key n sep is)
-out_more k s g key n sep none rest more = refl
-out_more k s g key n sep (item key2 n2 sep2 (item key3 n3 sep3 is)) rest more = refl
-out_more k s g key n sep (item key2 n2 sep2 none) rest more =
-    let new : List ℕ → FlowEdit = λ r. last_removed k r g key n sep key2 n2 sep2 in
-    let one : new (rest ++ more) ≡ edit_more more (new rest) = search (rules, append_assoc) in
-    elim (is_here s (key_label (key_content key2))) as (λ v. cond v (Some (new (rest ++ more))) None ≡ option_map (edit_more more) (cond v (Some (new rest)) None)) [ true ↦ ap Some one | false ↦ refl ]
+out_more k s g key n sep is rest more = grind (arith, common_steps, append_assoc)
 
 after_more : (g : List ℕ) (key : Key) (n : FlowNode) (sep : Sep) (more : List ℕ) (o : Option FlowEdit) →
     option_map (edit_from_item g key n sep) (option_map (edit_more more) o) ≡ option_map (edit_more more) (option_map (edit_from_item g key n sep) o)

@@ -77,11 +77,9 @@ item_child k s (item key n sep is) rest = search (rules, item_child k (further s
 
 pub inside_child : (s : Step) (node : FlowNode) (rest : List ℕ) → option_map entry_tree (path_inside s node rest) ≡ child_at s (kids (held (tree_of node)))
 unfolding tree_of
-inside_child s empty rest = refl
-inside_child s (alias n) rest = refl
-inside_child s (scalar p) rest = refl
 inside_child s (coll k gap is) rest = item_child k s is rest ∙ ap (λ o. child_at s (kids o)) (sym (held_coll k (items_tree is)))
 inside_child s (anchored n gap node) rest = inside_child s node rest ∙ ap (λ o. child_at s (kids o)) (sym (held_named n (tree_of node)))
+inside_child s _ rest = refl
 
 -- Steps lead from a node before a rest to a flow collection that holds these.
 abbrev pub CollThere : List Step → FlowNode → List ℕ → FlowContent → Type 0

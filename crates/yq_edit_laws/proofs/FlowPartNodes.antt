@@ -1,6 +1,8 @@
 -- What is at a path that leads to an item or entry of a flow collection: its node, and nothing outside flow collections.
-use Rattle.std.proofs.Common.{rules, ◌≡◌, ℕ, ◌+◌, List, [], ◌∷◌, ◌++◌, length, Option, Some, None, option_map, refl, sym, ap, ◌∙◌, subst}
-use Rattle.std.{proofs.lemmas.Option.{none-some, same_Some, slice_get-map}, specs.List.slice_get, specs.Prelude.option_and_then}
+use Rattle.std.proofs.lemmas.Grind.{common_steps}
+use Rattle.std.proofs.Common.{arith, rules, ◌≡◌, ℕ, ◌+◌, List, [], ◌∷◌, ◌++◌, length, Option, Some, None, option_map, refl, sym, ap, ◌∙◌}
+use Rattle.std.{proofs.Common.subst, proofs.lemmas.Option.{none-some, same_Some, slice_get-map}, specs.List.slice_get}
+use Rattle.std.specs.Prelude.{option_and_then}
 use Rattle.yq_core.{specs.Answers.◌>>=◌, specs.Paths.{Step, child_at, node_at}, specs.Tree.children_of, proofs.Bools.bind_some}
 use Rattle.yq_core.{specs.Collections.{CollPieces, coll_along}, specs.Entries.{EntryPieces, path_inside, item_at}, specs.Nodes.FlowNode}
 use Rattle.yq_core.specs.Trees.{tree_of}
@@ -46,12 +48,11 @@ drop_anchor a (t ∷ ss) s n = node-anchored a t (ss ++ (s ∷ [])) n
 -- the same in the content of a row
 content_node : (x : Content) (h : tree.Node) (ss : List Step) (s : Step) (after : List ℕ) (w : CollPieces) → head_of x ≡ Some h → content_flow ss x after ≡ Some w →
     node_at (ss ++ (s ∷ [])) (anchored (content_anchor x) h) ≡ option_map entry_tree (item_at w.close s w.items w.rest)
-content_node (Nothing tail) h ss s after w head e = absurd (none-some _ e)
-content_node (Block space anchor block) h ss s after w head e = absurd (none-some _ e)
 content_node (Inline space node tail) h ss s after w head e =
     let n = head_tree node h head in
     drop_anchor (content_anchor (Inline space node tail)) ss s h
     ∙ (sym (drop_anchor n.0 ss s h) ∙ (ap (node_at (ss ++ (s ∷ []))) (sym n.1) ∙ coll_node ss s node (tail ++ after) w e))
+content_node _ h ss s after w head e = absurd (none-some _ e)
 
 -- ---- in a document
 
@@ -109,12 +110,7 @@ line_node c n steps s w h read =
 -- ---- nothing outside flow collections
 
 none_seat : (path : List Step) (s : Step) (p : Part) (y : FoundLine × List Step) → found_at path (part_outline p) ≡ Some (y.0, y.1 ++ (s ∷ [])) → row_line_of path p.rows ≡ None
-none_seat [] s p y e = refl
-none_seat (t ∷ ts) s p y e = ap (λ (o : Option (FoundLine × List Step)). option_and_then (λ x. found_line x.0 x.1) o >>= λ n. row_line n p.rows) e ∙ go y.1
-  where
-    go : (ss : List Step) → (found_line y.0 (ss ++ (s ∷ [])) >>= λ n. row_line n p.rows) ≡ None
-    go [] = refl
-    go (u ∷ ss) = refl
+none_seat path s p y e = grind (arith, common_steps)
 
 none_placed : (n : ℕ) (path : List Step) (c : Cut) (x : List Step × Step) → last_step path ≡ Some x → ((d : PlacedPart) → placed_document n c ≡ Some d → row_line_of path d.part.rows ≡ None) → placement_at n path c ≡ None
 none_placed n [] c x last h = absurd (none-some _ last)

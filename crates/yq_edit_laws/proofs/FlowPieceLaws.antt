@@ -1,4 +1,5 @@
 -- The pieces of a text from which an item or entry of a flow collection is taken out.
+use Rattle.std.proofs.lemmas.Grind.{common_steps}
 use Rattle.std.proofs.Common.{rules, ◌≡◌, ◌⊎◌, inl, inr, ℕ, ◌-◌, Bool, true, false, ◌&&◌, cond, List, [], ◌∷◌, ◌++◌, length, take, refl}
 use Rattle.std.proofs.Common.{sym, ap, ◌∙◌, subst, arith, append_assoc, length-append}
 use Rattle.std.{proofs.Math.Seq.{take-append_seam, drop-append_seam}, proofs.lemmas.Bool.{false≢true, and_from, and_parts}}
@@ -14,17 +15,8 @@ use Rattle.yq_edit_rules.{proofs.CommentPieceLaws.{byte_then, nothing}, specs.Te
 pairs_whole : (x u : List ℕ) → pairs_returns (x ++ u) ≡ true → Whole x u → pairs_returns x ≡ true
 unfolding pairs_returns
 pairs_whole [] u h w = refl
-pairs_whole (b ∷ []) u h w = go (is_return b) h w
-  where
-    go : (r : Bool) → cond r (front is_feed u && pairs_returns u) (pairs_returns u) ≡ true → (r && front is_feed u) ≡ false → cond r (front is_feed [] && pairs_returns []) (pairs_returns []) ≡ true
-    go true h w = absurd (false≢true (sym w ∙ (and_parts (front is_feed u) (pairs_returns u) h).0))
-    go false h w = refl
-pairs_whole (b ∷ (c ∷ x)) u h w = go (is_return b) h (λ k. pairs_whole (c ∷ x) u k w)
-  where
-    go : (r : Bool) → cond r (is_feed c && pairs_returns (c ∷ (x ++ u))) (pairs_returns (c ∷ (x ++ u))) ≡ true → (pairs_returns (c ∷ (x ++ u)) ≡ true → pairs_returns (c ∷ x) ≡ true) →
-        cond r (is_feed c && pairs_returns (c ∷ x)) (pairs_returns (c ∷ x)) ≡ true
-    go true h again = let y = and_parts (is_feed c) (pairs_returns (c ∷ (x ++ u))) h in and_from _ _ y.0 (again y.1)
-    go false h again = again h
+pairs_whole (b ∷ []) u h w = grind (arith, common_steps, false≢true, and_parts)
+pairs_whole (b ∷ (c ∷ x)) u h w = grind (arith, common_steps, and_parts, and_from, pairs_whole (c ∷ x) u)
 
 -- the text before a place
 front_utf8 : (t a b : List ℕ) (n : ℕ) → t ≡ a ++ b → IsUtf8 t → IsCharBoundary t n → n ≡ length t - length b → IsUtf8 a

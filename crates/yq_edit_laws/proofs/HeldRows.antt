@@ -1,4 +1,5 @@
 -- What is known of what the key or dash of rows holds.
+use Rattle.std.proofs.lemmas.Grind.{common_steps}
 use Rattle.std.proofs.Common.{◌≡◌, inl, ℕ, ℤ, true, false, cond, ◌&&◌, List, [], ◌∷◌, ◌++◌, length, Option, Some, None, is_some, refl, sym}
 use Rattle.std.{proofs.Common.{ap, ◌∙◌, subst, arith, append_assoc, length-append, rules}, proofs.lemmas.Bool.{false≢true, and_parts}}
 use Rattle.yq_core.{specs.BlockWritten.break_text, specs.Characters.pairs_returns, specs.Paths.Step}
@@ -97,13 +98,7 @@ module _ (n : ℕ) (s : Step) (ss : List Step) (c : Cut) (e : RowsOfEntry) (ther
   headless_there some = search (rules, line_there, head_there, e.row.content, row.content, some, no_rows_there, lines_there, false≢true, open')
 
   named_there : first_alone e.under ≡ false → anchor_of (content_under there.found.line there.found.under) ≡ content_anchor e.row.content
-  named_there beside = go there.found.under refl
-    where
-      open_row : (o : Option Node) (l : Line) (u after : Outline) → IsOpen o (outline.row l u after) → o ≡ None
-      open_row o l u after h = search rules
-
-      go : (u : Outline) → there.found.under ≡ u → anchor_of (content_under there.found.line there.found.under) ≡ content_anchor e.row.content
-      go u is = search (rules, line_there, content_named, row, open_row, open', false≢true, lines_there, value_unnamed)
+  named_there beside = grind (arith, common_steps, line_there, content_named, row, open', false≢true, lines_there, value_unnamed)
 
   module _ (read : read_at (cut_text c) ≡ Some c) (at : rows_of_entry n (s ∷ ss) c ≡ Some e) where
     pairs : pairs_returns ((slices e.row).tail ++ ((slices e.row).raw ++ rows_text e.under (after_entry e))) ≡ true

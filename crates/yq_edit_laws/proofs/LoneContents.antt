@@ -1,6 +1,7 @@
 -- The document in which the node of a value is put in a row that is alone on its line.
-use Rattle.std.proofs.Common.{refl, ◌≡◌, ℕ, eqb, List, [], ◌∷◌, ◌++◌, length, Some, true, false, sym, ap, ◌∙◌, subst, append_assoc, rules}
-use Rattle.std.{proofs.lemmas.Bool.{and_right, false≢true}, proofs.lemmas.Option.same_Some, specs.Str.is_utf8}
+use Rattle.std.proofs.lemmas.Grind.{common_steps}
+use Rattle.std.proofs.Common.{arith, refl, ◌≡◌, ℕ, eqb, List, [], ◌∷◌, ◌++◌, length, Some, true, false, sym, ap, ◌∙◌, subst, append_assoc}
+use Rattle.std.{proofs.Common.rules, proofs.lemmas.Bool.{and_right, false≢true}, proofs.lemmas.Option.same_Some, specs.Str.is_utf8}
 use Rattle.yq_core.{specs.Paths.{Step, changed_at, node_at}, specs.Piece.deeper, specs.Text.is_marker, specs.Tree.Node}
 use Rattle.yq_core.{proofs.Bools.guard_then, specs.Nodes.node_text}
 use Rattle.yq_outline.{specs.Comments.head_comment, specs.Group.{group, is_fine}, specs.Outline.Line}
@@ -131,11 +132,4 @@ module _ (c : Cut) (n : ℕ) (p : Part) (old : IsDocumentPart (cut_text c) c n p
   same_block = search (rules, there, last_lines, no_node_first)
 
   pub rooted : steps ≡ [] → is_block_root p ≡ false
-  rooted e =
-      let all : lines_of_rows p.rows ≡ above ++ (line r.content ∷ lines_of_rows back) = ap lines_of_rows rows_are ∙ last_lines front r back r.content in
-      ap begins_no_node all ∙ first above (line r.content) (lines_of_rows back) (sym (ap length all) ∙ (subst (λ ss. LeadsToLone p ss front r) e leads).count) (ap (λ m. is_entry_line (line_mark m)) mark)
-    where
-      first : (xs : List Line) (l : Line) (ls : List Line) → length (xs ++ (l ∷ ls)) ≡ 1 → is_entry_line l.mark ≡ false → begins_no_node (xs ++ (l ∷ ls)) ≡ false
-      first [] l ls e m = m
-      first (x ∷ []) l ls e m = absurd (cc)
-      first (x ∷ (y ∷ xs)) l ls e m = absurd (cc)
+  rooted e = grind (arith, common_steps, last_lines)

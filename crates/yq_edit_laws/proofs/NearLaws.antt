@@ -1,6 +1,7 @@
 -- What each operation puts is near.
-use Rattle.std.proofs.Common.{rules, ◌≡◌, ◌⊎◌, inl, inr, ℕ, ◌≤◌, Bool, true, false, cond, eqb, List, [], ◌∷◌, length, Option, Some, None}
-use Rattle.std.{proofs.Common.{option_map, refl, subst, ap, sym, ◌&&◌, ◌++◌, ◌∙◌, append_assoc, append-nil}, specs.Prelude.⊤}
+use Rattle.std.proofs.lemmas.Grind.{common_steps}
+use Rattle.std.proofs.Common.{arith, rules, ◌≡◌, ◌⊎◌, inl, inr, ℕ, ◌≤◌, Bool, true, false, cond, eqb, List, [], ◌∷◌, length, Option, Some}
+use Rattle.std.{proofs.Common.{None, option_map, refl, subst, ap, sym, ◌&&◌, ◌++◌, ◌∙◌, append_assoc, append-nil}, specs.Prelude.⊤}
 use Rattle.std.{proofs.lemmas.Option.{none-some, same_Some}, specs.Option.option_or, proofs.lemmas.Bool.or_parts}
 use Rattle.yq_core.{specs.Answers.◌>>=◌, specs.Paths.Step, specs.Scalar.ScalarText, specs.Tree.Node, specs.Writable.can_write}
 use Rattle.yq_core.{specs.Written.double, specs.declared.style.Place.TheVariants.Block as InBlock}
@@ -96,15 +97,10 @@ InLines ss = AreInLines [] (from_first ss)
 
 held_near : (br : List ℕ) (h : Held) (w : Written) → IsInLine h → InLines (held_put br h w)
 held_near br h (inline t) k = (nothing_line, (k.ends, (nothing_line, tt)))
-held_near br h (compact_text t) k = (nothing_line, (k.ends, (nothing_line, tt)))
-held_near br h (lines t) k = (nothing_line, (k.ends, (nothing_line, tt)))
+held_near br h _ k = (nothing_line, (k.ends, (nothing_line, tt)))
 
 string_near : (br : List ℕ) (h : Held) (indent : ℕ) (s : ScalarText) → IsInLine h → InLines (string_put br h indent s)
-string_near br h indent s k = go (can_write s Literal InBlock)
-  where
-    go : (b : Bool) → InLines (cond b (literal_put br h indent s.text) (held_put br h (inline (double s.text))))
-    go true = (nothing_line, (k.broken, (nothing_line, tt)))
-    go false = held_near br h (inline (double s.text)) k
+string_near br h indent s k = grind (arith, common_steps, nothing_line, held_near)
 
 block_near : (br : List ℕ) (h : Held) (w : Written) → IsInLine h → InLines (block_put br h w)
 block_near br h (inline t) k = held_near br h (inline t) k
@@ -159,11 +155,7 @@ more_near : (l : Layout) (key : Option (List ℕ)) (v : Node) (t : Placement) (s
 more_near l key v t ss is = search (rules, none-some, same_Some, nothing_line)
 
 line_near : (text : List ℕ) (e : RowsOfEntry) (ss : List Segment) → line_comment_put text e ≡ Some ss → InLines ss
-line_near text e ss = go (eqb e.line (length e.row.dashes))
-  where
-    go : (b : Bool) → cond b (Some (comment_put text (held e))) None ≡ Some ss → InLines ss
-    go true is = subst InLines (same_Some _ _ is) (search (rules, nothing_line))
-    go false is = absurd (none-some _ is)
+line_near text e ss = grind (arith, common_steps, same_Some, nothing_line, none-some)
 
 head_near : (br text : List ℕ) (e : RowsOfEntry) (ss : List Segment) → head_comment_put br text e ≡ Some ss → InLines ss
 head_near br text e ss = search (rules, same_Some, nothing_line, none-some)

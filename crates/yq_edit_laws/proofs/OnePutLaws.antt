@@ -1,4 +1,5 @@
 -- Segments that put one text in the place of another: a value on one line, a line comment or a head comment.
+use Rattle.std.proofs.lemmas.Grind.{common_steps}
 use Rattle.std.proofs.Common.{rules, ◌≡◌, ℕ, ◌+◌, Bool, true, false, cond, List, [], ◌∷◌, ◌++◌, length, refl, sym, ap, ◌∙◌, arith}
 use Rattle.std.{proofs.Common.{append-nil, append_assoc, length-append}, specs.Prelude.⊤}
 use Rattle.yq_core.{specs.Text.{is_empty, joined}, specs.Tree.Node, specs.declared.style.Place.TheVariants.Block as InBlock}
@@ -76,11 +77,7 @@ module _ (h : Held) (v : Node) (some : is_empty h.head ≡ false) (none : h.brea
 
   one_put : PutsOne (inline_put v h) (h.before ++ h.space) h.head t after
   unfolding changes
-  one_put = record {
-    old_is = (λ i. h.before ++ (h.space ++ (h.head ++ (h.white ++ (h.comment ++ (none i ++ (no_lines i ++ (h.last ++ append-nil h.after i)))))))) ∙ sym (append_assoc h.before h.space (h.head ++ after));
-    new_is = (λ i. h.before ++ (h.space ++ (text_is i ++ (h.white ++ (h.comment ++ (h.last ++ append-nil h.after i)))))) ∙ sym (append_assoc h.before h.space (t ++ after));
-    changes_are = search (rules, first_keep, after_keep, put_quiet, none, no_lines, length-append, text_is);
-  }
+  one_put = grind (arith, common_steps, append-nil, append_assoc, text_is, first_keep, after_keep, put_quiet, length-append)
 
 pub inline_puts : InlinePutsOne
 inline_puts v h some none no_lines = one_put h v some none no_lines
@@ -128,15 +125,7 @@ module _ (h : Held) (text : List ℕ) where
 
   by_white : (b : Bool) → PutsOne (segments b) (h.before ++ (h.space ++ (h.head ++ cond b [] h.white))) (cond b h.white [] ++ h.comment) new lower
   unfolding changes
-  by_white true = record {
-    old_is = simp (append_assoc, append-nil) refl;
-    new_is = simp (append_assoc, append-nil) refl;
-    changes_are =
-        kept_first (h.before ∷ (h.space ∷ (h.head ∷ []))) 0 (put h.white [] ∷ (put h.comment new ∷ kept))
-        ∙ (ap (splices_at (0 + length (h.before ++ (h.space ++ (h.head ++ []))))) (put_twice h.white [] h.comment new (merged kept))
-        ∙ (put_quiet (0 + length (h.before ++ (h.space ++ (h.head ++ [])))) (h.white ++ h.comment) new kept tt
-        ∙ ap (λ (m : ℕ). splice_at m (h.white ++ h.comment) new) (omega arith)));
-  }
+  by_white true = grind (arith, common_steps, append_assoc, append-nil, kept_first, put_twice, put_quiet)
   by_white false = record {
     old_is = simp (append_assoc, append-nil) refl;
     new_is = simp (append_assoc, append-nil) refl;

@@ -1,4 +1,5 @@
 -- Where the root of a document comes that has no rows, after a text that doesn't end in a break: on a line of its own, after a break that comes first.
+use Rattle.std.proofs.lemmas.Grind.{common_steps}
 use Rattle.std.proofs.Common.{◌≡◌, inl, inr, ℕ, ◌≤◌, List, [], ◌∷◌, ◌++◌, length, Some, true, false, refl, sym, ap, ◌∙◌, subst, arith}
 use Rattle.std.proofs.Common.{append_assoc, append-nil, length-append, rules, map}
 use Rattle.std.{proofs.lemmas.Bool.{false≢true, cond-true, false_from_ne_true, and_parts}, proofs.lemmas.Str.is_utf8-from_IsUtf8}
@@ -117,12 +118,7 @@ module _ (n : ℕ) (c : Cut) (w : TextPiece) (read : read_at (cut_text c) ≡ So
         ∙ (ap is_closed_text (sym marker.end.before_is) ∙ before_open)
 
     fits_there : PartFits (break_text br) h.d.part c
-    fits_there = record {
-      some = long_some (last_marker c) marker.end.long;
-      bare = false_from_ne_true (is_line (last_marker c)) (λ line. false≢true (sym marker_open ∙ closed_line (last_marker c) line));
-      break_is = break_is br;
-      part = marker.end.part_is;
-    }
+    fits_there = grind (arith, common_steps, long_some, marker, false_from_ne_true, false≢true, marker_open, closed_line, break_is)
 
     -- the text with a break after it
     abbrev other : Cut

@@ -39,9 +39,8 @@ following_none r = search rules
 
 -- an edit after splices, after others
 pub after_both : (bs cs : List Splice) (r : Edit) → edit_after (bs ++ cs) r ≡ edit_after bs (edit_after cs r)
-after_both bs cs unreadable = refl
-after_both bs cs (refuses why) = refl
 after_both bs cs (gives t ds) = ap (gives t) (append_assoc bs cs ds)
+after_both bs cs _ = refl
 
 -- a step that fails fails all that come after it
 pub fails_on : (e : ExprError) (g : List ℕ → Edit) (r : Edit) → EditFails e r → EditFails e (edit_then g r)

@@ -53,10 +53,9 @@ HasPart n path c = (x : FlowPart) × (flow_placement n c (last_step path) ≡ So
 
 -- a node with an item or entry is a collection
 holds_child : (s : Step) (old n : Node) → child_at s (children_of old) ≡ Some n → (x : FlowContent) × (held old ≡ Some x) × (children_of old ≡ x.1)
-holds_child s (tree.alias name) n e = absurd (none-some _ e)
-holds_child s (tree.scalar anchor kind text) n e = absurd (none-some _ e)
 holds_child s (tree.list anchor cs) n e = ((false, cs), refl, refl)
 holds_child s (tree.map anchor cs) n e = ((true, cs), refl, refl)
+holds_child s _ n e = absurd (none-some _ e)
 
 -- A node in a document, the collection that holds it, and the last step to it.
 record NodeIn (c : Cut) (n : ℕ) (path : List Step) (v : Node) : Type 0 where

@@ -1,6 +1,7 @@
 -- A value as the root of a document in which that is a block collection, or isn't written: what the text then reads as.
-use Rattle.std.proofs.Common.{Some, ◌≡◌, ℕ, ◌≤◌, List, [], ◌∷◌, ◌++◌, map, replicate, None, true, false, sym, ap, ◌∙◌, subst, append-nil}
-use Rattle.std.{proofs.Common.rules, proofs.lemmas.Bool.false≢true, proofs.lemmas.Option.same_Some, specs.List.slice_get}
+use Rattle.std.proofs.lemmas.Grind.{common_steps}
+use Rattle.std.proofs.Common.{arith, Some, ◌≡◌, ℕ, ◌≤◌, List, [], ◌∷◌, ◌++◌, map, replicate, None, true, false, sym, ap, ◌∙◌, subst}
+use Rattle.std.{proofs.Common.{append-nil, rules}, proofs.lemmas.Bool.false≢true, proofs.lemmas.Option.same_Some, specs.List.slice_get}
 use Rattle.yq_core.{specs.Paths.within, specs.Tree.{Node, children_of, anchor_of}, specs.Anchors.names_of}
 use Rattle.yq_flow_edits.specs.Valued.{IsValueTree}
 use Rattle.yq_outline.{specs.Comments.head_comment, specs.Outline.anchored, proofs.NodeLaws.anchored_none}
@@ -63,13 +64,7 @@ module _ (n : ℕ) (c : Cut) (d : PlacedPart) (gap last back : List ℕ) (h : Ta
   text_is = h.is_located.put q ∙ ap (λ t. d.before ++ t) (ap (λ xs. rows_text xs (back ++ d.after)) (append-nil rs) ∙ are.spelled)
 
   takes : TakesRoot c n p rs back
-  takes = record {
-    some = are.some;
-    new_are = subst (AreRows unlimited rs back) (sym h.is_located.after) are.rows;
-    start = λ e. h.starts (rows_text rs (back ++ after_document n c)) e;
-    keys = are.keys;
-    short = are.short;
-  }
+  takes = grind (arith, common_steps, are)
 
   gap_first : (xs : List Row) → no_rows xs ≡ false → first_gap xs [] ≡ gap → first_gap (xs ++ []) back ≡ gap
   gap_first [] some e = absurd (false≢true (sym some))

@@ -231,8 +231,7 @@ module _ (n : ℕ) (s : Step) (ss : List Step) (c : Cut) (e : RowsOfEntry) (ther
       go : (x : Bool) → has_text (node_in n (s ∷ ss) c) ≡ x → (y : Bool) → is_string kind ≡ y →
           Done (tree.scalar a kind t) (cond (x && y) (string_put br w block.indent.columns (record { kind = kind; text = t })) (held_put br w (inline (value_text places.Block [] (tree.scalar a kind t)))))
       go true has true string = string_done a kind t h f has string
-      go true has false string = other
-      go false has y string = other
+      go _ has _ string = other
 
   -- A value in the place of the block scalar.
   pub scalar_edit : (v : Node) → IsEdit (replace n (s ∷ ss) v) c (value_put (has_text (node_in n (s ∷ ss) c)) l v (placements.block w block.indent.columns))

@@ -1,7 +1,7 @@
 -- What is known of a flow collection with one item or entry, by what is next to that and by how the collection ends.
+use Rattle.std.proofs.Common.{arith, rules, ◌≡◌, ℕ, Bool, true, false, cond, eqb, List, [], ◌∷◌, Some, None, option_map, refl, sym, ap, ◌∙◌}
+use Rattle.std.{proofs.lemmas.Grind.common_steps, proofs.lemmas.Option.{none-some, same_Some}, specs.Prelude.nat_lt}
 use Rattle.yq_edit_rules.proofs.FlowLocationLaws.{coll_entry}
-use Rattle.std.proofs.Common.{rules, ◌≡◌, ℕ, Bool, true, false, cond, eqb, List, [], ◌∷◌, Some, None, option_map, refl, sym, ap, ◌∙◌}
-use Rattle.std.{proofs.lemmas.Option.{none-some, same_Some}, specs.Prelude.nat_lt}
 use Rattle.yq_core.{specs.Answers.◌>>=◌, specs.Collections.{CollPieces, coll_along, coll_in}, specs.Paths.{Step, further, is_here}}
 use Rattle.yq_core.specs.Entries.{EntryPieces, entry_pieces_at}
 use Rattle.yq_core.{specs.Nodes.{FlowNode, Items, none, item, empty, alias, scalar, coll, anchored}, specs.Tree.key_label}
@@ -39,14 +39,7 @@ one_left : (k : ℕ) (s : Step) (is : Items) (rest : List ℕ) (x : PartsAround)
 unfolding items_tree
 one_left k s none rest x e first last = refl
 one_left k s (item key n sep none) rest x e first last = refl
-one_left k s (item key n sep (item key2 n2 sep2 is)) rest x e first last = absurd (go (is_here s (key_label (key_content key))) e)
-  where
-    others : Items
-    others = item key2 n2 sep2 is
-
-    go : (b : Bool) → cond b (Some (record { before = None; here = first_ends k key n sep others rest; next = first_text k others rest })) (around_part k (further s) (Some (first_ends k key n sep others rest)) others rest) ≡ Some x → ⊥
-    go true e = none-some _ (sym last ∙ sym (ap (λ (y : PartsAround). y.next) (same_Some _ _ e)))
-    go false e = one_before k (further s) (first_ends k key n sep others rest) others rest x e first
+one_left k s (item key n sep (item key2 n2 sep2 is)) rest x e first last = grind (arith, common_steps, none-some, same_Some, one_before)
 
 -- ---- in a node in front of a text
 

@@ -1,4 +1,5 @@
 -- A sole item or entry of a flow collection that is an item or entry itself: that it is removed is that an empty collection replaces its own.
+use Rattle.std.proofs.lemmas.Grind.{common_steps}
 use Rattle.std.proofs.Common.{rules, ◌≡◌, ℕ, ◌+◌, Bool, true, false, cond, eqb, List, [], ◌∷◌, ◌++◌, length, Option, Some, None, option_map}
 use Rattle.std.{proofs.Common.{refl, sym, ap, ◌∙◌, subst, arith}, proofs.lemmas.Bool.ltb-false, proofs.lemmas.Option.{none-some, same_Some}}
 use Rattle.std.{specs.Option.option_or, specs.Prelude.{nat_lt, option_and_then}}
@@ -29,9 +30,8 @@ along_on (t ∷ ss) s node rest w y found at = search (rules, none-some, along_o
 
 content_on : (x : Content) (ss : List Step) (s : Step) (after : List ℕ) (w : CollPieces) (y : EntryPieces) → content_flow ss x after ≡ Some w →
     item_at w.close s w.items w.rest ≡ Some y → content_flow (ss ++ (s ∷ [])) x after ≡ coll_in y.node y.rest
-content_on (Nothing tail) ss s after w y e at = absurd (none-some _ e)
 content_on (Inline space node tail) ss s after w y e at = along_on ss s node (tail ++ after) w y e at
-content_on (Block space anchor block) ss s after w y e at = absurd (none-some _ e)
+content_on _ ss s after w y e at = absurd (none-some _ e)
 
 head_again : (f : FoundLine) (ss : List Step) (s : Step) → head_line f (ss ++ (s ∷ [])) ≡ Some (f, ss ++ (s ∷ []))
 head_again f [] s = refl
@@ -60,26 +60,16 @@ collection_on c n path a =
 sole_items : (k : ℕ) (rest : List ℕ) (s : Step) (g : List ℕ) (is : Items) → nat_lt 1 (count (items_tree is)) ≡ false → removing_from k rest s g is ≡ None
 unfolding items_tree
 sole_items k rest s g none few = refl
-sole_items k rest s g (item key n sep none) few = go (is_here s (key_label (key_content key)))
-  where
-    go : (b : Bool) → cond b (before_next k rest g key n sep none) (option_or (last_out k rest (further s) g key n sep none) (option_map (edit_from_item g key n sep) (removing_from k rest (further s) (gap_of sep) none))) ≡ None
-    go true = refl
-    go false = refl
+sole_items k rest s g (item key n sep none) few = grind (arith, common_steps)
 sole_items k rest s g (item key n sep (item key2 n2 sep2 is)) few = absurd (omega (arith, ltb-false 1 (count (items_tree (item key n sep (item key2 n2 sep2 is)))) few))
 
 pub named_children : (a : List ℕ) (n : Node) → children_of (with_name a n) ≡ children_of n
 named_children a (tree.alias name) = refl
-named_children a (tree.scalar b kind t) = refl
-named_children a (tree.list b cs) = refl
-named_children a (tree.map b cs) = refl
+named_children a _ = refl
 
 sole_node : (node : FlowNode) (rest : List ℕ) (w : CollPieces) (s : Step) → nat_lt 1 (count (children_of (tree_of node))) ≡ false → coll_in node rest ≡ Some w → removing s w ≡ None
 unfolding tree_of
-sole_node (coll k gap is) rest w s few e = subst (λ (v : CollPieces). removing s v ≡ None) (same_Some _ _ e) (sole_items k rest s gap is (go (eqb k 125) few))
-  where
-    go : (b : Bool) → nat_lt 1 (count (children_of (cond b (tree.map None (items_tree is)) (tree.list None (items_tree is))))) ≡ false → nat_lt 1 (count (items_tree is)) ≡ false
-    go true h = h
-    go false h = h
+sole_node (coll k gap is) rest w s few e = grind (arith, common_steps, same_Some, sole_items)
 sole_node (anchored n gap node) rest w s few e = sole_node node rest w s (ap (λ (cs : Children). nat_lt 1 (count cs)) (sym (named_children n (tree_of node))) ∙ few) e
 sole_node _ rest w s few e = absurd (none-some _ e)
 
@@ -90,9 +80,8 @@ abbrev pub IsEmptiedBy : (v old : Node) → Type 0
 IsEmptiedBy v old = (empty_collection old ≡ Some v) × (has_several (Some old) ≡ false)
 
 pub last_of : (path : List Step) (s : Step) → last_step (path ++ (s ∷ [])) ≡ Some (path, s)
-last_of [] s = refl
-last_of (t ∷ []) s = refl
 last_of (t ∷ (u ∷ ss)) s = ap (option_map (λ (y : List Step × Step). (t ∷ y.0, y.1))) (last_of (u ∷ ss) s)
+last_of _ s = refl
 
 module _ (d : Cut) (n : ℕ) (path : List Step) (s : Step) (v : Node) (read : read_at (cut_text d) ≡ Some d) (a : EntryAt d n path) (h : IsEmptiedBy v (tree_of a.item.node)) where
   abbrev gone : List Step

@@ -1,7 +1,7 @@
 -- Rows of one document exchanged in a cut.
 use Rattle.std.proofs.Common.{rules, ◌≡◌, ℕ, zero, suc, ◌+◌, ◌≤◌, List, [], ◌∷◌, ◌++◌, length, take, drop, Bool, true, false, not, ◌||◌}
-use Rattle.std.{proofs.Common.{Some, refl, sym, ap, ◌∙◌, subst, arith}, proofs.lemmas.Bool.{and_parts, false≢true, or_right}}
-use Rattle.std.{proofs.Math.Seq.{take-append_seam, drop-append_seam}, proofs.lemmas.Option.same_Some, specs.List.{slice_get, list_all}}
+use Rattle.std.{proofs.Common.{Some, refl, sym, ap, ◌∙◌, subst, arith}, proofs.lemmas.Bool.{false≢true, or_right}}
+use Rattle.std.{proofs.Math.Seq.{take-append_seam, drop-append_seam}, specs.List.slice_get}
 use Rattle.yq_core.{proofs.Bools.guard_then, specs.Characters.is_text}
 use Rattle.yq_row_table.specs.Grammar.{unlimited, AreRows, IsCut, no_rows, begins_document}
 use Rattle.yq_row_table.{proofs.splices.PartPlaces.{part_in, part_after}, proofs.splices.SpliceLaws.spliced}

@@ -1,9 +1,9 @@
 -- Another root for a document, also where it had none written.
-use Rattle.std.proofs.Common.{◌≡◌, ℕ, ◌+◌, ◌≤◌, List, [], ◌++◌, length, true, false, refl, sym, ap, ◌∙◌, subst, append-nil, ⊎_elim, rules}
+use Rattle.std.proofs.Common.{◌≡◌, ℕ, ◌+◌, ◌≤◌, List, [], ◌++◌, length, true, refl, sym, ap, ◌∙◌, subst, append-nil, ⊎_elim, rules}
 use Rattle.std.proofs.lemmas.Bool.{cases_Bool}
 use Rattle.yq_core.specs.Characters.{is_text}
 use Rattle.yq_text.specs.Limit.{text_limit}
-use Rattle.yq_row_table.{specs.Grammar.{IsCut, no_rows}, specs.Rows.{Row, rows_text, Part, Cut, cut_text}}
+use Rattle.yq_row_table.{specs.Grammar.{IsCut, no_rows}, specs.Rows.{rows_text, Part, Cut, cut_text}}
 use Rattle.yq_row_table.{specs.SpliceFits.{SpliceFits, is_after}, specs.Splices.{after_part, is_started, marker_before, nth_part}}
 use Rattle.yq_row_table.{proofs.splices.PartPlaces.part_after, proofs.splices.SpliceLaws.spliced}
 use Rattle.yq_documents.{specs.Documents.{HaveFitKeys, HasShortRoot}, specs.PartNumbers.part_number}

@@ -7,7 +7,7 @@ use Rattle.std.{proofs.Common.rules, proofs.lemmas.Bool.false≢true}
 use Rattle.yq_core.{specs.Paths.Step, specs.Text.{is_empty, is_line}}
 use Rattle.yq_outline.{specs.Comments.head_comment, specs.Lines.{lines_from, lines_of_rows}}
 use Rattle.yq_row_table.{specs.Appending.closed_by, specs.Exchange.{asked_after, row_front}}
-use Rattle.yq_row_table.specs.Grammar.{Limit, unlimited, limit_after, allows, AreRows, no_rows}
+use Rattle.yq_row_table.specs.Grammar.{Limit, unlimited, limit_after, allows, AreRows}
 use Rattle.yq_row_table.specs.Rows.{Content, content_text, Row, parent_indent, print_row, rows_text, Part, part_text, Cut}
 use Rattle.yq_row_table.{specs.Seams.{is_block, tail_after, with_tail}, specs.Splices.first_gap, proofs.PlaceLaws.row_front-append}
 use Rattle.yq_row_table.{proofs.seams.FrontSeams.rows_some, proofs.seams.SeamLaws.rows_text-append}

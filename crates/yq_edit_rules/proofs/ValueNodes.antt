@@ -2,10 +2,9 @@
 use Rattle.yq_edit_rules.{proofs.CommentPieceLaws.{byte_then, nothing}, specs.InlineRows.IsValueNode, specs.TextPieces.IsPiece}
 use Rattle.yq_edit_rules.{proofs.TextPieceLaws.pieces_joined, proofs.FlowWritten.flow_fits}
 use Rattle.std.proofs.Common.{◌≡◌, ℕ, ◌≤◌, not, cond, List, [], ◌∷◌, ◌++◌, Option, Some, Bool, true, false, refl, sym, ap, ◌∙◌, subst}
-use Rattle.std.{proofs.Common.{append-nil, rules}, proofs.lemmas.Bool.{false≢true, not-true, and_parts}, specs.Str.{chars, IsUtf8}}
-use lib.Utf8.{encode}
-use Rattle.yq_core.{specs.Characters.pairs_returns, specs.Keys.depth, specs.Piece.deeper, specs.PlainText.begins_marker}
-use Rattle.yq_core.{specs.Plain.holds_break, specs.Scalar.{ScalarText, string_of}, specs.Text.{is_marker, separates}, specs.Tree.Children}
+use Rattle.std.{proofs.Common.{append-nil, rules}, proofs.lemmas.Bool.{false≢true, not-true, and_parts}, specs.Str.IsUtf8}
+use Rattle.yq_core.{specs.Keys.depth, specs.Piece.deeper, specs.PlainText.begins_marker, specs.Plain.holds_break}
+use Rattle.yq_core.{specs.Scalar.{ScalarText, string_of}, specs.Text.{is_marker, separates}, specs.Tree.Children}
 use Rattle.yq_core.{specs.Writable.{can_write, can_write_plain}, specs.Written.{written_scalar, double, IsOneLine}}
 use Rattle.yq_core.{specs.declared.kind.Kind.Kind, specs.declared.style.Style.Style, proofs.PlainSpells.{plain_is_text, writable_text}}
 use Rattle.yq_core.{proofs.WrittenText.{double_is_line, is_line_ascii, line_is_text}, specs.Inline.depth_limit}
