@@ -10,7 +10,7 @@ use Rattle.yq_row_table.{proofs.splices.SpliceTexts.{own_gap, own_end, first_tex
 use Rattle.yq_places.{specs.CollectionEnds.{CollectionEnd, is_broken}, specs.RowPaths.IsReadable, specs.Placements.{Held, LinesIn}}
 use Rattle.yq_places.proofs.RemovalLines.{front_some}
 use Rattle.yq_documents.{specs.Documents.lead_of, specs.Ready.begins_no_node, specs.Reading.{read_at, documents}}
-use Rattle.yq_outline.{specs.Lines.{lines_from, lines_of_rows}, specs.Outline.label, specs.Places.content_under}
+use Rattle.yq_outline.{specs.Lines.lines_of_rows, specs.Outline.label, specs.Places.content_under}
 use Rattle.yq_edit_rules.{proofs.UnbrokenLaws.{begins_same, gap_same}, specs.declared.layout.Layout.Layout, specs.Alone.singleton}
 use Rattle.yq_edit_rules.{specs.BlockRows.node_rows, proofs.BlockEndLaws.line_ends, proofs.TextLaws.value_spelled}
 use Rattle.yq_edit_rules.{specs.Appends.{TakesRows, inserted}, specs.Changed.{IsChanged, put_document}}
@@ -25,7 +25,6 @@ use Rattle.yq_edit_rules.{proofs.AppendPlaces.{written, new_rows_are, entry_piec
 use Rattle.yq_edit_rules.{specs.EditLaws.IsEdit, specs.Operands.HasOperand, specs.PiecePuts.after_lines, proofs.AppendAtEnd.end_both}
 use Rattle.yq_edit_rules.{proofs.DoneLaws.nth_map, proofs.EditsFitLaws.tree_unique}
 use Rattle.yq_semantics.{specs.Operations.append, specs.Fits.Fits, specs.Rooms.room_of}
-use Rattle.yq_outline.specs.Comments as comments
 
 last_closed : (others : List Row) (r : Row) → is_broken r.content ≡ true → ends_in_block (others ++ (r ∷ [])) ≡ false → ends_in_line (others ++ (r ∷ [])) ≡ true
 last_closed [] r e inside = search (rules, false≢true)

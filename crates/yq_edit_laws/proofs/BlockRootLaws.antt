@@ -16,10 +16,9 @@ use Rattle.yq_edit_rules.{specs.TextPieces.IsPiece, proofs.FirstReplaceLaws.rows
 use Rattle.yq_edit_rules.{proofs.FirstBreakLaws.{IsOneBreak, break_tail, break_apart, break_bare}, proofs.PartLaws.document_known}
 use Rattle.yq_edit_rules.{proofs.PlacedPartLaws.document_is_there_at, proofs.TextPieceLaws.{pieces_joined, text_is_piece}}
 use Rattle.yq_edit_rules.{proofs.RemovalPieceLaws.{spaces_piece, seam_pieces}, proofs.AppendAtEnd.nothing_tail}
-use Rattle.yq_edit_rules.{proofs.AppendEntryLaws.none_uncommented, proofs.CommentPieceLaws.{nothing, break_piece}, proofs.LastRows.lf_end}
+use Rattle.yq_edit_rules.{proofs.AppendEntryLaws.none_uncommented, proofs.CommentPieceLaws.nothing, proofs.LastRows.lf_end}
 use Rattle.yq_edit_rules.proofs.BreakLaws.{last_is}
 use Rattle.yq_edit_laws.{proofs.RootReadLaws.TakesValue, proofs.RootRows.HasRoom, proofs.PlacementRoots.HasRoot, proofs.HeldRows.no_line}
-use Rattle.yq_core.specs.declared.block_types.Break.TheVariants as breaks
 
 -- ---- the first row of a block collection, the line that it begins, and the break that ends a text
 

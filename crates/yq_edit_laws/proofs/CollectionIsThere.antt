@@ -1,14 +1,14 @@
 -- A block collection that is at a place, by its rows, and where it ends.
 use Rattle.std.proofs.lemmas.Grind.{common_steps}
-use Rattle.std.proofs.Common.{rules, inl, inr, ◌⊎◌, ◌≡◌, ℕ, suc, ◌+◌, ◌<◌, ◌≤◌, Bool, true, false, ◌&&◌, List, [], ◌∷◌, ◌++◌, length, take}
-use Rattle.std.proofs.Common.{Option, Some, None, refl, sym, ap, ◌∙◌, subst, arith, append_assoc, append-nil, length-append}
-use Rattle.std.{proofs.lemmas.Bool.{cases_lt, false≢true}, proofs.lemmas.Option.same_Some, specs.List.slice_get, specs.Option.is_none}
+use Rattle.std.proofs.Common.{rules, ◌≡◌, ℕ, suc, ◌+◌, ◌<◌, ◌≤◌, Bool, true, false, ◌&&◌, List, [], ◌∷◌, ◌++◌, length, take, Option, Some}
+use Rattle.std.proofs.Common.{None, refl, sym, ap, ◌∙◌, subst, arith, append_assoc, append-nil, length-append}
+use Rattle.std.{proofs.lemmas.Bool.{cases_lt, false≢true}, proofs.lemmas.Option.same_Some, specs.List.slice_get}
 use Rattle.std.specs.Prelude.{option_and_then}
 use mathlib.Core.List.{tail-eq_of_cons-eq}
 use Rattle.yq_core.{specs.Paths.Step, specs.Text.is_empty, specs.Tree.Node}
 use Rattle.yq_outline.{specs.Comments.head_comment, specs.Outline.{Line, Outline, flatten}}
 use Rattle.yq_outline.{specs.Places.{FoundLine, here, lines_after, lines_before}, specs.Positions.has_no_mark, proofs.Decides.flatten-group}
-use Rattle.yq_outline.specs.Lines.{head_of, lines_from, lines_of_rows, line_mark, row_lines}
+use Rattle.yq_outline.specs.Lines.{lines_from, lines_of_rows, line_mark, row_lines}
 use Rattle.yq_outline.{proofs.WalkLevels.{RowsAgree, IsLineOf, RowAgrees, line_in}, proofs.WalkRows.rows_agree}
 use Rattle.yq_row_table.specs.Grammar.{AreDashes, AreRows, IsRow, Limit, is_entry, unlimited}
 use Rattle.yq_row_table.{specs.Rows.{Row, Part, Cut, after_columns, cut_text, part_text, print_row, rows_text}, specs.View.slices}

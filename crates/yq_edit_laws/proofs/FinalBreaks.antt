@@ -1,6 +1,6 @@
 -- Whether a text of rows ends in a break: by what comes after the mark of the last one.
-use Rattle.std.proofs.Common.{rules, inl, inr, ⊎_elim, ◌⊎◌, ◌≡◌, ℕ, zero, suc, ℤ, Bool, true, false, cond, ◌&&◌, not, List, [], ◌∷◌, ◌++◌}
-use Rattle.std.proofs.Common.{replicate, Option, refl, sym, ap, ◌∙◌, subst, append_assoc, append-nil}
+use Rattle.std.proofs.Common.{rules, inl, inr, ⊎_elim, ◌⊎◌, ◌≡◌, ℕ, ℤ, Bool, true, false, cond, ◌&&◌, not, List, [], ◌∷◌, ◌++◌, replicate}
+use Rattle.std.proofs.Common.{Option, refl, sym, ap, ◌∙◌, subst, append_assoc, append-nil}
 use Rattle.std.proofs.lemmas.Bool.{false≢true, false_from_ne_true, or_parts, and_parts, eqb-true}
 use Rattle.yq_core.specs.Plain.{IsPlain, ends_plain}
 use Rattle.yq_core.specs.Text.{front, is_break, is_white, is_feed, is_return, is_line, is_empty, no_white, unless, NoneIn}

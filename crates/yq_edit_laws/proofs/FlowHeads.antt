@@ -2,14 +2,13 @@
 use Rattle.std.proofs.lemmas.Grind.{common_steps}
 use Rattle.std.proofs.Common.{rules, ◌≡◌, ℕ, ◌+◌, ◌≤◌, true, List, [], ◌++◌, length, Option, Some, None, option_map, refl, sym, ap, ◌∙◌}
 use Rattle.std.{proofs.Common.{arith, cond, false, ◌∷◌, append_assoc, length-append}, proofs.lemmas.Option.{none-some, same_Some}}
-use Rattle.yq_core.{proofs.NodeLaws.after, specs.Paths.{Step, further, is_here}, specs.Collections.{CollAt, CollPieces, IsCollAt}}
+use Rattle.yq_core.{proofs.NodeLaws.after, specs.Paths.{Step, further}, specs.Collections.{CollAt, CollPieces, IsCollAt}}
 use Rattle.yq_core.specs.Entries.{EntryPieces, item_at}
 use Rattle.yq_core.specs.Nodes.{Key, FlowNode, coll, node_text, flow_items_text, IsFlowNode, Items, Sep, item, none}
-use Rattle.yq_core.{specs.Places.{Placed, locate}, proofs.PathLaws.items_hold, specs.Trees.key_content, specs.Tree.key_label}
-use Rattle.yq_core.proofs.NodesWrittenLaws.{items_append, sep_append}
+use Rattle.yq_core.{specs.Places.{Placed, locate}, proofs.PathLaws.items_hold, proofs.NodesWrittenLaws.{items_append, sep_append}}
 use Rattle.yq_flow_edits.specs.FlowEdits.{FlowEdit, appending, replacing, after_last}
 use Rattle.yq_flow_edits.specs.FlowPlaces.{append_place, place_edit, remove_place, replace_place}
-use Rattle.yq_flow_edits.specs.Removals.{removing, before_next, edit_from_item, gap_of, last_out, last_removed, removing_from}
+use Rattle.yq_flow_edits.specs.Removals.{removing, before_next, edit_from_item, gap_of, last_out, removing_from}
 use Rattle.yq_flow_edits.{proofs.EditLaws.{Around, around_is}, proofs.PlacedEdits.{append_placed, replace_placed}}
 use Rattle.yq_flow_edits.{proofs.RemovePlaces.{remove_placed, or_mapped}, proofs.RemoveTexts.removed_text}
 use Rattle.yq_places.proofs.FlowNodeLaws.{item_more, entry_more, with_more}

@@ -3,7 +3,7 @@ use Rattle.std.proofs.Common.{rules, ◌≡◌, ℕ, Bool, true, false, cond, eq
 use Rattle.std.{proofs.Common.{◌∙◌, inl, inr, subst, ◌⊎◌}, proofs.lemmas.Option.{none-some, same_Some}, specs.Prelude.option_and_then}
 use Rattle.yq_core.{specs.Paths.{Step, further, child_at, node_at}, specs.Tree.{Children, children_of, Node}}
 use Rattle.yq_core.{specs.Collections.{CollPieces, coll_along, coll_in}, specs.Entries.{EntryPieces, path_inside, item_at}}
-use Rattle.yq_core.specs.Nodes.{FlowNode, empty, alias, scalar, coll, anchored, Items, none, item}
+use Rattle.yq_core.specs.Nodes.{FlowNode, coll, anchored, Items, none, item}
 use Rattle.yq_core.{specs.Trees.{tree_collection, items_tree, tree_of, with_name}, specs.Answers.◌>>=◌}
 use Rattle.yq_outline.specs.Outline.{LineMark, Bare, Key, Dash, Outline, end, row, value}
 use Rattle.yq_outline.{specs.Places.{here, FoundLine, find, in_head, place_inside, content_under}, specs.Positions.has_no_mark}

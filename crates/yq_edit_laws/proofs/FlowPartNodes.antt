@@ -1,15 +1,14 @@
 -- What is at a path that leads to an item or entry of a flow collection: its node, and nothing outside flow collections.
 use Rattle.std.proofs.lemmas.Grind.{common_steps}
-use Rattle.std.proofs.Common.{arith, rules, ◌≡◌, ℕ, ◌+◌, List, [], ◌∷◌, ◌++◌, length, Option, Some, None, option_map, refl, sym, ap, ◌∙◌}
-use Rattle.std.{proofs.Common.subst, proofs.lemmas.Option.{none-some, same_Some, slice_get-map}, specs.List.slice_get}
-use Rattle.std.specs.Prelude.{option_and_then}
+use Rattle.std.proofs.Common.{arith, rules, ◌≡◌, ℕ, ◌+◌, List, [], ◌∷◌, ◌++◌, length, Option, Some, None, option_map, sym, ap, ◌∙◌, subst}
+use Rattle.std.{proofs.lemmas.Option.{none-some, same_Some, slice_get-map}, specs.List.slice_get, specs.Prelude.option_and_then}
 use Rattle.yq_core.{specs.Answers.◌>>=◌, specs.Paths.{Step, child_at, node_at}, specs.Tree.children_of, proofs.Bools.bind_some}
 use Rattle.yq_core.{specs.Collections.{CollPieces, coll_along}, specs.Entries.{EntryPieces, path_inside, item_at}, specs.Nodes.FlowNode}
 use Rattle.yq_core.specs.Trees.{tree_of}
-use Rattle.yq_outline.{specs.Ends.found_line, specs.Group.level_or, specs.Outline.{Outline, IsEven, level, row, anchored, head_or, value}}
+use Rattle.yq_outline.{specs.Group.level_or, specs.Outline.{Outline, IsEven, level, row, anchored, head_or, value}}
 use Rattle.yq_outline.{specs.Places.{FoundLine, content_under, lines_before}, proofs.Finding.{FoundNode, node-anchored, path_node}}
 use Rattle.yq_outline.{proofs.Plug.allows_from, specs.Lines.{content_anchor, head_of}}
-use Rattle.yq_row_table.{specs.Exchange.after_row, specs.Rows.{Content, Nothing, Inline, Block, Part, Cut, cut_text}}
+use Rattle.yq_row_table.{specs.Exchange.after_row, specs.Rows.{Content, Inline, Part, Cut, cut_text}}
 use Rattle.yq_documents.{specs.Documents.document_parts, specs.Reading.{part_outline, read_at}}
 use Rattle.yq_documents.specs.LinesInRows.{RowLine, document_row, row_line, row_line_of}
 use Rattle.yq_places.{specs.FlowNodes.{content_flow, find_head}, specs.NodesAt.node_in, specs.PlacedRows.{PlacedPart, placed_document}}

@@ -1,11 +1,10 @@
 -- The pieces of a text from which an item or entry of a flow collection is taken out.
 use Rattle.std.proofs.lemmas.Grind.{common_steps}
-use Rattle.std.proofs.Common.{rules, ◌≡◌, ◌⊎◌, inl, inr, ℕ, ◌-◌, Bool, true, false, ◌&&◌, cond, List, [], ◌∷◌, ◌++◌, length, take, refl}
-use Rattle.std.proofs.Common.{sym, ap, ◌∙◌, subst, arith, append_assoc, length-append}
-use Rattle.std.{proofs.Math.Seq.{take-append_seam, drop-append_seam}, proofs.lemmas.Bool.{false≢true, and_from, and_parts}}
-use Rattle.std.{proofs.lemmas.Str.{IsUtf8-drop, IsUtf8-take, IsUtf8-from_ascii}, proofs.lemmas.Str.Ascii.{IsAscii-cons, IsAscii-nil}}
-use Rattle.std.specs.Str.{chars, IsUtf8, IsCharBoundary}
-use Rattle.yq_core.{specs.Characters.pairs_returns, specs.Text.{front, is_feed, is_return}}
+use Rattle.std.proofs.Common.{rules, ◌≡◌, ◌⊎◌, inl, inr, ℕ, ◌-◌, true, List, [], ◌∷◌, ◌++◌, length, take, refl, sym, ap, ◌∙◌, subst, arith}
+use Rattle.std.{proofs.Common.{append_assoc, length-append}, proofs.Math.Seq.{take-append_seam, drop-append_seam}}
+use Rattle.std.{proofs.lemmas.Bool.{false≢true, and_from, and_parts}, proofs.lemmas.Str.{IsUtf8-drop, IsUtf8-take}}
+use Rattle.std.specs.Str.{IsUtf8, IsCharBoundary}
+use Rattle.yq_core.specs.Characters.{pairs_returns}
 use Rattle.yq_flow_edits.{specs.FlowEdits.FlowEdit, proofs.ReturnLaws.Whole}
 use Rattle.yq_row_table.proofs.CharacterLaws.{all_text, all_join, pairs_back}
 use Rattle.yq_edit_rules.{proofs.CommentPieceLaws.{byte_then, nothing}, specs.TextPieces.IsPiece}

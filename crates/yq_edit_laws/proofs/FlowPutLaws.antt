@@ -1,7 +1,7 @@
 -- The content of an item or entry of a flow collection is replaced by a value.
-use Rattle.std.proofs.Common.{rules, ◌≡◌, ℕ, ◌-◌, ◌<◌, ◌≤◌, Bool, true, false, List, [], ◌∷◌, ◌++◌, length, Option, Some, sym, ap, ◌∙◌}
-use Rattle.std.{proofs.Common.{subst, arith, ◌+◌, append-nil, length-append}, proofs.lemmas.Bool.cond_both, proofs.lemmas.Option.none-some}
-use Rattle.std.specs.Str.{IsCharBoundary}
+use Rattle.std.proofs.Common.{refl, rules, ◌≡◌, ℕ, ◌-◌, ◌<◌, ◌≤◌, Bool, true, false, List, [], ◌∷◌, ◌++◌, length, Option, Some, sym, ap}
+use Rattle.std.{proofs.Common.{◌∙◌, subst, arith, ◌+◌, append-nil, length-append}, proofs.lemmas.Bool.cond_both}
+use Rattle.std.{proofs.lemmas.Option.none-some, specs.Str.IsCharBoundary}
 use Rattle.yq_core.{specs.Keys.depth, specs.Paths.{Step, changed_at, change_child, further, within}, specs.Scalar.ScalarText}
 use Rattle.yq_core.{specs.declared.style.Place.TheVariants.Flow, specs.Collections.{CollAt, CollPieces, IsCollAt, item_in, room_in}}
 use Rattle.yq_core.{specs.Entries.EntryPieces, specs.Nodes.{Key, Items, none, item, is_empty_node, node_text, without_anchor}}

@@ -1,13 +1,13 @@
 -- The paths of operations in flow collections, and the roots that they leave.
-use Rattle.std.proofs.Common.{rules, ◌≡◌, inl, inr, ℕ, false, List, [], ◌∷◌, ◌++◌, Option, Some, None, option_map, refl, sym, ap, ◌∙◌}
-use Rattle.std.{proofs.Common.subst, proofs.lemmas.Bool.or_parts, proofs.lemmas.Option.{none-some, same_Some}, specs.List.list_any}
+use Rattle.std.proofs.Common.{rules, ◌≡◌, false, List, [], ◌∷◌, ◌++◌, Option, Some, None, option_map, refl, sym, ap, ◌∙◌, subst}
+use Rattle.std.proofs.lemmas.Option.{none-some, same_Some}
 use Rattle.yq_core.{specs.Paths.{Step, changed_at, child_at, node_at, remove_child, within}, specs.Tree.{Node, children_of}}
-use Rattle.yq_core.specs.Anchors.{Name, Anchors, Refers, IsAmong, names_of}
+use Rattle.yq_core.specs.Anchors.{names_of}
 use Rattle.yq_documents.specs.TreeEdits.{at_end}
 use Rattle.yq_places.specs.Placements.{last_step}
-use Rattle.yq_edit_rules.{specs.Conditions.{AreSpared, anchors_in, aliases_in}, specs.SoundRoots.IsSoundRoot}
-use Rattle.yq_edit_rules.{proofs.AfterLaws.end_is_change, proofs.SoundRootLess.remove_keeps, proofs.EditsFitLaws.not_used}
-use Rattle.yq_semantics.specs.Changes.{refers_to, is_used, is_used_in}
+use Rattle.yq_edit_rules.{specs.SoundRoots.IsSoundRoot, proofs.AfterLaws.end_is_change, proofs.SoundRootLess.remove_keeps}
+use Rattle.yq_edit_rules.proofs.EditsFitLaws.{not_used}
+use Rattle.yq_semantics.specs.Changes.{is_used_in}
 
 -- ---- the last step of a path
 

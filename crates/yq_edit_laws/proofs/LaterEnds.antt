@@ -6,9 +6,9 @@ use Rattle.std.{proofs.lemmas.Option.{none-some, same_Some}, specs.Prelude.⊤}
 use Rattle.yq_core.specs.Paths.{Step, is_here, further}
 use Rattle.yq_core.specs.Collections.{CollPieces, change_item, coll_along, coll_in, collection_put, put_coll, within_items}
 use Rattle.yq_core.specs.Entries.{EntryPieces, entry_pieces_at, path_inside, item_at}
-use Rattle.yq_core.specs.Nodes.{Key, FlowNode, empty, alias, scalar, coll, anchored, Items, none, item, Sep, flow_items_text, node_text}
-use Rattle.yq_core.{specs.Nodes.{sep_text, without_anchor}, specs.Trees.key_content, specs.Tree.key_label}
-use Rattle.yq_core.{proofs.NodeAgain.{key_longer, node_longer, sep_longer}, proofs.PathLaws.then_some}
+use Rattle.yq_core.specs.Nodes.{Key, FlowNode, coll, anchored, Items, none, item, Sep, flow_items_text, node_text, sep_text, without_anchor}
+use Rattle.yq_core.{specs.Trees.key_content, specs.Tree.key_label, proofs.NodeAgain.{key_longer, node_longer, sep_longer}}
+use Rattle.yq_core.proofs.PathLaws.{then_some}
 use Rattle.yq_flow_edits.specs.FlowEdits.{add_item, after_appended, after_last, is_none, put_item}
 use Rattle.yq_edit_laws.specs.PartPuts.{EndsAfter, EndsAs}
 use Rattle.yq_edit_laws.proofs.LaterParts.{Leads, content_within, inside_within, later, leads_part, node_put, part_leads, part_stays}

@@ -1,9 +1,8 @@
 -- What literal block scalars hold and how they are written: line breaks alone without a known indentation, pieces of a text.
-use Rattle.std.proofs.Common.{◌≡◌, ◌⊎◌, inl, inr, ℕ, zero, suc, ◌+◌, ◌≤◌, not, ◌&&◌, List, [], ◌∷◌, ◌++◌, replicate, Option, Some, None}
-use Rattle.std.proofs.Common.{Bool, true, false, refl, sym, ap, ◌∙◌, subst, arith, append-nil, eqb-true, rules}
-use Rattle.std.{proofs.lemmas.Bool.{false≢true, and_parts, cases_Bool}, proofs.lemmas.List.Folds.list_all-append}
-use Rattle.std.{specs.List.{list_all, list_any}, specs.Str.{IsUtf8, chars}}
-use Rattle.yq_core.specs.Block.{BlockText, RawLines, AreRaw, IsDetected, IsDigit, IsTextIndent, ends_block}
+use Rattle.std.proofs.Common.{◌≡◌, ◌⊎◌, inl, inr, ℕ, zero, suc, ◌+◌, not, ◌&&◌, List, [], ◌∷◌, ◌++◌, replicate, Bool, true, false, refl}
+use Rattle.std.{proofs.Common.{sym, ap, ◌∙◌, subst, append-nil, eqb-true, rules}, proofs.lemmas.Bool.{false≢true, and_parts, cases_Bool}}
+use Rattle.std.{proofs.lemmas.List.Folds.list_all-append, specs.List.{list_all, list_any}, specs.Str.{IsUtf8, chars}}
+use Rattle.yq_core.specs.Block.{BlockText, RawLines, AreRaw, ends_block}
 use Rattle.yq_core.specs.BlockContent.{block_content, optional_break, folded, literal, text_of_line}
 use Rattle.yq_core.{specs.BlockWritten.{break_text, header_text, indented_text, raw_written, written_line}, specs.Characters.is_text_char}
 use Rattle.yq_core.{specs.Scalar.ScalarText, specs.Text.{ends_line, is_feed, is_line, joined, text_lines, upto}}

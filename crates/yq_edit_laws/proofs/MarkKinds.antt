@@ -1,5 +1,5 @@
 -- Keys and dashes, and collections with items or entries.
-use Rattle.std.{proofs.Common.{◌≡◌, ℕ, ◌+◌, not, true, false, cond, List, [], ◌∷◌, ◌++◌, refl, rules}, proofs.lemmas.Bool.false≢true}
+use Rattle.std.{proofs.Common.{◌≡◌, ℕ, ◌+◌, not, true, false, cond, List, rules}, proofs.lemmas.Bool.false≢true}
 use Rattle.yq_core.{specs.Text.is_empty, specs.Tree.Node}
 use Rattle.yq_row_table.{proofs.NothingLaws.some_after, specs.Grammar.{IsMark, is_entry}, specs.Rows.Content, specs.View.colon_of}
 use Rattle.yq_edit_rules.{specs.declared.layout.Layout.Layout, specs.BlockReading.is_filled}

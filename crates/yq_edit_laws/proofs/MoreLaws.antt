@@ -3,8 +3,8 @@ use Rattle.yq_edit_laws.{proofs.DashNodes.dashes_from, proofs.CollectionRows.{En
 use Rattle.yq_edit_laws.proofs.CollectionIsThere.{are, begins_after, begins_under, end_at, ends_there, headless_dash, headless_mark}
 use Rattle.yq_edit_laws.{proofs.CollectionIsThere.root_ends, proofs.FinalBreaks.{entry_some, mark_some}}
 use Rattle.yq_edit_laws.proofs.AppendInside.{IsPutAt, edit_at, held_put_at, lines_put_at}
-use Rattle.std.proofs.Common.{rules, inl, inr, ◌⊎◌, ◌≡◌, ℕ, zero, suc, ◌<◌, ◌≤◌, Bool, true, false, cond, eqb, not, List, [], ◌∷◌, ◌++◌}
-use Rattle.std.proofs.Common.{length, drop, replicate, take, Option, Some, refl, sym, ap, ◌∙◌, subst, arith, append_assoc, append-nil}
+use Rattle.std.proofs.Common.{rules, inl, inr, ◌⊎◌, ◌≡◌, ℕ, suc, ◌<◌, ◌≤◌, Bool, true, false, cond, eqb, not, List, [], ◌∷◌, ◌++◌, length}
+use Rattle.std.proofs.Common.{drop, replicate, take, Option, Some, refl, sym, ap, ◌∙◌, subst, arith, append_assoc, append-nil}
 use Rattle.std.{proofs.lemmas.Bool.{cases_lt, cond-false, eqb-true, eqb-false}, proofs.lemmas.Option.{none-some, same_Some}}
 use Rattle.yq_core.{specs.BlockWritten.break_text, specs.Paths.Step, specs.Text.is_empty, specs.Tree.Node, proofs.Bools.bind_some}
 use Rattle.yq_row_table.{specs.Exchange.row_front, specs.Grammar.{AreDashes, AreRows, IsRow, Limit, unlimited}}

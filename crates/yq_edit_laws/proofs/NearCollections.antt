@@ -1,11 +1,11 @@
 -- Collections to which steps lead in a node, each item or entry found on its own.
 use Rattle.std.proofs.lemmas.Grind.{common_steps}
-use Rattle.std.proofs.Common.{rules, ◌≡◌, ◌-◌, ◌<◌, ◌≤◌, List, [], ◌∷◌, Option, Some, None, Bool, true, false, cond, drop, length, map}
-use Rattle.std.{proofs.Common.{slice_index_or, take, arith, sym, ap, ◌∙◌, subst, take_all}, proofs.lemmas.Option.{none-some, same_Some}}
+use Rattle.std.proofs.Common.{rules, ◌≡◌, ◌-◌, ◌<◌, ◌≤◌, List, [], ◌∷◌, Option, Some, None, true, false, drop, length, map, slice_index_or}
+use Rattle.std.{proofs.Common.{take, arith, sym, ap, ◌∙◌, take_all}, proofs.lemmas.Option.{none-some, same_Some}}
 use Rattle.std.proofs.lemmas.Bool.{false≢true}
 use Rattle.yq_core.{specs.Answers.◌>>=◌, specs.Entries.{PlacedEntry, flow_part_at, parts_of, placed_entry_at, tree_step}}
-use Rattle.yq_core.{specs.Keys.{EachHasUniqueKeys, HasUniqueKeys}, specs.Paths.{Step, further, is_here}, specs.Tree.key_label}
-use Rattle.yq_core.{specs.Places.{Parts, Placed, end, part}, specs.Trees.{parts_tree, placed_tree, unplaced_key}}
+use Rattle.yq_core.{specs.Keys.{EachHasUniqueKeys, HasUniqueKeys}, specs.Paths.{Step, further}, specs.Places.{Parts, Placed, end, part}}
+use Rattle.yq_core.specs.Trees.{parts_tree, placed_tree}
 use Rattle.yq_places.specs.FlowViews.{following_anchor, collection_along, collection_of}
 use Rattle.yq_edit_laws.specs.NearParts.{IsUniqueNode, is_collection}
 use Rattle.yq_core.specs.declared.path.Step as declared

@@ -3,7 +3,7 @@ use Rattle.std.proofs.Common.{◌≡◌, ℕ, ◌+◌, ◌≤◌, Bool, true, fa
 use Rattle.std.proofs.lemmas.List.{length-append}
 use Rattle.yq_core.specs.Text.{is_empty}
 use Rattle.yq_row_table.specs.Exchange.{row_front, with_content}
-use Rattle.yq_row_table.specs.Rows.{Content, content_text, Row, after_dashes, following_gap, after_indent, dashes_text, print_row}
+use Rattle.yq_row_table.specs.Rows.{Content, content_text, Row, after_dashes, after_indent, dashes_text, print_row}
 use Rattle.yq_row_table.{specs.View.{content_cut, slices}, proofs.PlaceLaws.{dashes_then, row_front-append}}
 use Rattle.yq_row_table.{proofs.seams.JoinLaws.dashes_text-append, proofs.SliceLaws.content_slices, specs.Items.rows_items}
 use Rattle.yq_places.specs.RowPieces.{anchor_before, space_before}

@@ -1,7 +1,7 @@
 -- Segments that put one text in the place of another: a value on one line, a line comment or a head comment.
 use Rattle.std.proofs.lemmas.Grind.{common_steps}
-use Rattle.std.proofs.Common.{rules, ◌≡◌, ℕ, ◌+◌, Bool, true, false, cond, List, [], ◌∷◌, ◌++◌, length, refl, sym, ap, ◌∙◌, arith}
-use Rattle.std.{proofs.Common.{append-nil, append_assoc, length-append}, specs.Prelude.⊤}
+use Rattle.std.proofs.Common.{rules, ◌≡◌, ℕ, ◌+◌, Bool, true, false, cond, List, [], ◌∷◌, ◌++◌, length, refl, ap, ◌∙◌, arith, append-nil}
+use Rattle.std.{proofs.Common.{append_assoc, length-append}, specs.Prelude.⊤}
 use Rattle.yq_core.{specs.Text.{is_empty, joined}, specs.Tree.Node, specs.declared.style.Place.TheVariants.Block as InBlock}
 use Rattle.yq_places.specs.Placements.{Held, LinesIn}
 use Rattle.yq_text.proofs.BetweenLaws.{after_nothing}

@@ -2,8 +2,8 @@
 use Rattle.std.proofs.lemmas.Grind.{common_steps}
 use Rattle.std.proofs.Common.{arith, ◌≡◌, ◌&&◌, inr, eqb, List, [], ◌∷◌, ◌++◌, ℕ, is_some, true, false, cond, refl, sym, ap, ◌∙◌, subst}
 use Rattle.std.{proofs.Common.{append_assoc, append-nil, ⊎_elim, rules}, proofs.lemmas.Bool.false≢true}
-use Rattle.yq_core.{specs.BlockWritten.break_text, specs.Characters.pairs_returns}
-use Rattle.yq_core.{specs.Text.{front, is_empty, joined, past_white, with_first}, specs.declared.block_types.Break.Break}
+use Rattle.yq_core.{specs.BlockWritten.break_text, specs.Characters.pairs_returns, specs.Text.{front, joined, past_white, with_first}}
+use Rattle.yq_core.specs.declared.block_types.Break.{Break}
 use Rattle.yq_outline.specs.Comments.{comment_text, are_comments, last_comments, head_comment}
 use Rattle.yq_row_table.{specs.Gap.{IsComment, IsGapLine, AreGapLines, IsGap}, proofs.CharacterLaws.pairs_back}
 use Rattle.yq_row_table.{proofs.NothingLaws.line_end_other, proofs.seams.GapFronts.gap_lines, proofs.GapLaws.some_more}

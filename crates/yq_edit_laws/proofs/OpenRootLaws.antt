@@ -4,7 +4,7 @@ use Rattle.std.proofs.Common.{◌≡◌, inl, inr, ℕ, ◌≤◌, List, [], ◌
 use Rattle.std.proofs.Common.{append_assoc, append-nil, length-append, rules, map}
 use Rattle.std.{proofs.lemmas.Bool.{false≢true, cond-true, false_from_ne_true, and_parts}, proofs.lemmas.Str.is_utf8-from_IsUtf8}
 use Rattle.std.{specs.List.{list_all, slice_get}, specs.Str.{chars, is_utf8}}
-use Rattle.yq_core.{specs.BlockWritten.break_text, specs.Characters.{is_text, is_text_char, pairs_returns}, specs.Text.{is_empty, is_line}}
+use Rattle.yq_core.{specs.BlockWritten.break_text, specs.Characters.{is_text, is_text_char, pairs_returns}, specs.Text.is_empty}
 use Rattle.yq_core.{specs.Tree.Node, specs.declared.block_types.Break.Break, proofs.Bools.guard_then, specs.Answers.◌>>=◌}
 use Rattle.yq_text.{specs.Limit.text_limit, specs.Script.{Segment, new_text, kept_front, kept_back}}
 use Rattle.yq_flow_edits.specs.Valued.{IsValueTree}

@@ -1,7 +1,7 @@
 -- Edits one after the other lead from text to text.
 use Rattle.std.proofs.Common.{rules, ◌≡◌, inl, inr, ℕ, List, [], ◌∷◌, ◌++◌, refl, sym, ap, ◌∙◌, subst, append_assoc, append-nil}
 use Rattle.yq_text.specs.Splice.{Splice}
-use Rattle.yq_edit_laws.{specs.Answers.EditFails, specs.Edit.{Edit, unreadable, refuses, gives, edit_after, edit_then, in_order}}
+use Rattle.yq_edit_laws.{specs.Answers.EditFails, specs.Edit.{Edit, gives, edit_after, edit_then, in_order}}
 use Rattle.yq_edit_laws.specs.Theorems.{InOrder, Leading, StopsInOrder}
 use Rattle.yq_semantics.specs.Judgement.{ExprError}
 

@@ -9,11 +9,11 @@ use Rattle.yq_outline.{proofs.Finding.row_child, specs.Lines.lines_of_rows}
 use Rattle.yq_row_table.specs.Rows.{Part, Cut, cut_text}
 use Rattle.yq_documents.{specs.Documents.{Document, document_parts}, specs.Reading.{documents, part_outline, read_at, root_of}}
 use Rattle.yq_documents.specs.LinesInRows.{row_line, row_line_of}
-use Rattle.yq_places.{proofs.PlacedPartLaws.placed_is, specs.FlowNodes.find_head, specs.NodesAt.node_in}
-use Rattle.yq_places.{specs.PlacedRows.{PlacedPart, placed_document}, specs.RemovalPlaces.{has_others_at, has_several}}
+use Rattle.yq_places.{proofs.PlacedPartLaws.placed_is, specs.FlowNodes.find_head, specs.NodesAt.node_in, specs.PlacedRows.PlacedPart}
+use Rattle.yq_places.specs.RemovalPlaces.{has_others_at, has_several}
 use Rattle.yq_places.specs.Placements.{FlowPart, RowsOfEntry, entry_rows_at, flow_part, flow_placement, last_step, rows_of_entry}
-use Rattle.yq_places.{specs.Placements.root_placement, proofs.FoundEntries.middle, proofs.PlacedRowLaws.{document_placed, part_of}}
-use Rattle.yq_places.{proofs.RowPathLaws.found_lines, proofs.DashLineLaws.row_line_found, proofs.PrintedTexts.map_some}
+use Rattle.yq_places.{specs.Placements.root_placement, proofs.FoundEntries.middle, proofs.RowPathLaws.found_lines}
+use Rattle.yq_places.{proofs.DashLineLaws.row_line_found, proofs.PrintedTexts.map_some}
 use Rattle.yq_edit_rules.{specs.Siblings.{IsCollectionAt, IsEntryAt, NodeLines}, specs.PlacementLaws.{EntriesOccur, RootsOccur}}
 use Rattle.yq_edit_rules.{proofs.EditedLaws.lines_are_there, proofs.RemovalChangeLaws.{children-value, take_init}, proofs.PathLaws.found_at}
 use Rattle.yq_edit_laws.{proofs.FlowHeldNodes.{collection_cases, FlowContent, entry_tree, held, item_child}, proofs.DocumentParts.PartOf}

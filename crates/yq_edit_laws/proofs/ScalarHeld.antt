@@ -2,10 +2,9 @@
 use Rattle.std.proofs.Common.{◌≡◌, inl, inr, ℕ, cond, List, [], ◌++◌, length, Option, None, Some, true, false, ◌&&◌, ◌||◌, refl, sym, ap}
 use Rattle.std.{proofs.Common.{◌∙◌, subst, append_assoc, append-nil, rules, ◌≤◌, not, ◌∷◌}, proofs.lemmas.Bool.{false≢true, and_parts}}
 use Rattle.yq_core.{specs.Block.{BlockText, block_text}, specs.Lines.{is_blank, is_hash}, specs.Paths.Step}
-use Rattle.yq_core.specs.Text.{front, is_empty, is_line, is_white, past_white, separates}
-use Rattle.yq_core.{specs.declared.block_types.Break.TheVariants.{Lf, CrLf}, specs.Tree.{anchor_of, Node}, specs.BlockWritten.break_text}
-use Rattle.yq_core.{specs.Piece.deeper, specs.Plain.ends_plain, specs.declared.block_types.Break.Break, specs.Nodes.{node_text, IsFlowNode}}
-use Rattle.yq_core.specs.Trees.{node_anchor}
+use Rattle.yq_core.{specs.Text.{front, is_empty, is_line, is_white, past_white, separates}, specs.Tree.{anchor_of, Node}}
+use Rattle.yq_core.{specs.BlockWritten.break_text, specs.Piece.deeper, specs.Plain.ends_plain, specs.declared.block_types.Break.Break}
+use Rattle.yq_core.{specs.Nodes.{node_text, IsFlowNode}, specs.Trees.node_anchor}
 use Rattle.yq_outline.{specs.Places.content_under, specs.Lines.{block_anchor, content_anchor}, specs.Comments.line_comment}
 use Rattle.yq_row_table.{specs.Exchange.{row_front, with_content}, specs.Gap.IsBreak, specs.Grammar.{IsContent, IsTail, IsAnchor}}
 use Rattle.yq_row_table.specs.Rows.{Anchor, Block, anchor_text, content_text, Row, parent_indent, rows_text, Cut, cut_text, Content, Inline}
@@ -15,7 +14,7 @@ use Rattle.yq_places.{specs.CommentPlaces.{LineEnd, end_in_line}, specs.PrintedL
 use Rattle.yq_places.{specs.RowPieces.{anchor_before, space_before}, specs.Placements.{RowsOfEntry, before_entry, held, Held}}
 use Rattle.yq_edit_rules.{proofs.HeldCuts.break_is_piece, specs.PlacementLaws.HasItsRows, specs.TextPieces.IsPiece}
 use Rattle.yq_edit_rules.{specs.ReplaceEdits.{line_break, raw_last, spaced_text, held_put}, proofs.BreakLaws.{IsLfOrCrLf, break_is}}
-use Rattle.yq_edit_rules.{proofs.CommentPieceLaws.break_piece, proofs.CommentRowLaws.end_parts, specs.InlineRows.IsValueNode}
+use Rattle.yq_edit_rules.{proofs.CommentRowLaws.end_parts, specs.InlineRows.IsValueNode}
 use Rattle.yq_edit_rules.proofs.CoreLaws.{recore, anchored_node, core_anchor, core_bare, core_head, core_keys}
 use Rattle.yq_edit_rules.{proofs.InlineReplaceLaws.deeper_entry, proofs.PathTailLaws.anchor_other, proofs.ValueContentLaws.more_some}
 use Rattle.yq_edit_rules.{specs.EditLaws.CarriedOut, proofs.EditsFitLaws.FitsReplace, proofs.ValueTexts.IsWrittenFor}

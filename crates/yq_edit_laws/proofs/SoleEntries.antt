@@ -1,13 +1,12 @@
 -- A collection in another one, in the head of a row, that has no more than one item or entry: it is an item or entry there, which an empty collection replaces.
 use Rattle.std.proofs.lemmas.Grind.{common_steps}
 use Rattle.std.proofs.Common.{arith, rules, ◌≡◌, ℕ, suc, ◌+◌, length, length-append, Bool, true, false, cond, eqb, List, [], ◌∷◌, ◌++◌}
-use Rattle.std.{proofs.Common.{Option, Some, None, refl, sym, ap, ◌∙◌, append_assoc}, proofs.lemmas.Bool.false≢true}
+use Rattle.std.{proofs.Common.{Option, Some, refl, sym, ap, ◌∙◌, append_assoc}, proofs.lemmas.Bool.false≢true}
 use Rattle.std.{proofs.lemmas.Option.{none-some, same_Some}, specs.Prelude.nat_lt}
 use Rattle.yq_core.{specs.Paths.Step, specs.Collections.{CollPieces, coll_along, coll_in}, specs.Entries.{EntryPieces, item_at}}
-use Rattle.yq_core.specs.Nodes.{FlowNode, IsFlowNode, Items, alias, anchored, coll, empty, flow_items_text, node_text, scalar, takes_anchor}
-use Rattle.yq_core.{specs.Nodes.without_anchor, specs.NodesWritten.flow_of, specs.Tree.Node}
-use Rattle.yq_core.{specs.Trees.{items_tree, tree_collection, tree_of, with_name}, proofs.Bools.bind_some}
-use Rattle.yq_core.proofs.PathLaws.{items_hold, then_some}
+use Rattle.yq_core.specs.Nodes.{FlowNode, IsFlowNode, Items, anchored, coll, flow_items_text, node_text, without_anchor}
+use Rattle.yq_core.{specs.NodesWritten.flow_of, specs.Tree.Node, specs.Trees.{items_tree, tree_collection, tree_of, with_name}}
+use Rattle.yq_core.{proofs.Bools.bind_some, proofs.PathLaws.{items_hold, then_some}}
 use Rattle.yq_flow_edits.{specs.FlowEdits.FlowEdit, proofs.EditLaws.around_is}
 use Rattle.yq_outline.specs.Counts.{count}
 use Rattle.yq_row_table.specs.Rows.{Cut, cut_text}

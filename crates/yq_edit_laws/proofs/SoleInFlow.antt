@@ -1,13 +1,12 @@
 -- What is known of a flow collection with one item or entry, by what is next to that and by how the collection ends.
-use Rattle.std.proofs.Common.{arith, rules, ◌≡◌, ℕ, Bool, true, false, cond, eqb, List, [], ◌∷◌, Some, None, option_map, refl, sym, ap, ◌∙◌}
+use Rattle.std.proofs.Common.{arith, rules, ◌≡◌, ℕ, Bool, false, cond, eqb, List, Some, None, option_map, refl, sym, ◌∙◌}
 use Rattle.std.{proofs.lemmas.Grind.common_steps, proofs.lemmas.Option.{none-some, same_Some}, specs.Prelude.nat_lt}
 use Rattle.yq_edit_rules.proofs.FlowLocationLaws.{coll_entry}
-use Rattle.yq_core.{specs.Answers.◌>>=◌, specs.Collections.{CollPieces, coll_along, coll_in}, specs.Paths.{Step, further, is_here}}
-use Rattle.yq_core.specs.Entries.{EntryPieces, entry_pieces_at}
-use Rattle.yq_core.{specs.Nodes.{FlowNode, Items, none, item, empty, alias, scalar, coll, anchored}, specs.Tree.key_label}
-use Rattle.yq_core.{specs.Trees.{items_tree, key_content, tree_of, with_name}, proofs.Bools.bind_some, proofs.TreeLaws.node_tree}
+use Rattle.yq_core.{specs.Answers.◌>>=◌, specs.Collections.{CollPieces, coll_along, coll_in}, specs.Paths.{Step, further}}
+use Rattle.yq_core.{specs.Entries.{EntryPieces, entry_pieces_at}, specs.Nodes.{FlowNode, Items, none, item, coll, anchored}}
+use Rattle.yq_core.{specs.Tree.key_label, specs.Trees.{items_tree, tree_of, with_name}, proofs.Bools.bind_some, proofs.TreeLaws.node_tree}
 use Rattle.yq_inline.specs.Along.{as_item, front_read}
-use Rattle.yq_inline.specs.Neighbours.{PartTexts, PartsAround, around_part, coll_around, coll_end, coll_read, first_ends, first_text}
+use Rattle.yq_inline.specs.Neighbours.{PartTexts, PartsAround, around_part, coll_around, coll_end, coll_read, first_ends}
 use Rattle.yq_inline.specs.declared.before_offset.LeadingNode.{LeadingNode}
 use Rattle.yq_outline.specs.Counts.{count}
 use Rattle.yq_places.specs.NodesAt.{NodeAt, node_summary}

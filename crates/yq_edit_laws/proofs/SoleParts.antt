@@ -1,14 +1,14 @@
 -- A sole item or entry of a flow collection that is an item or entry itself: that it is removed is that an empty collection replaces its own.
 use Rattle.std.proofs.lemmas.Grind.{common_steps}
-use Rattle.std.proofs.Common.{rules, ◌≡◌, ℕ, ◌+◌, Bool, true, false, cond, eqb, List, [], ◌∷◌, ◌++◌, length, Option, Some, None, option_map}
-use Rattle.std.{proofs.Common.{refl, sym, ap, ◌∙◌, subst, arith}, proofs.lemmas.Bool.ltb-false, proofs.lemmas.Option.{none-some, same_Some}}
+use Rattle.std.proofs.Common.{rules, ◌≡◌, ℕ, ◌+◌, false, List, [], ◌∷◌, ◌++◌, length, Option, Some, None, option_map, refl, sym, ap, ◌∙◌}
+use Rattle.std.{proofs.Common.{subst, arith}, proofs.lemmas.Bool.ltb-false, proofs.lemmas.Option.{none-some, same_Some}}
 use Rattle.std.{specs.Option.option_or, specs.Prelude.{nat_lt, option_and_then}}
 use Rattle.yq_core.{specs.Answers.◌>>=◌, specs.Collections.{CollPieces, coll_along, coll_in}, specs.Entries.{EntryPieces, item_at}}
-use Rattle.yq_core.{specs.Nodes.{FlowNode, Items, none, item, empty, alias, scalar, coll, anchored}, specs.Paths.{Step, further, is_here}}
-use Rattle.yq_core.{specs.Tree.{Children, Node, children_of, key_label}, specs.Trees.{items_tree, key_content, tree_of, with_name}}
-use Rattle.yq_flow_edits.specs.Removals.{before_next, edit_from_item, gap_of, last_out, removing, removing_from}
+use Rattle.yq_core.{specs.Nodes.{FlowNode, Items, none, item, coll, anchored}, specs.Paths.{Step, further, is_here}}
+use Rattle.yq_core.{specs.Tree.{Children, Node, children_of, key_label}, specs.Trees.{items_tree, tree_of, with_name}}
+use Rattle.yq_flow_edits.specs.Removals.{removing, removing_from}
 use Rattle.yq_outline.{specs.Counts.count, specs.Outline.Outline, specs.Places.{FoundLine, lines_before}}
-use Rattle.yq_row_table.{specs.Exchange.after_row, specs.Rows.{Content, Nothing, Inline, Block, Cut, cut_text}}
+use Rattle.yq_row_table.{specs.Exchange.after_row, specs.Rows.{Content, Inline, Cut, cut_text}}
 use Rattle.yq_documents.{specs.Documents.Document, specs.LinesInRows.{RowLine, document_row}, proofs.ReadLaws.parts_read}
 use Rattle.yq_documents.specs.Reading.{documents, part_outline, read_at}
 use Rattle.yq_places.specs.FlowNodes.{content_flow, find_head, flow_collection, head_line, line_collection, part_collection}
