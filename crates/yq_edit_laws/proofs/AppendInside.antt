@@ -8,48 +8,28 @@ use Rattle.yq_row_table.{specs.Rows.{Row, rows_text, Part, Cut, cut_text}, specs
 use Rattle.yq_row_table.{specs.Splices.{first_gap, after_first}, proofs.seams.SeamLaws.rows_text-append}
 use Rattle.yq_row_table.{proofs.splices.SpliceTexts.{own_gap, own_end, first_text}, specs.Items.rows_items}
 use Rattle.yq_places.{specs.CollectionEnds.{CollectionEnd, is_broken}, specs.RowPaths.IsReadable, specs.Placements.{Held, LinesIn}}
+use Rattle.yq_places.proofs.RemovalLines.{front_some}
 use Rattle.yq_documents.{specs.Documents.lead_of, specs.Ready.begins_no_node, specs.Reading.{read_at, documents}}
-use Rattle.yq_outline.{specs.Lines.{lines_from, lines_of_rows}, specs.Outline.label, specs.Places.content_under}
-use Rattle.yq_edit_rules.{specs.declared.layout.Layout.Layout, specs.Alone.singleton, specs.BlockRows.node_rows}
-use Rattle.yq_edit_rules.{proofs.BlockEndLaws.line_ends, proofs.TextLaws.value_spelled, specs.Appends.{TakesRows, inserted}}
-use Rattle.yq_edit_rules.{specs.Changed.{IsChanged, put_document}, specs.CollectionPlaces.IsCollectionEnd}
-use Rattle.yq_edit_rules.{specs.DocumentRows.after_document, specs.Rooms.is_block_root, proofs.AppendLaws.block_appended}
-use Rattle.yq_edit_rules.{proofs.EndedRowLaws.rows_then, proofs.TextPieceLaws.pieces_joined, proofs.BlockLineLaws.break_uncommented}
-use Rattle.yq_edit_rules.{specs.Local.{IsLocal, IsLocalTo}, proofs.ItemsLocal.{first_nothing, last_nothing}}
-use Rattle.yq_edit_rules.{proofs.LocalLaws.{cut_known, rows_local}, specs.Layouts.layout_of, specs.EntryEdits.{entry_lines, after_held}}
-use Rattle.yq_edit_rules.{specs.ReadsAfter.ReadsAfter, proofs.CommentPieceLaws.break_piece, proofs.SegmentLaws.segments_readable}
+use Rattle.yq_outline.{specs.Lines.lines_of_rows, specs.Outline.label, specs.Places.content_under}
+use Rattle.yq_edit_rules.{proofs.UnbrokenLaws.{begins_same, gap_same}, specs.declared.layout.Layout.Layout, specs.Alone.singleton}
+use Rattle.yq_edit_rules.{specs.BlockRows.node_rows, proofs.BlockEndLaws.line_ends, proofs.TextLaws.value_spelled}
+use Rattle.yq_edit_rules.{specs.Appends.{TakesRows, inserted}, specs.Changed.{IsChanged, put_document}}
+use Rattle.yq_edit_rules.{specs.CollectionPlaces.IsCollectionEnd, specs.DocumentRows.after_document, specs.Rooms.is_block_root}
+use Rattle.yq_edit_rules.{proofs.AppendLaws.block_appended, proofs.EndedRowLaws.rows_then, proofs.TextPieceLaws.pieces_joined}
+use Rattle.yq_edit_rules.{proofs.BlockLineLaws.break_uncommented, specs.Local.{IsLocal, IsLocalTo}}
+use Rattle.yq_edit_rules.{proofs.ItemsLocal.{first_nothing, last_nothing}, proofs.LocalLaws.{cut_known, rows_local}}
+use Rattle.yq_edit_rules.{specs.Layouts.layout_of, specs.EntryEdits.{entry_lines, after_held}, specs.ReadsAfter.ReadsAfter}
+use Rattle.yq_edit_rules.{proofs.CommentPieceLaws.break_piece, proofs.SegmentLaws.segments_readable}
 use Rattle.yq_edit_rules.proofs.AppendPlaces.{IsAppendPlace, put_segments, old_is, p, there, e, allows_there, kept_pieces, IsAsked, entry}
 use Rattle.yq_edit_rules.{proofs.AppendPlaces.{written, new_rows_are, entry_piece, filled, finished}, specs.ClosedTexts.closed_lines_put}
 use Rattle.yq_edit_rules.{specs.EditLaws.IsEdit, specs.Operands.HasOperand, specs.PiecePuts.after_lines, proofs.AppendAtEnd.end_both}
 use Rattle.yq_edit_rules.{proofs.DoneLaws.nth_map, proofs.EditsFitLaws.tree_unique}
 use Rattle.yq_semantics.{specs.Operations.append, specs.Fits.Fits, specs.Rooms.room_of}
-use Rattle.yq_outline.specs.Comments as comments
 
 last_closed : (others : List Row) (r : Row) → is_broken r.content ≡ true → ends_in_block (others ++ (r ∷ [])) ≡ false → ends_in_line (others ++ (r ∷ [])) ≡ true
 last_closed [] r e inside = search (rules, false≢true)
 last_closed (x ∷ []) r e inside = last_closed [] r e inside
 last_closed (x ∷ (y ∷ others)) r e inside = last_closed (y ∷ others) r e inside
-
--- ---- rows in front stay
-
-some_rows : (others : List Row) (r : Row) (more : List Row) → no_rows ((others ++ (r ∷ [])) ++ more) ≡ false
-some_rows [] r more = refl
-some_rows (y ∷ others) r more = refl
-
-first_same : (others : List Row) (r : Row) (a b : List Row) (f g : List ℕ) → first_gap ((others ++ (r ∷ [])) ++ a) f ≡ first_gap ((others ++ (r ∷ [])) ++ b) g
-first_same [] r a b f g = refl
-first_same (y ∷ others) r a b f g = refl
-
-row_begins : (r : Row) (a b : List Row) → begins_no_node (lines_of_rows (r ∷ a)) ≡ begins_no_node (lines_of_rows (r ∷ b))
-row_begins r a b = go r.dashes
-  where
-    go : (ns : List ℕ) → begins_no_node (lines_from (comments.head_comment r.gap) r.column ns r.mark r.content ++ lines_of_rows a) ≡ begins_no_node (lines_from (comments.head_comment r.gap) r.column ns r.mark r.content ++ lines_of_rows b)
-    go [] = refl
-    go (n ∷ ns) = refl
-
-begins_same : (others : List Row) (r : Row) (a b : List Row) → begins_no_node (lines_of_rows ((others ++ (r ∷ [])) ++ a)) ≡ begins_no_node (lines_of_rows ((others ++ (r ∷ [])) ++ b))
-begins_same [] r a b = row_begins r a b
-begins_same (y ∷ others) r a b = row_begins y ((others ++ (r ∷ [])) ++ a) ((others ++ (r ∷ [])) ++ b)
 
 -- ---- after a line that has a break
 
@@ -96,17 +76,20 @@ module _ (doc : ℕ) (steps : List Step) (key : Option (List ℕ)) (v : Node) (c
         closed = λ none_back none_block. ap ends_in_line place.front_is ∙ last_closed place.others place.last (sym place.broken ∙ broken) (ap ends_in_block (sym place.front_is) ∙ none_block);
       }
 
-  p_split : part.rows ≡ (place.others ++ (place.last ∷ [])) ++ place.back
-  p_split = place.rows_are ∙ ap (λ rs. rs ++ place.back) place.front_is
+  p_split : part.rows ≡ place.others ++ (place.last ∷ place.back)
+  p_split = place.rows_are ∙ (ap (λ rs. rs ++ place.back) place.front_is ∙ append_assoc place.others (place.last ∷ []) place.back)
 
-  q_split : q.rows ≡ (place.others ++ (place.last ∷ [])) ++ (new ++ place.back)
-  q_split = q_rows ∙ ap (λ rs. rs ++ (new ++ place.back)) place.front_is
+  q_split : q.rows ≡ place.others ++ (place.last ∷ (new ++ place.back))
+  q_split = q_rows ∙ (ap (λ rs. rs ++ (new ++ place.back)) place.front_is ∙ append_assoc place.others (place.last ∷ []) (new ++ place.back))
 
   same_block : is_block_root q ≡ is_block_root part
-  same_block = ap (λ rs. begins_no_node (lines_of_rows rs)) q_split ∙ (begins_same place.others place.last (new ++ place.back) place.back ∙ ap (λ rs. begins_no_node (lines_of_rows rs)) (sym p_split))
+  same_block =
+      ap (λ rs. begins_no_node (lines_of_rows rs)) q_split
+      ∙ (begins_same place.others place.last place.last.content place.last.content (new ++ place.back) place.back
+      ∙ ap (λ rs. begins_no_node (lines_of_rows rs)) (sym p_split))
 
   same_lead : lead_of q ≡ lead_of part
-  same_lead = search (rules, q_split, first_same, place.others, place.back, p_split)
+  same_lead = search (rules, q_split, gap_same, p_split)
 
   changed : x.broken ≡ true → length (new_text (put_segments x (lines ++ break_text l.br))) ≤ text_limit →
       IsChanged c (put_document doc q c) doc (lead_of part)
@@ -151,7 +134,8 @@ module _ (doc : ℕ) (steps : List Step) (key : Option (List ℕ)) (v : Node) (c
         new_is = sym new_is;
       }) refl (first_nothing (rows_items new [])) refl (last_nothing (rows_items new [])) in (
         subst (ReadsAfter (append doc steps key v) c) new_is
-            (finished doc steps key v c x read at g q (break_text l.br) uncommented is_changed same_lead same_block (ap no_rows q_split ∙ some_rows place.others place.last (new ++ place.back))),
+            (finished doc steps key v c x read at g q (break_text l.br) uncommented is_changed same_lead same_block
+            (ap no_rows q_split ∙ front_some place.others place.last (new ++ place.back))),
         cut_known ss c (put_document doc q c) is_changed.read new_is local,
       )
 

@@ -11,15 +11,14 @@ use Rattle.yq_documents.{specs.Reading.read_at, specs.Ready.begins_no_node, spec
 use Rattle.yq_places.{specs.PlacedRows.{PlacedPart, placed_document}, specs.PrintedLines.{last_break, less_break}}
 use Rattle.yq_places.{specs.Placements.{LinesIn, is_alone}, proofs.CommentPieceLaws.{Ended, gap_end}, proofs.PrintedTexts.less_is}
 use Rattle.yq_places.{proofs.RemovalLines.{LineSeam, LiesIn, lies_in, seam_join}, proofs.LastBreakLaws.lf_last}
-use Rattle.yq_edit_rules.{specs.DocumentRows.IsDocumentPart, specs.PlacedParts.IsDocumentAt, specs.TextPieces.IsPiece}
-use Rattle.yq_edit_rules.{proofs.AppendPlaceLaws.following_rows, proofs.EndedRowLaws.{rows_ended, rows_then}}
+use Rattle.yq_edit_rules.{proofs.HeldCuts.break_is_piece, specs.DocumentRows.IsDocumentPart, specs.PlacedParts.IsDocumentAt}
+use Rattle.yq_edit_rules.{specs.TextPieces.IsPiece, proofs.FirstReplaceLaws.rows_after, proofs.EndedRowLaws.{rows_ended, rows_then}}
 use Rattle.yq_edit_rules.{proofs.FirstBreakLaws.{IsOneBreak, break_tail, break_apart, break_bare}, proofs.PartLaws.document_known}
 use Rattle.yq_edit_rules.{proofs.PlacedPartLaws.document_is_there_at, proofs.TextPieceLaws.{pieces_joined, text_is_piece}}
 use Rattle.yq_edit_rules.{proofs.RemovalPieceLaws.{spaces_piece, seam_pieces}, proofs.AppendAtEnd.nothing_tail}
-use Rattle.yq_edit_rules.{proofs.AppendEntryLaws.none_uncommented, proofs.CommentPieceLaws.{nothing, break_piece}, proofs.LastRows.lf_end}
+use Rattle.yq_edit_rules.{proofs.AppendEntryLaws.none_uncommented, proofs.CommentPieceLaws.nothing, proofs.LastRows.lf_end}
 use Rattle.yq_edit_rules.proofs.BreakLaws.{last_is}
 use Rattle.yq_edit_laws.{proofs.RootReadLaws.TakesValue, proofs.RootRows.HasRoom, proofs.PlacementRoots.HasRoot, proofs.HeldRows.no_line}
-use Rattle.yq_core.specs.declared.block_types.Break.TheVariants as breaks
 
 -- ---- the first row of a block collection, the line that it begins, and the break that ends a text
 
@@ -115,10 +114,6 @@ end_seam : (a b c : List ℕ) → Ended b c → LineSeam (a ++ b) c
 end_seam a b c (inl lf) = inr (inl (append_lf a b lf))
 end_seam a b c (inr e) = inr (inr e)
 
-one_break_piece : (t : List ℕ) → IsOneBreak t → IsPiece t
-one_break_piece t (inl e) = subst IsPiece (sym e) (break_piece breaks.Lf)
-one_break_piece t (inr e) = subst IsPiece (sym e) (break_piece breaks.CrLf)
-
 module _ (n : ℕ) (c : Cut) (column : ℕ) (w : LinesIn) (read : read_at (cut_text c) ≡ Some c) (h : IsBlockRoot n c column w) where
   is_located : IsDocumentAt c n h.d
   is_located = document_is_there_at c n h.d h.placed
@@ -142,7 +137,8 @@ module _ (n : ℕ) (c : Cut) (column : ℕ) (w : LinesIn) (read : read_at (cut_t
   all = subst (λ xs. AreRows unlimited xs h.d.part.end h.d.after) h.rows_are lies.rows
 
   gap_is : IsGap h.d.part.end h.d.after
-  gap_is = following_rows (h.row ∷ h.others) [] unlimited h.d.part.end h.d.after (subst (λ xs. AreRows unlimited xs h.d.part.end h.d.after) (sym (append-nil (h.row ∷ h.others))) all)
+  gap_is = rows_after unlimited (h.row ∷ h.others) [] h.d.part.end h.d.after
+      (subst (λ xs. AreRows unlimited xs h.d.part.end h.d.after) (sym (append-nil (h.row ∷ h.others))) all)
 
   room : HasRoom h.row.gap w.last h.d.part.end h.d.after
   room = record {
@@ -183,7 +179,7 @@ module _ (n : ℕ) (c : Cut) (column : ℕ) (w : LinesIn) (read : read_at (cut_t
   last_piece = go h.ends
     where
       go : (IsOneBreak w.last) ⊎ ((w.last ≡ []) × (h.d.part.end ++ h.d.after ≡ [])) → IsPiece w.last
-      go (inl b) = one_break_piece w.last b
+      go (inl b) = break_is_piece w.last (inr b)
       go (inr e) = subst IsPiece (sym e.0) nothing
 
   more_piece : IsPiece (h.d.part.end ++ h.d.after)

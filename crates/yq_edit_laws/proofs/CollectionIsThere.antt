@@ -1,13 +1,14 @@
 -- A block collection that is at a place, by its rows, and where it ends.
-use Rattle.std.proofs.Common.{rules, inl, inr, ◌⊎◌, ◌≡◌, ℕ, suc, ◌+◌, ◌<◌, ◌≤◌, Bool, true, false, ◌&&◌, List, [], ◌∷◌, ◌++◌, length, take}
-use Rattle.std.proofs.Common.{Option, Some, None, refl, sym, ap, ◌∙◌, subst, arith, append_assoc, append-nil, length-append}
-use Rattle.std.{proofs.lemmas.Bool.{cases_lt, false≢true}, proofs.lemmas.Option.same_Some, specs.List.slice_get, specs.Option.is_none}
+use Rattle.std.proofs.lemmas.Grind.{common_steps}
+use Rattle.std.proofs.Common.{rules, ◌≡◌, ℕ, suc, ◌+◌, ◌<◌, ◌≤◌, Bool, true, false, ◌&&◌, List, [], ◌∷◌, ◌++◌, length, take, Option, Some}
+use Rattle.std.proofs.Common.{None, refl, sym, ap, ◌∙◌, subst, arith, append_assoc, append-nil, length-append}
+use Rattle.std.{proofs.lemmas.Bool.{cases_lt, false≢true}, proofs.lemmas.Option.same_Some, specs.List.slice_get}
 use Rattle.std.specs.Prelude.{option_and_then}
 use mathlib.Core.List.{tail-eq_of_cons-eq}
 use Rattle.yq_core.{specs.Paths.Step, specs.Text.is_empty, specs.Tree.Node}
 use Rattle.yq_outline.{specs.Comments.head_comment, specs.Outline.{Line, Outline, flatten}}
 use Rattle.yq_outline.{specs.Places.{FoundLine, here, lines_after, lines_before}, specs.Positions.has_no_mark, proofs.Decides.flatten-group}
-use Rattle.yq_outline.specs.Lines.{head_of, lines_from, lines_of_rows, line_mark, row_lines}
+use Rattle.yq_outline.specs.Lines.{lines_from, lines_of_rows, line_mark, row_lines}
 use Rattle.yq_outline.{proofs.WalkLevels.{RowsAgree, IsLineOf, RowAgrees, line_in}, proofs.WalkRows.rows_agree}
 use Rattle.yq_row_table.specs.Grammar.{AreDashes, AreRows, IsRow, Limit, is_entry, unlimited}
 use Rattle.yq_row_table.{specs.Rows.{Row, Part, Cut, after_columns, cut_text, part_text, print_row, rows_text}, specs.View.slices}
@@ -56,26 +57,22 @@ module _ (n : ℕ) (s : Step) (ss : List Step) (c : Cut) (e : RowsOfEntry) (ther
       sym (get_after (lines_of_rows e.front) rest (e.line + i))
       ∙ ((λ j. slice_get ((sym rows ∙ found) j) (same j)) ∙ get_after (lines_before f.place) (f.line ∷ (flatten f.under ++ after)) i)
 
+  own_line : e.line ≤ length e.row.dashes → IsLineOf e.row.column e.row.dashes e.row.mark e.row.content e.line f.line
+  own_line within =
+      let l = line_in (head_comment e.row.gap) e.row.column e.row.dashes e.row.mark e.row.content e.line within in
+      let at : slice_get (row_lines e.row ++ (lines_of_rows e.under ++ lines_of_rows e.back)) e.line ≡ Some l.0 =
+      get_front (row_lines e.row) (lines_of_rows e.under ++ lines_of_rows e.back) e.line l.0 l.1 in
+      let plain : e.line ≡ e.line + 0 = omega arith in
+      let same : l.0 ≡ f.line =
+      same_Some _ _ (sym at ∙ (ap (slice_get (row_lines e.row ++ (lines_of_rows e.under ++ lines_of_rows e.back))) plain ∙ lines_there 0)) in
+      subst (IsLineOf e.row.column e.row.dashes e.row.mark e.row.content e.line) same l.2
+
   -- where the key or dash has nothing after it
   pub headless_mark : e.line ≡ length e.row.dashes → is_empty (slices e.row).head ≡ true → f.line.head ≡ None
-  headless_mark last none =
-      let l = line_in (head_comment e.row.gap) e.row.column e.row.dashes e.row.mark e.row.content e.line (omega (arith, last)) in
-      let at : slice_get (row_lines e.row ++ (lines_of_rows e.under ++ lines_of_rows e.back)) e.line ≡ Some l.0 = get_front (row_lines e.row) (lines_of_rows e.under ++ lines_of_rows e.back) e.line l.0 l.1 in
-      let plain : e.line + 0 ≡ e.line = omega arith in
-      let same : l.0 ≡ f.line = same_Some _ _ (sym at ∙ (ap (slice_get (row_lines e.row ++ (lines_of_rows e.under ++ lines_of_rows e.back))) (sym plain) ∙ lines_there 0)) in
-      ap (λ (x : Line). x.head) (sym same) ∙ ((l.2.mark last).1 ∙ no_head (head_of e.row.content) (sym row_agrees.head ∙ none))
-    where
-      no_head : (o : Option Node) → is_none o ≡ true → o ≡ None
-      no_head None h = refl
-      no_head (Some m) h = absurd (false≢true h)
+  headless_mark last h1 = grind (arith, common_steps, own_line, row_agrees, false≢true)
 
   pub headless_dash : e.line < length e.row.dashes → f.line.head ≡ None
-  headless_dash less =
-      let l = line_in (head_comment e.row.gap) e.row.column e.row.dashes e.row.mark e.row.content e.line (omega (arith, less)) in
-      let at : slice_get (row_lines e.row ++ (lines_of_rows e.under ++ lines_of_rows e.back)) e.line ≡ Some l.0 = get_front (row_lines e.row) (lines_of_rows e.under ++ lines_of_rows e.back) e.line l.0 l.1 in
-      let plain : e.line + 0 ≡ e.line = omega arith in
-      let same : l.0 ≡ f.line = same_Some _ _ (sym at ∙ (ap (slice_get (row_lines e.row ++ (lines_of_rows e.under ++ lines_of_rows e.back))) (sym plain) ∙ lines_there 0)) in
-      ap (λ (x : Line). x.head) (sym same) ∙ (l.2.dash less).1
+  headless_dash less = ((own_line (omega (arith, less))).dash less).1
 
   -- the first line under it
   begins : (x : Line) (column : ℕ) → slice_get (row_lines e.row ++ (lines_of_rows e.under ++ lines_of_rows e.back)) (e.line + 1) ≡ Some x →
@@ -113,18 +110,13 @@ module _ (n : ℕ) (s : Step) (ss : List Step) (c : Cut) (e : RowsOfEntry) (ther
 
       entry_mark : (m : rows.RowMark) → is_entry m ≡ true → IsEntry (line_mark m)
       entry_mark rows.Bare h = absurd (false≢true h)
-      entry_mark rows.Dash h = tt
-      entry_mark (rows.Key key colon) h = tt
+      entry_mark _ h = tt
 
       row_is : (l : Limit) × IsRow l e.row (rows_text (e.under ++ e.back) (p.end ++ after_document n c))
       row_is = row_there unlimited e.front e.row (e.under ++ e.back) p.end (after_document n c) (subst (λ rs. AreRows unlimited rs p.end (after_document n c)) there.rows_are are)
 
       entry : (l : Line) → IsLineOf e.row.column e.row.dashes e.row.mark e.row.content (suc e.line) l → IsEntry l.mark
-      entry l is = go (cases_lt (suc e.line) (length e.row.dashes))
-        where
-          go : (suc e.line < length e.row.dashes) ⊎ (length e.row.dashes ≤ suc e.line) → IsEntry l.mark
-          go (inl more) = subst IsEntry (sym (is.dash more).0) tt
-          go (inr past) = subst IsEntry (sym (is.mark (omega (arith, past, less))).0) (entry_mark e.row.mark (marked e.row.dashes e.row.mark (omega (arith, less)) row_is.1.dashes))
+      entry l is = grind (arith, common_steps, cases_lt, entry_mark, marked, row_is, is.dash, is.mark)
 
   -- its end
   abbrev pub end_at : ℕ → Bool → CollectionEnd

@@ -43,8 +43,7 @@ columns_are column (n ∷ ns) = search (rules, arith, length-replicate {A = ℕ}
 
 pub no_bare : (m : outlines.LineMark) → has_no_mark m ≡ false → IsEntry m
 no_bare outlines.Bare e = absurd (false≢true (sym e))
-no_bare (outlines.Key k) e = tt
-no_bare outlines.Dash e = tt
+no_bare _ e = tt
 
 -- what a text of rows ends in, by the last of them
 pub text_broken : (front back : List Row) (gap rest : List ℕ) (h : EndIn front) → AreRows unlimited (front ++ back) gap rest → (a t : List ℕ) →

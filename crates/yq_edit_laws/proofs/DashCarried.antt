@@ -24,7 +24,7 @@ use Rattle.yq_edit_rules.{proofs.BreakLaws.last_is, proofs.BrokenTails.uncomment
 use Rattle.yq_edit_rules.{proofs.CommentReadLaws.break_is, proofs.EditsFitLaws.FitsReplace, proofs.HeldCuts.break_is_piece}
 use Rattle.yq_edit_rules.{proofs.LayoutLaws.mapping_least, proofs.OneLines.break_line, proofs.SegmentLaws.segments_readable}
 use Rattle.yq_edit_rules.proofs.ValueTexts.{IsWrittenFor, value_for}
-use Rattle.yq_semantics.specs.Operations.{Operation, replace}
+use Rattle.yq_semantics.specs.Operations.{replace}
 use Rattle.yq_edit_laws.proofs.DashNodes.{dash_after, dash_last_ends, dash_node, dash_pieces, dash_spelled, dash_unnamed, upto}
 use Rattle.yq_edit_laws.proofs.DashValueLaws.{after_first, after_rows, after_spelled, takes_after}
 use Rattle.yq_edit_laws.{proofs.HeldLines.{block_piece, break_tail, lines_piece}, proofs.MarkKinds.filled_is}
@@ -94,14 +94,11 @@ module _ (n : ℕ) (s : Step) (ss : List Step) (c : Cut) (e : RowsOfEntry) (ther
   holding t more tail none = record { holds = refl; is_located = tail; apart = tail_apart t more tail; comment = none ∙ sym none_uncommented; anchor = sym (dash_unnamed n s ss c e there less) }
 
   module _ (v : Node) (tree : IsValueTree v) (f : FitsReplace n (s ∷ ss) v c there.part) where
-    abbrev op : Operation
-    op = replace n (s ∷ ss) v
-
     may : MayReplace v (content_under there.found.line there.found.under) (root_of there.part) (length (s ∷ ss))
     may = subst (λ q. MayReplace v q (root_of there.part) (length (s ∷ ss))) (same_Some _ _ (sym f.there ∙ (path_node s ss (part_outline there.part) ∙ ap FoundNode there.is))) f.may
 
     abbrev CarriedWith : List ℕ → Type 0
-    CarriedWith t = length (new_text (segments t)) ≤ text_limit → CarriedOut op c (segments t)
+    CarriedWith t = length (new_text (segments t)) ≤ text_limit → CarriedOut (replace n (s ∷ ss) v) c (segments t)
 
     -- a text for which the document is known reads, where it may be read
     carried_as : (new : List Row) → TakesNode n s ss c h v new → (t : List ℕ) → rows_text new z ≡ row_front mark ++ (t ++ (last ++ z)) → InFirst (row_front mark) (rows_items new []) → IsPiece t → CarriedWith t
@@ -181,7 +178,7 @@ module _ (n : ℕ) (s : Step) (ss : List Step) (c : Cut) (e : RowsOfEntry) (ther
             length (new_text (compact_put (break_text l.br) p
             (cond b (cond d (compact_text (block_value l (item_column (compact_mark e).column) v)) (lines (lines_in l (item_column (compact_mark e).column) v)))
             (inline (value_text InBlock [] v))))) ≤ text_limit →
-            CarriedOut op c (compact_put (break_text l.br) p
+            CarriedOut (replace n (s ∷ ss) v) c (compact_put (break_text l.br) p
             (cond b (cond d (compact_text (block_value l (item_column (compact_mark e).column) v))
             (lines (lines_in l (item_column (compact_mark e).column) v))) (inline (value_text InBlock [] v))))
         go true true full = after_carried full

@@ -20,7 +20,7 @@ use Rattle.yq_edit_laws.proofs.NodeRowLaws.{NodeRows, line_is, parts, rest, node
 use Rattle.yq_row_table.specs.Rows as rows
 
 -- dashes from one on
-dashes_from : (k : ℕ) (ns : List ℕ) → k < length ns → (n : ℕ) × (ms : List ℕ) × (drop k ns ≡ n ∷ ms)
+pub dashes_from : (k : ℕ) (ns : List ℕ) → k < length ns → (n : ℕ) × (ms : List ℕ) × (drop k ns ≡ n ∷ ms)
 dashes_from k [] h = absurd (omega (arith, h))
 dashes_from zero (n ∷ ns) h = (n, ns, refl)
 dashes_from (suc k) (n ∷ ns) h = dashes_from k ns (omega (arith, h))

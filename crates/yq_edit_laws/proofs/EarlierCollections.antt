@@ -1,6 +1,6 @@
 -- A collection that ends before one from which an item or entry is taken out is there after that, before another text.
-use Rattle.std.proofs.Common.{rules, ◌≡◌, ◌⊎◌, inl, inr, ℕ, ◌<◌, ◌≤◌, Bool, true, false, cond, List, [], ◌∷◌, ◌++◌, length, Some, None}
-use Rattle.std.proofs.Common.{option_map, refl, sym, ap, ◌∙◌, subst, arith, append_assoc, append-nil, length-append}
+use Rattle.std.proofs.Common.{◌≡◌, ◌⊎◌, inl, inr, ℕ, ◌<◌, ◌≤◌, Bool, true, false, cond, List, [], ◌∷◌, ◌++◌, length, Some, None, option_map}
+use Rattle.std.proofs.Common.{refl, sym, ap, ◌∙◌, subst, arith, append_assoc, append-nil, length-append}
 use Rattle.std.{proofs.lemmas.List.append_cancel_right, proofs.lemmas.Option.{none-some, same_Some}, specs.Option.option_or}
 use Rattle.yq_core.{specs.Paths.{Step, is_here, further}, specs.Alike.fresh}
 use Rattle.yq_core.{specs.Collections.{CollPieces, coll_along, coll_in, collection_put}, specs.Entries.{EntryPieces, item_at}}
@@ -11,8 +11,8 @@ use Rattle.yq_flow_edits.specs.Removals.{before_next, comma_left, edit_from_item
 use Rattle.yq_flow_edits.specs.Removals.{removing, removing_from, with_gap}
 use Rattle.yq_flow_edits.proofs.RemoveTexts.{LastBytes, comma_new_bytes, comma_old_bytes, either, gone_bytes, option_some, removed_text}
 use Rattle.yq_flow_edits.proofs.ItemSwaps.{item_cut}
-use Rattle.yq_edit_laws.{proofs.EarlierParts.{ComesBefore, PartsBefore, earlier_coll, rest_within}, proofs.LaterEnds.{last_longer, rest_in}}
-use Rattle.yq_edit_laws.proofs.LaterParts.{content_within, node_in_items}
+use Rattle.yq_edit_laws.proofs.EarlierParts.{ComesBefore, PartsBefore, Turns, earlier_coll, front_turn, item_before, rest_within, turn_as}
+use Rattle.yq_edit_laws.{proofs.LaterEnds.{last_longer, rest_in}, proofs.LaterParts.{content_within, node_in_items}}
 
 -- ---- before an item or entry that is taken out
 
@@ -43,27 +43,24 @@ next_outs k rest g key n sep (item key2 n2 sep2 is) e at =
 last_outs : (k : ℕ) (rest g : List ℕ) (key : Key) (n : FlowNode) (sep : Sep) (key2 : Key) (n2 : FlowNode) (sep2 left : Sep) (old lead after : List ℕ) → LastBytes k rest sep key2 n2 sep2 left old lead after → length rest < length after →
     Outs k rest (item key n sep (item key2 n2 sep2 none)) (record { gap = g; items = item key n left none; old = old; lead = lead; written = []; after = after })
 unfolding flow_items_text
-last_outs k rest g key n sep key2 n2 sep2 left old lead after h longer = record { longer = longer; before = λ r u there long. go r u (is_here r (key_label (key_content key))) refl there long }
-  where
-    go : (r : Step) (u : EntryPieces) (b : Bool) → is_here r (key_label (key_content key)) ≡ b →
-        cond b (Some (record { key = key; node = n; rest = sep_text sep (key_text key2 (node_text n2 (sep_text sep2 (k ∷ rest)))) })) (item_at k (further r) (item key2 n2 sep2 none) rest) ≡ Some u →
-        length (old ++ after) < length (node_text u.node u.rest) → ComesBefore (old ++ after) ((lead ++ []) ++ after) u (item_at k r (item key n left none) rest)
-    go r u true is there long = search (rules, same_Some, append-nil)
-    go r u false is there long =
-        absurd (omega (arith, long, node_in_items k (further r) (item key2 n2 sep2 none) rest u there, sep_longer sep (key_text key2 (node_text n2 (sep_text sep2 (k ∷ rest)))), ap length h.was))
+last_outs k rest g key n sep key2 n2 sep2 left old lead after h longer = record {
+  longer = longer;
+  before = λ r u there long. item_before key n (is_here r (key_label (key_content key))) there
+      ([], sym h.was, sym (h.is) ∙ ap (λ (l : List ℕ). l ++ after) (sym (append-nil lead)))
+      (λ there. absurd (omega (
+        arith,
+        long,
+        node_in_items k (further r) (item key2 n2 sep2 none) rest u there,
+        sep_longer sep (key_text key2 (node_text n2 (sep_text sep2 (k ∷ rest)))),
+        ap length h.was,
+      )));
+}
 
--- what comes between an item or entry and the gap before the next one
-abbrev before_gap : Sep → List ℕ
-before_gap (last b) = b
-before_gap (comma b g) = b ++ (44 ∷ [])
-
-sep_own : (sep : Sep) (x : List ℕ) → sep_text sep x ≡ before_gap sep ++ (gap_of sep ++ x)
-sep_own (last b) x = refl
-sep_own (comma b g) x = sym (append_assoc b (44 ∷ []) (g ++ x))
-
-sep_with : (h : List ℕ) (sep : Sep) (x : List ℕ) → sep_text (with_gap h sep) x ≡ before_gap sep ++ (h ++ x)
-sep_with h (last b) x = append_assoc b h x
-sep_with h (comma b g) x = sym (append_assoc b (44 ∷ []) (h ++ x))
+-- another gap after the comma of an item
+gap_turn : (h : List ℕ) (sep : Sep) (old new : List ℕ) {t t2 : List ℕ} → Turns (gap_of sep ++ old) (h ++ new) t t2 →
+    Turns (sep_text sep old) (sep_text (with_gap h sep) new) t t2
+gap_turn h (last b) old new w = turn_as refl (append_assoc b h new) (front_turn b w)
+gap_turn h (comma b g) old new w = front_turn b (front_turn (44 ∷ []) w)
 
 ended_outs : (k : ℕ) (rest : List ℕ) (s : Step) (g : List ℕ) (key : Key) (n : FlowNode) (sep : Sep) (is : Items) (e : FlowEdit) → last_out k rest s g key n sep is ≡ Some e → Outs k rest (item key n sep is) e
 ended_outs k rest s g key n sep none e at = absurd (none-some _ at)
@@ -85,28 +82,14 @@ ended_outs k rest s g key n sep (item key2 n2 sep2 none) e at = go (is_here s (k
 -- one after the first one
 later_outs : (k : ℕ) (rest : List ℕ) (s : Step) (g : List ℕ) (key : Key) (n : FlowNode) (sep : Sep) (is : Items) (e : FlowEdit) →
     removing_from k rest s (gap_of sep) is ≡ Some e → Outs k rest is e → Outs k rest (item key n sep is) (edit_from_item g key n sep e)
-later_outs k rest s g key n sep is e at h = record { longer = h.longer; before = λ r u there long. go r u (is_here r (key_label (key_content key))) refl there long }
-  where
-    others : Sep
-    others = with_gap e.gap sep
-
-    own : List ℕ → EntryPieces
-    own l = record { key = key; node = n; rest = l }
-
-    go : (r : Step) (u : EntryPieces) (b : Bool) → is_here r (key_label (key_content key)) ≡ b →
-        cond b (Some (own (sep_text sep (flow_items_text k is rest)))) (item_at k (further r) is rest) ≡ Some u →
-        length (gone_text e) < length (node_text u.node u.rest) →
-        ComesBefore (gone_text e) (left_text e) u (item_at k r (item key n others e.items) rest)
-    go r u true is_r there long =
-        let b = (removed_text k rest s (gap_of sep) is e at).text in
-        let f : List ℕ = before_gap sep in (
-          f ++ b.before,
-          ap (λ (z : EntryPieces). z.rest) (sym (same_Some _ _ there)) ∙ (sep_own sep (flow_items_text k is rest) ∙ (ap (λ (l : List ℕ). f ++ l) b.was ∙ sym (append_assoc f b.before (gone_text e)))),
-          ap (λ (b : Bool). cond b (Some (own (sep_text others (flow_items_text k e.items rest)))) (item_at k (further r) e.items rest)) is_r
-              ∙ (ap (λ (l : List ℕ). Some (own l)) (sep_with e.gap sep (flow_items_text k e.items rest) ∙ (ap (λ (l : List ℕ). f ++ l) b.is ∙ sym (append_assoc f b.before (left_text e))))
-              ∙ ap (λ (z : EntryPieces). Some (record z { rest = (f ++ b.before) ++ left_text e })) (same_Some _ _ there)),
-        )
-    go r u false is_r there long = search (rules, h.before (further r) u there long)
+later_outs k rest s g key n sep is e at h =
+    let b = (removed_text k rest s (gap_of sep) is e at).text in
+    record {
+      longer = h.longer;
+      before =
+          λ r u there long. item_before key n (is_here r (key_label (key_content key))) there (gap_turn e.gap sep _ _ (b.before, b.was, b.is))
+          (λ there. h.before (further r) u there long);
+    }
 
 outs : (k : ℕ) (rest : List ℕ) (s : Step) (g : List ℕ) (is : Items) (e : FlowEdit) → removing_from k rest s g is ≡ Some e → Outs k rest is e
 outs k rest s g none e at = absurd (none-some _ at)

@@ -1,12 +1,14 @@
 -- A part of a node that ends before a place at which one of its collections changes is there after that, before another text; and so is a collection that does.
+use Rattle.std.proofs.lemmas.Grind.{common_steps}
 use Rattle.std.proofs.Common.{rules, ◌≡◌, ◌⊎◌, inl, inr, ℕ, ◌<◌, ◌≤◌, Bool, true, false, cond, List, [], ◌∷◌, ◌++◌, length, Option, Some}
 use Rattle.std.proofs.Common.{None, drop, option_map, option_and_then, refl, sym, ap, ◌∙◌, subst, arith, append_assoc, length-append}
 use Rattle.std.{proofs.Math.Seq.drop-append_seam, proofs.lemmas.List.drop-append-le, proofs.lemmas.Option.{none-some, same_Some}}
+use Rattle.yq_edit_rules.proofs.FlowLocationLaws.{coll_entry}
 use Rattle.yq_core.specs.Paths.{Step, is_here, further}
 use Rattle.yq_core.specs.Collections.{CollAt, CollPieces, IsCollAt, change_item, coll_along, coll_in, collection_put, put_coll}
 use Rattle.yq_core.{specs.Collections.within_items, specs.Entries.{EntryPieces, entry_pieces_at, path_inside, item_at}}
-use Rattle.yq_core.specs.Nodes.{Key, FlowNode, empty, alias, scalar, coll, anchored, Items, none, item, flow_items_text, key_text}
-use Rattle.yq_core.{specs.Nodes.{node_text, opening_bracket, sep_text, without_anchor}, specs.Trees.key_content, specs.Tree.key_label}
+use Rattle.yq_core.specs.Nodes.{Key, FlowNode, coll, anchored, Items, none, item, Sep, last, comma, flow_items_text, key_text, node_text}
+use Rattle.yq_core.{specs.Nodes.{opening_bracket, sep_text, without_anchor}, specs.Trees.key_content, specs.Tree.key_label}
 use Rattle.yq_core.{proofs.NodeAgain.{node_longer, sep_longer}, proofs.NodesWrittenLaws.{key_append, sep_append}, proofs.PathLaws.then_some}
 use Rattle.yq_flow_edits.specs.FlowEdits.{FlowEdit, IsFlowEdited, add_item, after_appended, after_last, put_content, put_item}
 use Rattle.yq_flow_edits.{proofs.EditLaws.around_is, proofs.ItemSwaps.{item_cut, text_cut}}
@@ -36,25 +38,38 @@ ComesBefore t t2 u o = (m : List ℕ) × (u.rest ≡ m ++ t) × (o ≡ Some (rec
 abbrev pub Turns : List ℕ → List ℕ → List ℕ → List ℕ → Type 0
 Turns old new t t2 = (m : List ℕ) × (old ≡ m ++ t) × (new ≡ m ++ t2)
 
+-- the same text before both
+pub front_turn : (f : List ℕ) {old new t t2 : List ℕ} → Turns old new t t2 → Turns (f ++ old) (f ++ new) t t2
+front_turn f {t = t} {t2 = t2} h =
+    (f ++ h.0, ap (λ (l : List ℕ). f ++ l) h.1 ∙ sym (append_assoc f h.0 t), ap (λ (l : List ℕ). f ++ l) h.2 ∙ sym (append_assoc f h.0 t2))
+
+-- texts that are those
+pub turn_as : {old new old2 new2 t t2 : List ℕ} → old2 ≡ old → new2 ≡ new → Turns old new t t2 → Turns old2 new2 t t2
+turn_as a b h = (h.0, a ∙ h.1, b ∙ h.2)
+
+sep_turn : (sep : Sep) {old new t t2 : List ℕ} → Turns old new t t2 → Turns (sep_text sep old) (sep_text sep new) t t2
+sep_turn (last b) h = front_turn b h
+sep_turn (comma b g) h = front_turn b (front_turn (44 ∷ g) h)
+
+-- An item or entry after which one text comes and then another, or one after it.
+pub item_before : (key : Key) (n : FlowNode) {old new : List ℕ} {u : EntryPieces} {t t2 : List ℕ} {o o2 : Option EntryPieces} (b : Bool) →
+    cond b (Some (record { key = key; node = n; rest = old })) o ≡ Some u →
+    Turns old new t t2 → (o ≡ Some u → ComesBefore t t2 u o2) → ComesBefore t t2 u (cond b (Some (record { key = key; node = n; rest = new })) o2)
+item_before key n b there w later = grind (arith, common_steps, same_Some)
+
 items_turn : (k : ℕ) (s : Step) (f : FlowNode → FlowNode) (is : Items) (rest : List ℕ) (y : EntryPieces) (t t2 : List ℕ) → item_at k s is rest ≡ Some y → Turns (node_text y.node y.rest) (node_text (f y.node) y.rest) t t2 →
     Turns (flow_items_text k is rest) (flow_items_text k (change_item s f is) rest) t t2
 unfolding flow_items_text
 items_turn k s f none rest y t t2 here h = absurd (none-some _ here)
 items_turn k s f (item key n sep is) rest y t t2 here h = go (is_here s (key_label (key_content key))) here (λ here. items_turn k (further s) f is rest y t t2 here h)
   where
-    own : EntryPieces
-    own = record { key = key; node = n; rest = sep_text sep (flow_items_text k is rest) }
-
-    go : (b : Bool) → cond b (Some own) (item_at k (further s) is rest) ≡ Some y → (item_at k (further s) is rest ≡ Some y → Turns (flow_items_text k is rest) (flow_items_text k (change_item (further s) f is) rest) t t2) →
+    go : (b : Bool) → cond b (Some (record { key = key; node = n; rest = sep_text sep (flow_items_text k is rest) })) (item_at k (further s) is rest) ≡ Some y →
+        (item_at k (further s) is rest ≡ Some y → Turns (flow_items_text k is rest) (flow_items_text k (change_item (further s) f is) rest) t t2) →
         Turns (key_text key (node_text n (sep_text sep (flow_items_text k is rest)))) (flow_items_text k (cond b (item key (f n) sep is) (item key n sep (change_item (further s) f is))) rest) t t2
     go true here again =
         let w = subst (λ (z : EntryPieces). Turns (node_text z.node z.rest) (node_text (f z.node) z.rest) t t2) (sym (same_Some _ _ here)) h in
         (key_text key w.0, ap (key_text key) w.1 ∙ key_append key w.0 t, ap (key_text key) w.2 ∙ key_append key w.0 t2)
-    go false here again =
-        let w = again here in
-        let front : List ℕ = key_text key (node_text n (sep_text sep [])) in
-        let one : (tail l : List ℕ) → tail ≡ w.0 ++ l → key_text key (node_text n (sep_text sep tail)) ≡ (front ++ w.0) ++ l = λ tail l is. item_cut key n sep tail ∙ (ap (λ (r : List ℕ). front ++ r) is ∙ sym (append_assoc front w.0 l)) in
-        (front ++ w.0, one (flow_items_text k is rest) t w.1, one (flow_items_text k (change_item (further s) f is) rest) t2 w.2)
+    go false here again = turn_as (item_cut key n sep _) (item_cut key n sep _) (front_turn (key_text key (node_text n (sep_text sep []))) (again here))
 
 front_item : (k : ℕ) (s r : Step) (f : FlowNode → FlowNode) (is : Items) (rest : List ℕ) (y u : EntryPieces) (t t2 : List ℕ) →
     item_at k s is rest ≡ Some y → item_at k r is rest ≡ Some u → Turns (node_text y.node y.rest) (node_text (f y.node) y.rest) t t2 →
@@ -114,14 +129,6 @@ part_in (r ∷ q) v z e =
     let u = then_some (path_inside r v.node v.rest) e in
     omega (arith, part_in q u.0 z u.2, content_within u.0.node u.0.rest, (inside_within r v.node v.rest u.0 u.1).0)
 
--- the node of a collection
-coll_part : (q : List Step) (x : EntryPieces) (z : CollPieces) → coll_along q x.node x.rest ≡ Some z → (u : EntryPieces) × (entry_pieces_at q x ≡ Some u) × (coll_in u.node u.rest ≡ Some z)
-coll_part [] x z e = (x, refl, e)
-coll_part (r ∷ q) x z e =
-    let v = then_some (path_inside r x.node x.rest) e in
-    let u = coll_part q v.0 z v.2 in
-    (u.0, ap (option_and_then (entry_pieces_at q)) v.1 ∙ u.1, u.2)
-
 part_coll : (q : List Step) (x u : EntryPieces) → entry_pieces_at q x ≡ Some u → coll_along q x.node x.rest ≡ coll_in u.node u.rest
 part_coll [] x u e = ap (λ (v : EntryPieces). coll_in v.node v.rest) (same_Some _ _ e)
 part_coll (r ∷ q) x u e =
@@ -129,36 +136,18 @@ part_coll (r ∷ q) x u e =
     ap (option_and_then (λ (y : EntryPieces). coll_along q y.node y.rest)) v.1 ∙ part_coll q v.0 u v.2
 
 in_rest : (node : FlowNode) (rest rest2 : List ℕ) (z : CollPieces) → coll_in node rest ≡ Some z → coll_in node rest2 ≡ Some (record z { rest = rest2 })
-in_rest empty rest rest2 z e = absurd (none-some _ e)
-in_rest (alias n) rest rest2 z e = absurd (none-some _ e)
-in_rest (scalar p) rest rest2 z e = absurd (none-some _ e)
 in_rest (coll k gap is) rest rest2 z e = ap (λ (v : CollPieces). Some (record v { rest = rest2 })) (same_Some _ _ e)
 in_rest (anchored n gap node) rest rest2 z e = in_rest node rest rest2 z e
+in_rest _ rest rest2 z e = absurd (none-some _ e)
 
 -- ---- in whichever collections
-
--- what comes after an anchor
-anchor_turn : (n gap : List ℕ) (old new t t2 : List ℕ) → Turns old new t t2 → Turns (38 ∷ (n ++ (gap ++ old))) (38 ∷ (n ++ (gap ++ new))) t t2
-anchor_turn n gap old new t t2 h = (38 ∷ (n ++ (gap ++ h.0)), on old t h.1, on new t2 h.2)
-  where
-    on : (text l : List ℕ) → text ≡ h.0 ++ l → 38 ∷ (n ++ (gap ++ text)) ≡ (38 ∷ (n ++ (gap ++ h.0))) ++ l
-    on text l is = ap (λ (r : List ℕ). 38 ∷ (n ++ (gap ++ r))) is ∙ ap (λ (r : List ℕ). 38 ∷ r) (ap (λ (r : List ℕ). n ++ r) (sym (append_assoc gap h.0 l)) ∙ sym (append_assoc n (gap ++ h.0) l))
-
--- what comes after a bracket
-bracket_turn : (b : ℕ) (gap old new t t2 : List ℕ) → Turns old new t t2 → Turns (b ∷ (gap ++ old)) (b ∷ (gap ++ new)) t t2
-bracket_turn b gap old new t t2 h = (b ∷ (gap ++ h.0), on old t h.1, on new t2 h.2)
-  where
-    on : (text l : List ℕ) → text ≡ h.0 ++ l → b ∷ (gap ++ text) ≡ (b ∷ (gap ++ h.0)) ++ l
-    on text l is = ap (λ (r : List ℕ). b ∷ (gap ++ r)) is ∙ ap (λ (r : List ℕ). b ∷ r) (sym (append_assoc gap h.0 l))
 
 node_turn : (s : Step) (f : FlowNode → FlowNode) (node : FlowNode) (rest : List ℕ) (y : EntryPieces) (t t2 : List ℕ) → path_inside s node rest ≡ Some y → Turns (node_text y.node y.rest) (node_text (f y.node) y.rest) t t2 →
     Turns (node_text node rest) (node_text (within_items (change_item s f) node) rest) t t2
 unfolding node_text
-node_turn s f empty rest y t t2 here h = absurd (none-some _ here)
-node_turn s f (alias n) rest y t t2 here h = absurd (none-some _ here)
-node_turn s f (scalar p) rest y t t2 here h = absurd (none-some _ here)
-node_turn s f (coll k gap is) rest y t t2 here h = bracket_turn (opening_bracket k) gap (flow_items_text k is rest) (flow_items_text k (change_item s f is) rest) t t2 (items_turn k s f is rest y t t2 here h)
-node_turn s f (anchored n gap node) rest y t t2 here h = anchor_turn n gap (node_text node rest) (node_text (within_items (change_item s f) node) rest) t t2 (node_turn s f node rest y t t2 here h)
+node_turn s f (coll k gap is) rest y t t2 here h = front_turn (opening_bracket k ∷ []) (front_turn gap (items_turn k s f is rest y t t2 here h))
+node_turn s f (anchored n gap node) rest y t t2 here h = front_turn (38 ∷ n) (front_turn gap (node_turn s f node rest y t t2 here h))
+node_turn s f _ rest y t t2 here h = absurd (none-some _ here)
 
 front_node : (s r : Step) (f : FlowNode → FlowNode) (node : FlowNode) (rest : List ℕ) (y u : EntryPieces) (t t2 : List ℕ) →
     path_inside s node rest ≡ Some y → path_inside r node rest ≡ Some u → Turns (node_text y.node y.rest) (node_text (f y.node) y.rest) t t2 →
@@ -185,16 +174,12 @@ module _ (w : CollPieces) (gap : List ℕ) (is : Items) (t t2 : List ℕ) (short
     (turns : Turns (w.gap ++ flow_items_text w.close w.items w.rest) (gap ++ flow_items_text w.close is w.rest) t t2) (before : PartsBefore t t2 w is) where
   own_turn : (node : FlowNode) (rest : List ℕ) → coll_in node rest ≡ Some w → Turns (node_text node rest) (node_text (put_coll gap is node) rest) t t2
   unfolding node_text
-  own_turn empty rest e = absurd (none-some _ e)
-  own_turn (alias n) rest e = absurd (none-some _ e)
-  own_turn (scalar b) rest e = absurd (none-some _ e)
   own_turn (coll k g items) rest e =
-      let same : record { close = k; gap = g; items = items; rest = rest } ≡ w = same_Some _ _ e in (
-        opening_bracket k ∷ turns.0,
-        ap (λ (v : CollPieces). opening_bracket k ∷ (v.gap ++ flow_items_text v.close v.items v.rest)) same ∙ ap (λ (l : List ℕ). opening_bracket k ∷ l) turns.1,
-        ap (λ (v : CollPieces). opening_bracket k ∷ (gap ++ flow_items_text v.close is v.rest)) same ∙ ap (λ (l : List ℕ). opening_bracket k ∷ l) turns.2,
-      )
-  own_turn (anchored n g node) rest e = anchor_turn n g (node_text node rest) (node_text (put_coll gap is node) rest) t t2 (own_turn node rest e)
+      front_turn (opening_bracket k ∷ [])
+      (subst (λ (v : CollPieces). Turns (v.gap ++ flow_items_text v.close v.items v.rest) (gap ++ flow_items_text v.close is v.rest) t t2)
+      (sym (same_Some _ _ e)) turns)
+  own_turn (anchored n g node) rest e = front_turn (38 ∷ n) (front_turn g (own_turn node rest e))
+  own_turn _ rest e = absurd (none-some _ e)
 
   turned : (p : List Step) (x : EntryPieces) → coll_along p x.node x.rest ≡ Some w → Turns (node_text x.node x.rest) (node_text (collection_put p gap is x.node) x.rest) t t2
   turned [] x at = own_turn x.node x.rest at
@@ -248,7 +233,7 @@ module _ (w : CollPieces) (gap : List ℕ) (is : Items) (t t2 : List ℕ) (short
       ((u : EntryPieces) (o : List Step) → coll_in u.node u.rest ≡ Some z → coll_along o u.node u.rest ≡ Some w → ⊥) → length t < length (after_appended z) →
       (m : List ℕ) × (z.rest ≡ m ++ t) × (coll_along q (collection_put p gap is x.node) x.rest ≡ Some (record z { rest = m ++ t2 }))
   earlier_coll p q x z at there apart long =
-      let u = coll_part q x z there in
+      let u = coll_entry q x z there in
       let b = earlier_part p q x u.0 at u.1 (λ o e. apart u.0 o u.2 e) (omega (arith, long, own_end u.0.node u.0.rest z u.2)) in
       (b.0, rest_in u.0.node u.0.rest z u.2 ∙ b.1, part_coll q (with_node (collection_put p gap is x.node) x) (record u.0 { rest = b.0 ++ t2 }) b.2 ∙ in_rest u.0.node u.0.rest (b.0 ++ t2) z u.2)
 
@@ -281,37 +266,28 @@ pub put_before : (k : ℕ) (s r : Step) (m : FlowNode) (is : Items) (rest : List
 unfolding flow_items_text
 put_before k s r m none rest y u t t2 here there turns size long = absurd (none-some _ here)
 put_before k s r m (item key n sep is) rest y u t t2 here there turns size long =
-    go (is_here s (key_label (key_content key))) (is_here r (key_label (key_content key))) refl here there turns (λ here there turns. put_before k (further s) (further r) m is rest y u t t2 here there turns size long)
+    go (is_here s (key_label (key_content key))) here turns (λ here w there. put_before k (further s) (further r) m is rest y u t t2 here there w size long)
   where
-    own : List ℕ → EntryPieces
-    own l = record { key = key; node = n; rest = l }
-
-    old : List ℕ
-    old = flow_items_text k is rest
-
-    new : List ℕ
-    new = flow_items_text k (put_item (further s) m is) rest
+    own : Option EntryPieces
+    own = Some (record { key = key; node = n; rest = sep_text sep (flow_items_text k is rest) })
 
     changed : Bool → Items
     changed a = cond a (item (put_content m key n).0 (put_content m key n).1 sep is) (item key n sep (put_item (further s) m is))
 
-    go : (a b : Bool) → is_here r (key_label (key_content key)) ≡ b → cond a (Some (own (sep_text sep old))) (item_at k (further s) is rest) ≡ Some y → cond b (Some (own (sep_text sep old))) (item_at k (further r) is rest) ≡ Some u →
-        Turns (key_text key (node_text n (sep_text sep old))) (flow_items_text k (changed a) rest) t t2 →
-        (item_at k (further s) is rest ≡ Some y → item_at k (further r) is rest ≡ Some u → Turns old new t t2 → ComesBefore t t2 u (item_at k (further r) (put_item (further s) m is) rest)) → ComesBefore t t2 u (item_at k r (changed a) rest)
-    go true true is_r here there turns again = search (rules, arith, same_Some)
-    go true false is_r here there turns again = search (rules, arith, content_within, node_in_items, sep_longer, same_Some, node_longer)
-    go false true is_r here there turns again =
-        let w = turn_tail (key_text key (node_text n [])) (sep_text sep old) (sep_text sep new) t t2 (turns.0, sym (text_cut key n (sep_text sep old)) ∙ turns.1, sym (text_cut key n (sep_text sep new)) ∙ turns.2)
-        (omega (arith, size, content_within y.node y.rest, node_in_items k (further s) is rest y here, sep_longer sep old)) in (
-          w.0,
-          ap (λ (x : EntryPieces). x.rest) (sym (same_Some _ _ there)) ∙ w.1,
-          ap (λ (b : Bool). cond b (Some (own (sep_text sep new))) (item_at k (further r) (put_item (further s) m is) rest)) is_r
-              ∙ (ap (λ (l : List ℕ). Some (own l)) w.2 ∙ ap (λ (x : EntryPieces). Some (record x { rest = w.0 ++ t2 })) (same_Some _ _ there)),
-        )
-    go false false is_r here there turns again =
-        let w = again here there (turn_tail (key_text key (node_text n (sep_text sep []))) old new t t2 (turns.0, sym (item_cut key n sep old) ∙ turns.1, sym (item_cut key n sep new) ∙ turns.2)
-        (omega (arith, size, content_within y.node y.rest, node_in_items k (further s) is rest y here))) in
-        (w.0, w.1, ap (λ (b : Bool). cond b (Some (own (sep_text sep new))) (item_at k (further r) (put_item (further s) m is) rest)) is_r ∙ w.2)
+    first : (b : Bool) → own ≡ Some y → cond b own (item_at k (further r) is rest) ≡ Some u → ⊥
+    first true here there = search (rules, arith, same_Some)
+    first false here there = search (rules, arith, content_within, node_in_items, sep_longer, same_Some, node_longer)
+
+    go : (a : Bool) → cond a own (item_at k (further s) is rest) ≡ Some y →
+        Turns (key_text key (node_text n (sep_text sep (flow_items_text k is rest)))) (flow_items_text k (changed a) rest) t t2 →
+        (item_at k (further s) is rest ≡ Some y → Turns (flow_items_text k is rest) (flow_items_text k (put_item (further s) m is) rest) t t2 →
+        item_at k (further r) is rest ≡ Some u → ComesBefore t t2 u (item_at k (further r) (put_item (further s) m is) rest)) →
+        ComesBefore t t2 u (item_at k r (changed a) rest)
+    go true here turns again = absurd (first (is_here r (key_label (key_content key))) here there)
+    go false here turns again =
+        let w = turn_tail (key_text key (node_text n (sep_text sep []))) _ _ t t2 (turn_as (sym (item_cut key n sep _)) (sym (item_cut key n sep _)) turns)
+        (omega (arith, size, content_within y.node y.rest, node_in_items k (further s) is rest y here)) in
+        item_before key n (is_here r (key_label (key_content key))) there (sep_turn sep w) (again here w)
 
 -- ---- before one more item or entry
 
@@ -320,54 +296,13 @@ pub more_before : (k : ℕ) (r : Step) (key : Key) (m : FlowNode) (gap : List �
     length t ≡ length (after_last k gap is rest) → ComesBefore t t2 u (item_at k r (add_item key m gap is) rest)
 unfolding flow_items_text
 more_before k r key m gap none rest u t t2 there turns size = absurd (none-some _ there)
-more_before k r key m gap (item j n sep none) rest u t t2 there turns size = go (is_here r (key_label (key_content j))) refl there
-  where
-    own : List ℕ → EntryPieces
-    own l = record { key = j; node = n; rest = l }
-
-    old : List ℕ
-    old = sep_text sep (k ∷ rest)
-
-    new : List ℕ
-    new = 44 ∷ (32 ∷ key_text key (node_text m (sep_text sep (k ∷ rest))))
-
-    go : (b : Bool) → is_here r (key_label (key_content j)) ≡ b → cond b (Some (own old)) None ≡ Some u → ComesBefore t t2 u (item_at k r (add_item key m gap (item j n sep none)) rest)
-    go true is there =
-        let w = turn_tail (key_text j (node_text n [])) old new t t2 (turns.0, sym (text_cut j n old) ∙ turns.1, sym (text_cut j n new) ∙ turns.2) (omega (arith, size)) in (
-          w.0,
-          ap (λ (x : EntryPieces). x.rest) (sym (same_Some _ _ there)) ∙ w.1,
-          ap (λ (b : Bool). cond b (Some (own new)) (item_at k (further r) (item key m sep none) rest)) is ∙ (ap (λ (l : List ℕ). Some (own l)) w.2 ∙ ap (λ (x : EntryPieces). Some (record x { rest = w.0 ++ t2 })) (same_Some _ _ there)),
-        )
-    go false is there = absurd (none-some _ there)
+more_before k r key m gap (item j n sep none) rest u t t2 there turns size =
+    item_before j n (is_here r (key_label (key_content j))) there
+    (turn_tail (key_text j (node_text n [])) _ _ t t2 (turn_as (sym (text_cut j n _)) (sym (text_cut j n _)) turns) (omega (arith, size)))
+    (λ there. absurd (none-some _ there))
 more_before k r key m gap (item j n sep (item j2 n2 sep2 is)) rest u t t2 there turns size =
-    go (is_here r (key_label (key_content j))) refl there (λ there turns. more_before k (further r) key m gap (item j2 n2 sep2 is) rest u t t2 there turns size)
-  where
-    others : Items
-    others = item j2 n2 sep2 is
-
-    own : List ℕ → EntryPieces
-    own l = record { key = j; node = n; rest = l }
-
-    old : List ℕ
-    old = flow_items_text k others rest
-
-    new : List ℕ
-    new = flow_items_text k (add_item key m gap others) rest
-
-    ends : length t ≤ length old
-    ends = omega (arith, size, items_end k gap others rest refl)
-
-    go : (b : Bool) → is_here r (key_label (key_content j)) ≡ b → cond b (Some (own (sep_text sep old))) (item_at k (further r) others rest) ≡ Some u →
-        (item_at k (further r) others rest ≡ Some u → Turns old new t t2 → ComesBefore t t2 u (item_at k (further r) (add_item key m gap others) rest)) → ComesBefore t t2 u (item_at k r (item j n sep (add_item key m gap others)) rest)
-    go true is there again =
-        let w = turn_tail (key_text j (node_text n [])) (sep_text sep old) (sep_text sep new) t t2
-        (turns.0, sym (text_cut j n (sep_text sep old)) ∙ turns.1, sym (text_cut j n (sep_text sep new)) ∙ turns.2)
-        (omega (arith, ends, sep_longer sep old)) in (
-          w.0,
-          ap (λ (x : EntryPieces). x.rest) (sym (same_Some _ _ there)) ∙ w.1,
-          ap (λ (b : Bool). cond b (Some (own (sep_text sep new))) (item_at k (further r) (add_item key m gap others) rest)) is
-              ∙ (ap (λ (l : List ℕ). Some (own l)) w.2 ∙ ap (λ (x : EntryPieces). Some (record x { rest = w.0 ++ t2 })) (same_Some _ _ there)),
-        )
-    go false is there again =
-        let w = again there (turn_tail (key_text j (node_text n (sep_text sep []))) old new t t2 (turns.0, sym (item_cut j n sep old) ∙ turns.1, sym (item_cut j n sep new) ∙ turns.2) ends) in
-        (w.0, w.1, ap (λ (b : Bool). cond b (Some (own (sep_text sep new))) (item_at k (further r) (add_item key m gap others) rest)) is ∙ w.2)
+    let others : Items = item j2 n2 sep2 is in
+    let w = turn_tail (key_text j (node_text n (sep_text sep []))) _ _ t t2 (turn_as (sym (item_cut j n sep _)) (sym (item_cut j n sep _)) turns)
+    (omega (arith, size, items_end k gap others rest refl)) in
+    item_before j n (is_here r (key_label (key_content j))) there (sep_turn sep w)
+    (λ there. more_before k (further r) key m gap (item j2 n2 sep2 is) rest u t t2 there w size)

@@ -70,13 +70,10 @@ module _ (m : ℕ) (steps : List Step) (key : List ℕ) (v : tree.Node) (d : Cut
   g : IsAsked steps (Some key) v (places.p m steps d a.x read a.place)
   g = asked m steps (Some key) v d a.x read a.place operand fits
 
-  abbrev lines : List ℕ
-  lines = entry_lines l a.x.column (Some key) v ++ break_text l.br
-
   rows : ((places.e m steps d a.x read a.place).front ≡ front) × ((places.e m steps d a.x read a.place).back ≡ back)
   rows = a.rows (places.e m steps d a.x read a.place)
 
-  text_is : new_text (put_segments a.x lines) ≡ new_text a.segments
+  text_is : new_text (put_segments a.x (entry_lines l a.x.column (Some key) v ++ break_text l.br)) ≡ new_text a.segments
   text_is = (λ i. a.before i ++ ((entry_lines l (a.column_is i) (Some key) v ++ break_text l.br) ++ append-nil (a.after i) i)) ∙ sym a.puts.new_is
 
   new_is : node_rows l a.x.column (break_text l.br) (singleton (Some key) v) ≡ new ∷ []

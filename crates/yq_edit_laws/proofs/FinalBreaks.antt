@@ -1,6 +1,6 @@
 -- Whether a text of rows ends in a break: by what comes after the mark of the last one.
-use Rattle.std.proofs.Common.{rules, inl, inr, ⊎_elim, ◌⊎◌, ◌≡◌, ℕ, zero, suc, ℤ, Bool, true, false, cond, ◌&&◌, not, List, [], ◌∷◌, ◌++◌}
-use Rattle.std.proofs.Common.{replicate, Option, refl, sym, ap, ◌∙◌, subst, append_assoc, append-nil}
+use Rattle.std.proofs.Common.{rules, inl, inr, ⊎_elim, ◌⊎◌, ◌≡◌, ℕ, ℤ, Bool, true, false, cond, ◌&&◌, not, List, [], ◌∷◌, ◌++◌, replicate}
+use Rattle.std.proofs.Common.{Option, refl, sym, ap, ◌∙◌, subst, append_assoc, append-nil}
 use Rattle.std.proofs.lemmas.Bool.{false≢true, false_from_ne_true, or_parts, and_parts, eqb-true}
 use Rattle.yq_core.specs.Plain.{IsPlain, ends_plain}
 use Rattle.yq_core.specs.Text.{front, is_break, is_white, is_feed, is_return, is_line, is_empty, no_white, unless, NoneIn}
@@ -11,7 +11,8 @@ use Rattle.yq_row_table.{proofs.seams.FrontSeams.row_some, specs.Exchange.row_fr
 use Rattle.yq_row_table.specs.Grammar.{IsContent, IsKey, IsMark, IsRow, Limit, is_entry}
 use Rattle.yq_row_table.specs.Rows.{Content, Nothing, Inline, Block, Row, after_indent, content_text, dashes_text, mark_text, parent_indent}
 use Rattle.yq_row_table.{specs.Rows.print_row, specs.View.content_cut, proofs.NothingLaws.some_after, proofs.PlaceLaws.row_front-append}
-use Rattle.yq_row_table.{proofs.RowAgain.row_starts, proofs.SliceLaws.content_slices, proofs.seams.ScalarSeams.last_no_space}
+use Rattle.yq_row_table.{proofs.RowAgain.{row_starts, white_spaces}, proofs.SliceLaws.content_slices}
+use Rattle.yq_row_table.proofs.seams.ScalarSeams.{last_no_space}
 use Rattle.yq_places.{specs.CollectionEnds.is_broken, specs.Placements.is_alone, specs.PrintedLines.{end_break, last_break, less_break}}
 use Rattle.yq_places.{proofs.ContentEndLaws.{Ends, content_ends, tail_ends}, proofs.LastBreakLaws.lf_last, proofs.PrintedTexts.less_is}
 use Rattle.yq_edit_rules.{proofs.EndedRowLaws.many_lf, proofs.LineFrontLaws.items_close, proofs.BreakLaws.last_is}
@@ -86,10 +87,6 @@ white_feed : (w : List ℕ) → IsWhite w → ends_feed w ≡ false
 white_feed [] h = refl
 white_feed (b ∷ w) h = feed_byte b w (at_byte is_white b 10 h.0 refl) (white_feed w h.1)
 
-spaces_feed : (n : ℕ) → ends_feed (replicate n 32) ≡ false
-spaces_feed zero = refl
-spaces_feed (suc n) = feed_byte 32 (replicate n 32) refl (spaces_feed n)
-
 name_feed : (n rest : List ℕ) → NoneIn (unless in_name) n rest → ends_feed n ≡ false
 name_feed [] rest h = refl
 name_feed (b ∷ n) rest h = feed_byte b n (byte_out (λ x. unless in_name (x ∷ [])) b refl h.0) (name_feed n rest h.1)
@@ -119,7 +116,9 @@ node_feed spaces (anchored n g node) d h = search (rules, feed_byte, feed_joined
 
 dashes_feed : (ns t : List ℕ) → ends_feed t ≡ false → ends_feed (dashes_text ns t) ≡ false
 dashes_feed [] t h = h
-dashes_feed (n ∷ ns) t h = feed_byte 45 (replicate n 32 ++ dashes_text ns t) refl (feed_joined (replicate n 32) (dashes_text ns t) (spaces_feed n) (dashes_feed ns t h))
+dashes_feed (n ∷ ns) t h =
+    feed_byte 45 (replicate n 32 ++ dashes_text ns t) refl
+    (feed_joined (replicate n 32) (dashes_text ns t) (white_feed (replicate n 32) (white_spaces n)) (dashes_feed ns t h))
 
 colon_some : (key colon rest t : List ℕ) → IsKey key colon rest → is_empty (colon ++ t) ≡ false
 colon_some key colon rest t h = ap (λ x. is_empty (x ++ t)) h.colon_is.spelled ∙ go h.colon_is.white

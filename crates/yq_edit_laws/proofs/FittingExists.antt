@@ -25,30 +25,18 @@ use Rattle.yq_edit_rules.{specs.EntryEdits.one_removed, specs.FlowParts.{flow_pu
 use Rattle.yq_edit_rules.{specs.ReplaceEdits.{has_text, value_put}, specs.Replacing.keeps_scalar, proofs.DoneLaws.read_cut}
 use Rattle.yq_semantics.{specs.Fits.Fits, specs.Operations.{replace, append, remove, line_comment, head_comment}, specs.Rooms.room_of}
 use Rattle.yq_text.specs.Script.{Segment, keep}
-use Rattle.yq_edit_laws.{proofs.FlowSoundLaws.{above_is, last_is}, proofs.PlacementExists.last_there, proofs.RemoveExists.one_there}
+use Rattle.yq_edit_laws.{proofs.FlowSoundLaws.{above_is, last_is}, proofs.PlacementExists.last_there}
+use Rattle.yq_edit_laws.proofs.RemoveExists.{IsThere, first_there, one_there, second_there}
 use Rattle.yq_core.specs.Tree as tree
 use Rattle.yq_row_table.specs.Rows as rows
 use Rattle.yq_edit_laws.proofs.DocumentParts as parts
-
--- there is an edit
-abbrev IsThere : Option (List Segment) → Type 0
-IsThere o = (ss : List Segment) × (o ≡ Some ss)
-
--- the first of two that is there
-first_there : (a b : Option (List Segment)) → IsThere a → IsThere (option_or a b)
-first_there a b h = (h.0, ap (λ (x : Option (List Segment)). option_or x b) h.1)
-
-second_there : (a b : Option (List Segment)) → IsThere b → IsThere (option_or a b)
-second_there None b h = h
-second_there (Some ss) b h = (ss, refl)
 
 -- ---- a part of a flow collection that has others beside it
 
 -- two items or more
 is_several : Items → Bool
-is_several none = false
-is_several (item key n sep none) = false
 is_several (item key n sep (item key2 n2 sep2 is)) = true
+is_several _ = false
 
 several_items : (is : Items) → ltb 1 (count (items_tree is)) ≡ true → is_several is ≡ true
 unfolding is_several items_tree
@@ -66,9 +54,8 @@ removing_there k rest s g (item key n sep (item key2 n2 sep2 none)) y at more = 
     go : (a b : Bool) → cond a (Some (record { key = key; node = n; rest = sep_text sep (flow_items_text k (item key2 n2 sep2 none) rest) }))
         (cond b (Some (record { key = key2; node = n2; rest = sep_text sep2 (flow_items_text k none rest) })) None) ≡ Some y →
         (e : FlowEdit) × (cond a (before_next k rest g key n sep (item key2 n2 sep2 none)) (option_or (cond b (Some (last_removed k rest g key n sep key2 n2 sep2)) None) others) ≡ Some e)
-    go true b at = (_, refl)
-    go false true at = (_, refl)
     go false false at = absurd (none-some _ at)
+    go _ _ at = (_, refl)
 removing_there k rest s g (item key n sep (item key2 n2 sep2 (item key3 n3 sep3 is))) y at more =
     go (is_here s (key_label (key_content key)))
     (λ x. removing_there k rest (further s) (gap_of sep) (item key2 n2 sep2 (item key3 n3 sep3 is)) y x refl) at
@@ -135,10 +122,9 @@ module _ (roots : RootsOccur) (entries : EntriesOccur) where
 
   -- the collection of an item or entry becomes empty
   holds : (s : Step) (o : Node) (w : Node) → child_at s (children_of o) ≡ Some w → (v : Node) × (empty_collection o ≡ Some v)
-  holds s (tree.alias name) w e = absurd (none-some _ e)
-  holds s (tree.scalar a kind text) w e = absurd (none-some _ e)
   holds s (tree.list a cs) w e = (tree.list None tree.none, refl)
   holds s (tree.map a cs) w e = (tree.map None tree.none, refl)
+  holds s _ w e = absurd (none-some _ e)
 
   sole_there : (n : ℕ) (s : Step) (ss : List Step) (c : Cut) (w : Node) → read_at (cut_text c) ≡ Some c → node_in n (s ∷ ss) c ≡ Some w → IsThere (sole_removed n c (last_step (s ∷ ss)))
   sole_there n s ss c w read at =

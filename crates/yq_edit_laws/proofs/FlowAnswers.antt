@@ -1,4 +1,5 @@
 -- What the code finds of flow collections, and where the edits of these are in a text.
+use Rattle.std.proofs.lemmas.Grind.{common_steps}
 use Rattle.std.proofs.Common.{rules, ◌≡◌, ℕ, ◌-◌, ◌≤◌, List, [], ◌∷◌, ◌++◌, length, map, take, drop, slice_index_or, Option, Some}
 use Rattle.std.proofs.Common.{option_map, refl, sym, ap, ◌∙◌, subst, arith, append_assoc, length-append}
 use Rattle.std.{proofs.Math.Seq.{take-append_seam, drop-append_seam}, specs.Str.IsCharBoundary}
@@ -26,12 +27,7 @@ last_agrees f x d [] = refl
 last_agrees f x d (y ∷ xs) = ap (option_map {T = Last} {U = Last} (λ (z : Last). (f x ∷ z.0, z.1))) (last_agrees f y d xs)
 
 pub steps_last : {A : Type 0} (f : A → Step) (x : A) (xs : List A) → 1 ≤ length xs → x ≡ slice_index_or xs (length xs - 1) x → ◌≡◌ {A = Option Last} (Some (map f (take (length xs - 1) xs), f x)) (last_step (map f xs))
-steps_last f x [] some is = absurd (omega (arith, some))
-steps_last f x (y ∷ xs) some is =
-    let less : length (y ∷ xs) - 1 ≡ length xs = omega arith in
-    let at : x ≡ slice_index_or (y ∷ xs) (length xs) x = is ∙ ap (λ n. slice_index_or (y ∷ xs) n x) less in
-    let agrees : ◌≡◌ {A = Option Last} (Some (map f (take (length (y ∷ xs) - 1) (y ∷ xs)), f x)) (Some (map f (take (length xs) (y ∷ xs)), f (slice_index_or (y ∷ xs) (length xs) x))) = λ i. Some (map f (take (less i) (y ∷ xs)), f (at i)) in
-    agrees ∙ sym (last_agrees f y x xs)
+steps_last f x xs some is = grind (arith, common_steps, last_agrees)
 
 -- ---- the bytes of an edit
 

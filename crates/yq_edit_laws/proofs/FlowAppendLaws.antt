@@ -13,12 +13,12 @@ use Rattle.yq_row_table.specs.Rows.{Cut, cut_text}
 use Rattle.yq_documents.specs.Documents.{Document, EachHasFitKeys, HasFitKey, HasFitKeys, document_parts}
 use Rattle.yq_documents.specs.Reading.{documents, read_at, root_of}
 use Rattle.yq_places.{specs.FlowNodes.flow_collection, specs.FlowViews.LeadsToHead}
-use Rattle.yq_edit_rules.{proofs.CommentPieceLaws.nothing, specs.FlowRows.FlowAt, specs.SoundRoots.{IsNewKey, IsNewValue, IsSoundRoot}}
-use Rattle.yq_edit_rules.{specs.TextPieces.IsPiece, proofs.FlowKeptLaws.flow_keys, proofs.PartLaws.document_known}
-use Rattle.yq_edit_rules.{proofs.SoundRootLaws.append_keeps, specs.EditLaws.{CarriedOut, FlowMoreIsPut, IsEdit}}
-use Rattle.yq_edit_rules.{specs.FlowParts.{flow_segments, takes_key}, specs.Operands.KeyIsUtf8, proofs.DoneLaws.nth_map}
-use Rattle.yq_edit_rules.{proofs.EditsFitLaws.{new_key, new_value, tree_unique}, proofs.FlowWritten.{flow_fits, key_fits}}
-use Rattle.yq_edit_rules.proofs.ValueNodes.{comma_piece, flow_piece, key_piece}
+use Rattle.yq_edit_rules.{proofs.CommentPieceLaws.{byte_then, nothing}, specs.FlowRows.FlowAt}
+use Rattle.yq_edit_rules.{specs.SoundRoots.{IsNewKey, IsNewValue, IsSoundRoot}, specs.TextPieces.IsPiece, proofs.FlowKeptLaws.flow_keys}
+use Rattle.yq_edit_rules.{proofs.PartLaws.document_known, proofs.SoundRootLaws.append_keeps}
+use Rattle.yq_edit_rules.{specs.EditLaws.{CarriedOut, FlowMoreIsPut, IsEdit}, specs.FlowParts.{flow_segments, takes_key}}
+use Rattle.yq_edit_rules.{specs.Operands.KeyIsUtf8, proofs.DoneLaws.nth_map, proofs.EditsFitLaws.{new_key, new_value, tree_unique}}
+use Rattle.yq_edit_rules.{proofs.FlowWritten.{flow_fits, key_fits}, proofs.ValueNodes.{flow_piece, key_piece}}
 use Rattle.yq_semantics.{specs.Fits.{Fits, Takes}, specs.Operations.append, specs.Rooms.room_of}
 use Rattle.yq_edit_laws.proofs.FlowPieceLaws.{edit_pieces}
 use Rattle.yq_edit_laws.proofs.FlowEditLaws.{FlowCarried, before_is, flow_carried, made_cut, made_reads, segments_old}
@@ -90,7 +90,7 @@ module _ (c : Cut) (doc : ℕ) (steps : List Step) (key : Option (List ℕ)) (v 
           pieces = (
             subst IsPiece (sym (before_is (cut_text c) there.before (e.old ++ e.after) there.text)) parts.0,
             (
-              cond_both (is_none w.items) [] (44 ∷ (32 ∷ [])) IsPiece (λ _. nothing) (λ _. comma_piece),
+              cond_both (is_none w.items) [] (44 ∷ (32 ∷ [])) IsPiece (λ _. nothing) (λ _. byte_then 44 (32 ∷ []) refl (byte_then 32 [] refl nothing)),
               (key_piece (eqb w.close 125) (key_label key) (node_text (flow_of v) []) (label_is w.close key u takes) (flow_piece v h), (parts.1, tt)),
             ),
           );

@@ -1,14 +1,14 @@
 -- What the code finds in the head of a row, and what of that the text has.
+use Rattle.std.proofs.lemmas.Grind.{common_steps}
 use Rattle.std.proofs.Common.{rules, ◌≡◌, ℕ, ◌+◌, ◌≤◌, true, List, [], ◌++◌, length, Option, Some, None, option_map, refl, sym, ap, ◌∙◌}
 use Rattle.std.{proofs.Common.{arith, cond, false, ◌∷◌, append_assoc, length-append}, proofs.lemmas.Option.{none-some, same_Some}}
-use Rattle.yq_core.{proofs.NodeLaws.after, specs.Paths.{Step, further, is_here}, specs.Collections.{CollAt, CollPieces, IsCollAt}}
+use Rattle.yq_core.{proofs.NodeLaws.after, specs.Paths.{Step, further}, specs.Collections.{CollAt, CollPieces, IsCollAt}}
 use Rattle.yq_core.specs.Entries.{EntryPieces, item_at}
 use Rattle.yq_core.specs.Nodes.{Key, FlowNode, coll, node_text, flow_items_text, IsFlowNode, Items, Sep, item, none}
-use Rattle.yq_core.{specs.Places.{Placed, locate}, proofs.PathLaws.items_hold, specs.Trees.key_content, specs.Tree.key_label}
-use Rattle.yq_core.proofs.NodesWrittenLaws.{items_append, sep_append}
+use Rattle.yq_core.{specs.Places.{Placed, locate}, proofs.PathLaws.items_hold, proofs.NodesWrittenLaws.{items_append, sep_append}}
 use Rattle.yq_flow_edits.specs.FlowEdits.{FlowEdit, appending, replacing, after_last}
 use Rattle.yq_flow_edits.specs.FlowPlaces.{append_place, place_edit, remove_place, replace_place}
-use Rattle.yq_flow_edits.specs.Removals.{removing, before_next, edit_from_item, gap_of, last_out, last_removed, removing_from}
+use Rattle.yq_flow_edits.specs.Removals.{removing, before_next, edit_from_item, gap_of, last_out, removing_from}
 use Rattle.yq_flow_edits.{proofs.EditLaws.{Around, around_is}, proofs.PlacedEdits.{append_placed, replace_placed}}
 use Rattle.yq_flow_edits.{proofs.RemovePlaces.{remove_placed, or_mapped}, proofs.RemoveTexts.removed_text}
 use Rattle.yq_places.proofs.FlowNodeLaws.{item_more, entry_more, with_more}
@@ -43,12 +43,7 @@ next_more : (k : ℕ) (g : List ℕ) (key : Key) (n : FlowNode) (sep : Sep) (is 
 next_more k g key n sep is rest more = search (rules, items_append)
 
 out_more : (k : ℕ) (s : Step) (g : List ℕ) (key : Key) (n : FlowNode) (sep : Sep) (is : Items) (rest more : List ℕ) → last_out k (rest ++ more) s g key n sep is ≡ option_map (edit_more more) (last_out k rest s g key n sep is)
-out_more k s g key n sep none rest more = refl
-out_more k s g key n sep (item key2 n2 sep2 (item key3 n3 sep3 is)) rest more = refl
-out_more k s g key n sep (item key2 n2 sep2 none) rest more =
-    let new : List ℕ → FlowEdit = λ r. last_removed k r g key n sep key2 n2 sep2 in
-    let one : new (rest ++ more) ≡ edit_more more (new rest) = search (rules, append_assoc) in
-    elim (is_here s (key_label (key_content key2))) as (λ v. cond v (Some (new (rest ++ more))) None ≡ option_map (edit_more more) (cond v (Some (new rest)) None)) [ true ↦ ap Some one | false ↦ refl ]
+out_more k s g key n sep is rest more = grind (arith, common_steps, append_assoc)
 
 after_more : (g : List ℕ) (key : Key) (n : FlowNode) (sep : Sep) (more : List ℕ) (o : Option FlowEdit) →
     option_map (edit_from_item g key n sep) (option_map (edit_more more) o) ≡ option_map (edit_more more) (option_map (edit_from_item g key n sep) o)

@@ -3,7 +3,7 @@ use Rattle.std.proofs.Common.{rules, ◌≡◌, ℕ, Bool, true, false, cond, eq
 use Rattle.std.{proofs.Common.{◌∙◌, inl, inr, subst, ◌⊎◌}, proofs.lemmas.Option.{none-some, same_Some}, specs.Prelude.option_and_then}
 use Rattle.yq_core.{specs.Paths.{Step, further, child_at, node_at}, specs.Tree.{Children, children_of, Node}}
 use Rattle.yq_core.{specs.Collections.{CollPieces, coll_along, coll_in}, specs.Entries.{EntryPieces, path_inside, item_at}}
-use Rattle.yq_core.specs.Nodes.{FlowNode, empty, alias, scalar, coll, anchored, Items, none, item}
+use Rattle.yq_core.specs.Nodes.{FlowNode, coll, anchored, Items, none, item}
 use Rattle.yq_core.{specs.Trees.{tree_collection, items_tree, tree_of, with_name}, specs.Answers.◌>>=◌}
 use Rattle.yq_outline.specs.Outline.{LineMark, Bare, Key, Dash, Outline, end, row, value}
 use Rattle.yq_outline.{specs.Places.{here, FoundLine, find, in_head, place_inside, content_under}, specs.Positions.has_no_mark}
@@ -62,11 +62,9 @@ same_held (s ∷ ss) a b x same h = search (rules, kids_held b ∙ (ap kids (sym
 
 coll_here : (node : FlowNode) (rest : List ℕ) (x : FlowContent) → held (tree_of node) ≡ Some x → (w : CollPieces) × (coll_in node rest ≡ Some w) × (coll_held w ≡ x)
 unfolding tree_of
-coll_here empty rest x e = absurd (none-some _ e)
-coll_here (alias n) rest x e = absurd (none-some _ e)
-coll_here (scalar p) rest x e = absurd (none-some _ e)
 coll_here (coll k gap is) rest x e = (record { close = k; gap = gap; items = is; rest = rest }, refl, same_Some _ _ (sym (held_coll k (items_tree is)) ∙ e))
 coll_here (anchored n gap node) rest x e = coll_here node rest x (sym (held_named n (tree_of node)) ∙ e)
+coll_here _ rest x e = absurd (none-some _ e)
 
 -- the tree of an item or entry
 abbrev pub entry_tree : EntryPieces → tree.Node
@@ -79,11 +77,9 @@ item_child k s (item key n sep is) rest = search (rules, item_child k (further s
 
 pub inside_child : (s : Step) (node : FlowNode) (rest : List ℕ) → option_map entry_tree (path_inside s node rest) ≡ child_at s (kids (held (tree_of node)))
 unfolding tree_of
-inside_child s empty rest = refl
-inside_child s (alias n) rest = refl
-inside_child s (scalar p) rest = refl
 inside_child s (coll k gap is) rest = item_child k s is rest ∙ ap (λ o. child_at s (kids o)) (sym (held_coll k (items_tree is)))
 inside_child s (anchored n gap node) rest = inside_child s node rest ∙ ap (λ o. child_at s (kids o)) (sym (held_named n (tree_of node)))
+inside_child s _ rest = refl
 
 -- Steps lead from a node before a rest to a flow collection that holds these.
 abbrev pub CollThere : List Step → FlowNode → List ℕ → FlowContent → Type 0
@@ -104,11 +100,9 @@ coll_there (s ∷ ss) node rest x h =
 -- What a flow collection in the node holds, the tree's collection there holds.
 coll_inside : (node : FlowNode) (rest : List ℕ) (w : CollPieces) → coll_in node rest ≡ Some w → held (tree_of node) ≡ Some (coll_held w)
 unfolding tree_of
-coll_inside empty rest w e = absurd (none-some _ e)
-coll_inside (alias n) rest w e = absurd (none-some _ e)
-coll_inside (scalar p) rest w e = absurd (none-some _ e)
 coll_inside (coll k gap is) rest w e = held_coll k (items_tree is) ∙ ap (λ (v : CollPieces). Some (coll_held v)) (same_Some _ _ e)
 coll_inside (anchored n gap node) rest w e = held_named n (tree_of node) ∙ coll_inside node rest w e
+coll_inside _ rest w e = absurd (none-some _ e)
 
 pub coll_holds : (ss : List Step) (node : FlowNode) (rest : List ℕ) (w : CollPieces) → coll_along ss node rest ≡ Some w → HeldAt ss (tree_of node) (coll_held w)
 coll_holds [] node rest w e = (tree_of node, refl, coll_inside node rest w e)

@@ -1,21 +1,21 @@
 -- No flow collection of a text that reads has a key twice.
-use Rattle.std.proofs.Common.{rules, ◌≡◌, ℕ, ◌+◌, ◌++◌, true, List, [], ◌∷◌, length, Option, Some, None, option_map, refl, sym, ap, ◌∙◌}
-use Rattle.std.{proofs.Common.subst, specs.Prelude.⊤, proofs.lemmas.Bool.false≢true, proofs.lemmas.Option.{none-some, same_Some}}
+use Rattle.std.proofs.Common.{rules, ◌≡◌, ℕ, ◌++◌, true, List, [], ◌∷◌, length, Option, Some, None, option_map, refl, sym, ap, ◌∙◌, subst}
+use Rattle.std.{specs.Prelude.⊤, proofs.lemmas.Bool.false≢true, proofs.lemmas.Option.{none-some, same_Some}}
 use Rattle.yq_core.{specs.Answers.◌>>=◌, specs.Keys.{AreDistinct, EachHasUniqueKeys, HasUniqueKeys, keys_of}, specs.Paths.{Step, node_at}}
 use Rattle.yq_core.{specs.Collections.CollPieces, specs.Nodes.coll, specs.Places.{Placed, placed}}
 use Rattle.yq_core.{specs.Trees.{content_tree, items_tree, placed_tree, tree_collection, tree_of}, proofs.TreeLaws.node_tree}
-use Rattle.yq_outline.{specs.Group.level_or, specs.Outline.{Outline, row, IsEven, anchored, level, head_or, value}}
+use Rattle.yq_outline.specs.Outline.{Outline, anchored, head_or, value}
 use Rattle.yq_outline.{specs.Places.{FoundLine, find, in_head, place_inside, content_under}, proofs.Finding.{FoundNode, path_node}}
-use Rattle.yq_outline.{proofs.Plug.allows_from, specs.Lines.{content_anchor, head_of}}
-use Rattle.yq_row_table.{specs.Exchange.after_row, specs.Rows.{Content, Nothing, Inline, Block, Cut, cut_text}}
-use Rattle.yq_documents.{specs.LinesInRows.{RowLine, document_row}, specs.Reading.{cut_of, part_outline, read_at}}
+use Rattle.yq_outline.specs.Lines.{content_anchor, head_of}
+use Rattle.yq_row_table.specs.Rows.{Content, Nothing, Inline, Block, Cut, cut_text}
+use Rattle.yq_documents.specs.Reading.{cut_of, part_outline, read_at}
 use Rattle.yq_places.specs.FlowNodes.{bare_line, content_flow, find_head, flow_collection, head_line}
 use Rattle.yq_places.{specs.FlowViews.{FlowAgrees, following_anchor}, specs.declared.places.flow_node.FlowHead.FlowHead}
 use Rattle.yq_places.proofs.FlowPieces.{head_tree}
-use Rattle.yq_edit_rules.{proofs.FlowLineLaws.{head_takes, head_whole}, proofs.PartLaws.document_known, proofs.SoundRootLaws.unique_at}
+use Rattle.yq_edit_rules.{proofs.PartLaws.document_known, proofs.SoundRootLaws.unique_at}
 use Rattle.yq_edit_laws.proofs.FlowHeldNodes.{FlowContent, HeldAt, coll_held, coll_holds, held, held_anchored, held_coll, held_named}
-use Rattle.yq_edit_laws.{proofs.FlowHeldNodes.same_held, specs.NearParts.HasUniqueCollection, proofs.FlowHeldLines.{head_row, head_there}}
-use Rattle.yq_edit_laws.{proofs.FlowAnswers.{CollFound, coll_found}, proofs.FlowHeads.whole_is, proofs.FlowPartNodes.{LineAt, line_at}}
+use Rattle.yq_edit_laws.{proofs.FlowHeldNodes.same_held, specs.NearParts.HasUniqueCollection, proofs.FlowAnswers.{CollFound, coll_found}}
+use Rattle.yq_edit_laws.{proofs.FlowHeads.whole_is, proofs.FlowPartNodes.{LineAt, line_at, line_head}}
 use Rattle.yq_core.specs.Tree as tree
 
 -- ---- what a node holds
@@ -81,19 +81,12 @@ content_held (Inline space node tail) h rest after w head e =
 pub flow_unique : (c : Cut) (n : ℕ) (steps : List Step) (w : CollPieces) → read_at (cut_text c) ≡ Some c → flow_collection n steps c ≡ Some w → HasUniqueKeys (tree_collection w.close (items_tree w.items))
 flow_unique c n steps w read found =
     let h : LineAt c n steps w = line_at c n steps w found in
-    let o : Outline = part_outline h.part in
-    let f : FoundLine = h.line.0 in
     let known = document_known (cut_text c) c n h.part (record { read = read; there = h.there }) in
-    let m : ℕ = level_or 0 o in
-    let r = head_row m h.part steps f h.line.1 known.even h.found in
-    let even : IsEven (level f.line) (row f.line f.under f.after) = (allows_from m f.place f.line f.under f.after (subst (IsEven m) (sym (head_whole m o steps f h.line.1 known.even h.found)) known.even)).1 in
-    let head = head_there f (head_takes m o steps f h.line.1 known.even h.found) even.2 in
-    let same : r.row_line_is ≡ h.row_line_is = same_Some _ _ (sym r.there ∙ h.printed_line) in
-    let flow : content_flow h.line.1 r.row_line_is.row.content (after_row (document_row n c + h.row_line_is.before) c) ≡ Some w =
-    ap (λ (z : RowLine). content_flow h.line.1 z.row.content (after_row (document_row n c + h.row_line_is.before) c)) same ∙ h.flow in
-    let at = content_held r.row_line_is.row.content head.0 h.line.1 _ w (r.head ∙ head.1) flow in
-    let own : HeldAt h.line.1 (content_under f.line f.under) (coll_held w) = subst (λ (m : tree.Node). HeldAt h.line.1 m (coll_held w)) (λ i. anchored (r.anchor i) (head_or (sym head.1 i) (value f.under))) at in
-    same_unique own.0 (tree_collection w.close (items_tree w.items)) (own.2 ∙ sym (held_coll w.close (items_tree w.items))) (line_unique steps o h.line h.found known.document.unique own.0 own.1)
+    let x = line_head c n steps w h read in
+    let own : HeldAt h.line.1 (content_under h.line.0.line h.line.0.under) (coll_held w) =
+    subst (λ (m : tree.Node). HeldAt h.line.1 m (coll_held w)) x.4 (content_held x.0 x.1 h.line.1 _ w x.2 x.3) in
+    same_unique own.0 (tree_collection w.close (items_tree w.items)) (own.2 ∙ sym (held_coll w.close (items_tree w.items)))
+    (line_unique steps (part_outline h.part) h.line h.found known.document.unique own.0 own.1)
 
 -- ---- as the code finds it
 

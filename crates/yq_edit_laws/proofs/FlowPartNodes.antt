@@ -1,22 +1,22 @@
 -- What is at a path that leads to an item or entry of a flow collection: its node, and nothing outside flow collections.
-use Rattle.std.proofs.Common.{rules, ◌≡◌, ℕ, ◌+◌, List, [], ◌∷◌, ◌++◌, length, Option, Some, None, option_map, refl, sym, ap, ◌∙◌, subst}
+use Rattle.std.proofs.lemmas.Grind.{common_steps}
+use Rattle.std.proofs.Common.{arith, rules, ◌≡◌, ℕ, ◌+◌, List, [], ◌∷◌, ◌++◌, length, Option, Some, None, option_map, sym, ap, ◌∙◌, subst}
 use Rattle.std.{proofs.lemmas.Option.{none-some, same_Some, slice_get-map}, specs.List.slice_get, specs.Prelude.option_and_then}
 use Rattle.yq_core.{specs.Answers.◌>>=◌, specs.Paths.{Step, child_at, node_at}, specs.Tree.children_of, proofs.Bools.bind_some}
 use Rattle.yq_core.{specs.Collections.{CollPieces, coll_along}, specs.Entries.{EntryPieces, path_inside, item_at}, specs.Nodes.FlowNode}
 use Rattle.yq_core.specs.Trees.{tree_of}
-use Rattle.yq_outline.{specs.Ends.found_line, specs.Group.level_or, specs.Outline.{Outline, IsEven, level, row, anchored, head_or, value}}
-use Rattle.yq_outline.{specs.Places.{FoundLine, lines_before}, proofs.Finding.{FoundNode, node-anchored, path_node}}
+use Rattle.yq_outline.{specs.Group.level_or, specs.Outline.{Outline, IsEven, level, row, anchored, head_or, value}}
+use Rattle.yq_outline.{specs.Places.{FoundLine, content_under, lines_before}, proofs.Finding.{FoundNode, node-anchored, path_node}}
 use Rattle.yq_outline.{proofs.Plug.allows_from, specs.Lines.{content_anchor, head_of}}
-use Rattle.yq_row_table.{specs.Exchange.after_row, specs.Rows.{Content, Nothing, Inline, Block, Part, Cut, cut_text}}
+use Rattle.yq_row_table.{specs.Exchange.after_row, specs.Rows.{Content, Inline, Part, Cut, cut_text}}
 use Rattle.yq_documents.{specs.Documents.document_parts, specs.Reading.{part_outline, read_at}}
 use Rattle.yq_documents.specs.LinesInRows.{RowLine, document_row, row_line, row_line_of}
 use Rattle.yq_places.{specs.FlowNodes.{content_flow, find_head}, specs.NodesAt.node_in, specs.PlacedRows.{PlacedPart, placed_document}}
 use Rattle.yq_places.{specs.Placements.{entry_rows_at, entry_placement, last_step, placement_at}, proofs.FlowPieces.head_tree}
 use Rattle.yq_places.proofs.PlacedRowLaws.{document_placed, part_of}
-use Rattle.yq_edit_rules.{proofs.FlowLineLaws.{head_takes, head_whole}, proofs.PartLaws.document_known}
-use Rattle.yq_edit_laws.{proofs.EntryLines.found_at, proofs.FlowHeldLines.{head_row, head_there}}
-use Rattle.yq_edit_laws.{proofs.FlowHeldNodes.{entry_tree, inside_child, kids_held}, proofs.FlowSoundLaws.last_is}
-use Rattle.yq_edit_laws.{proofs.FlowPlacements.{EntryAt, coll_entry}, proofs.StepsOn.head_on}
+use Rattle.yq_edit_rules.{proofs.FlowLineLaws.{head_takes, head_whole}, proofs.PartLaws.document_known, proofs.PathLaws.found_at}
+use Rattle.yq_edit_laws.{proofs.FlowHeldLines.{head_row, head_there}, proofs.FlowHeldNodes.{entry_tree, inside_child, kids_held}}
+use Rattle.yq_edit_laws.{proofs.FlowSoundLaws.last_is, proofs.FlowPlacements.{EntryAt, coll_entry}, proofs.StepsOn.head_on}
 use Rattle.yq_core.specs.Tree as tree
 
 -- ---- in an inline node
@@ -47,12 +47,11 @@ drop_anchor a (t ∷ ss) s n = node-anchored a t (ss ++ (s ∷ [])) n
 -- the same in the content of a row
 content_node : (x : Content) (h : tree.Node) (ss : List Step) (s : Step) (after : List ℕ) (w : CollPieces) → head_of x ≡ Some h → content_flow ss x after ≡ Some w →
     node_at (ss ++ (s ∷ [])) (anchored (content_anchor x) h) ≡ option_map entry_tree (item_at w.close s w.items w.rest)
-content_node (Nothing tail) h ss s after w head e = absurd (none-some _ e)
-content_node (Block space anchor block) h ss s after w head e = absurd (none-some _ e)
 content_node (Inline space node tail) h ss s after w head e =
     let n = head_tree node h head in
     drop_anchor (content_anchor (Inline space node tail)) ss s h
     ∙ (sym (drop_anchor n.0 ss s h) ∙ (ap (node_at (ss ++ (s ∷ []))) (sym n.1) ∙ coll_node ss s node (tail ++ after) w e))
+content_node _ h ss s after w head e = absurd (none-some _ e)
 
 -- ---- in a document
 
@@ -73,6 +72,27 @@ line_at c n steps w e =
     let s = bind_some (row_line (length (lines_before x.0.0.place)) d.0.rows) x.2 in
     record { part = d.0; there = d.1; line = x.0; found = x.1; row_line_is = s.0; printed_line = s.1; flow = s.2 }
 
+-- what is in the row of that line, and the head there, which with what is under the line makes its node
+pub line_head : (c : Cut) (n : ℕ) (steps : List Step) (w : CollPieces) (h : LineAt c n steps w) → read_at (cut_text c) ≡ Some c →
+    (x : Content) × (m : tree.Node) × (head_of x ≡ Some m) × (content_flow h.line.1 x (after_row (document_row n c + h.row_line_is.before) c) ≡ Some w) ×
+    (anchored (content_anchor x) m ≡ content_under h.line.0.line h.line.0.under)
+line_head c n steps w h read =
+    let o : Outline = part_outline h.part in
+    let f : FoundLine = h.line.0 in
+    let known = document_known (cut_text c) c n h.part (record { read = read; there = h.there }) in
+    let m : ℕ = level_or 0 o in
+    let r = head_row m h.part steps f h.line.1 known.even h.found in
+    let even : IsEven (level f.line) (row f.line f.under f.after) =
+    (allows_from m f.place f.line f.under f.after (subst (IsEven m) (sym (head_whole m o steps f h.line.1 known.even h.found)) known.even)).1 in
+    let head = head_there f (head_takes m o steps f h.line.1 known.even h.found) even.2 in
+    let same : r.row_line_is ≡ h.row_line_is = same_Some _ _ (sym r.there ∙ h.printed_line) in (
+      r.row_line_is.row.content,
+      head.0,
+      r.head ∙ head.1,
+      ap (λ (z : RowLine). content_flow h.line.1 z.row.content (after_row (document_row n c + h.row_line_is.before) c)) same ∙ h.flow,
+      (λ i. anchored (r.anchor i) (head_or (sym head.1 i) (value f.under))),
+    )
+
 -- the node at a path is the one that its line means
 node_found : (steps : List Step) (s : Step) (o : Outline) → node_at (steps ++ (s ∷ [])) (value o) ≡ FoundNode (found_at (steps ++ (s ∷ [])) o)
 node_found [] s o = path_node s [] o
@@ -81,30 +101,15 @@ node_found (t ∷ ts) s o = path_node t (ts ++ (s ∷ [])) o
 line_node : (c : Cut) (n : ℕ) (steps : List Step) (s : Step) (w : CollPieces) (h : LineAt c n steps w) → read_at (cut_text c) ≡ Some c →
     node_at (steps ++ (s ∷ [])) (value (part_outline h.part)) ≡ option_map entry_tree (item_at w.close s w.items w.rest)
 line_node c n steps s w h read =
-    let o : Outline = part_outline h.part in
-    let f : FoundLine = h.line.0 in
-    let known = document_known (cut_text c) c n h.part (record { read = read; there = h.there }) in
-    let m : ℕ = level_or 0 o in
-    let r = head_row m h.part steps f h.line.1 known.even h.found in
-    let even : IsEven (level f.line) (row f.line f.under f.after) = (allows_from m f.place f.line f.under f.after (subst (IsEven m) (sym (head_whole m o steps f h.line.1 known.even h.found)) known.even)).1 in
-    let head = head_there f (head_takes m o steps f h.line.1 known.even h.found) even.2 in
-    let same : r.row_line_is ≡ h.row_line_is = same_Some _ _ (sym r.there ∙ h.printed_line) in
-    let flow : content_flow h.line.1 r.row_line_is.row.content (after_row (document_row n c + h.row_line_is.before) c) ≡ Some w =
-    ap (λ (z : RowLine). content_flow h.line.1 z.row.content (after_row (document_row n c + h.row_line_is.before) c)) same ∙ h.flow in
-    node_found steps s o
-    ∙ (ap FoundNode (head_on steps s o h.line h.found)
-    ∙ ((λ i. node_at (h.line.1 ++ (s ∷ [])) (anchored (sym r.anchor i) (head_or (head.1 i) (value f.under))))
-    ∙ content_node r.row_line_is.row.content head.0 h.line.1 s _ w (r.head ∙ head.1) flow))
+    let x = line_head c n steps w h read in
+    node_found steps s (part_outline h.part)
+    ∙ (ap FoundNode (head_on steps s (part_outline h.part) h.line h.found)
+    ∙ (ap (node_at (h.line.1 ++ (s ∷ []))) (sym x.4) ∙ content_node x.0 x.1 h.line.1 s _ w x.2 x.3))
 
 -- ---- nothing outside flow collections
 
 none_seat : (path : List Step) (s : Step) (p : Part) (y : FoundLine × List Step) → found_at path (part_outline p) ≡ Some (y.0, y.1 ++ (s ∷ [])) → row_line_of path p.rows ≡ None
-none_seat [] s p y e = refl
-none_seat (t ∷ ts) s p y e = ap (λ (o : Option (FoundLine × List Step)). option_and_then (λ x. found_line x.0 x.1) o >>= λ n. row_line n p.rows) e ∙ go y.1
-  where
-    go : (ss : List Step) → (found_line y.0 (ss ++ (s ∷ [])) >>= λ n. row_line n p.rows) ≡ None
-    go [] = refl
-    go (u ∷ ss) = refl
+none_seat path s p y e = grind (arith, common_steps)
 
 none_placed : (n : ℕ) (path : List Step) (c : Cut) (x : List Step × Step) → last_step path ≡ Some x → ((d : PlacedPart) → placed_document n c ≡ Some d → row_line_of path d.part.rows ≡ None) → placement_at n path c ≡ None
 none_placed n [] c x last h = absurd (none-some _ last)

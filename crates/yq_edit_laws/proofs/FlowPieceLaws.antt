@@ -1,30 +1,21 @@
 -- The pieces of a text from which an item or entry of a flow collection is taken out.
-use Rattle.std.proofs.Common.{rules, ◌≡◌, ◌⊎◌, inl, inr, ℕ, ◌-◌, Bool, true, false, ◌&&◌, cond, List, [], ◌∷◌, ◌++◌, length, take, refl}
-use Rattle.std.proofs.Common.{sym, ap, ◌∙◌, subst, arith, append_assoc, length-append}
-use Rattle.std.{proofs.Math.Seq.{take-append_seam, drop-append_seam}, proofs.lemmas.Bool.{false≢true, and_from, and_parts}}
-use Rattle.std.{proofs.lemmas.Str.{IsUtf8-drop, IsUtf8-take, IsUtf8-from_ascii}, proofs.lemmas.Str.Ascii.{IsAscii-cons, IsAscii-nil}}
-use Rattle.std.specs.Str.{chars, IsUtf8, IsCharBoundary}
-use Rattle.yq_core.{specs.Characters.pairs_returns, specs.Text.{front, is_feed, is_return}}
+use Rattle.std.proofs.lemmas.Grind.{common_steps}
+use Rattle.std.proofs.Common.{rules, ◌≡◌, ◌⊎◌, inl, inr, ℕ, ◌-◌, true, List, [], ◌∷◌, ◌++◌, length, take, refl, sym, ap, ◌∙◌, subst, arith}
+use Rattle.std.{proofs.Common.{append_assoc, length-append}, proofs.Math.Seq.{take-append_seam, drop-append_seam}}
+use Rattle.std.{proofs.lemmas.Bool.{false≢true, and_from, and_parts}, proofs.lemmas.Str.{IsUtf8-drop, IsUtf8-take}}
+use Rattle.std.specs.Str.{IsUtf8, IsCharBoundary}
+use Rattle.yq_core.specs.Characters.{pairs_returns}
 use Rattle.yq_flow_edits.{specs.FlowEdits.FlowEdit, proofs.ReturnLaws.Whole}
 use Rattle.yq_row_table.proofs.CharacterLaws.{all_text, all_join, pairs_back}
-use Rattle.yq_edit_rules.{proofs.CommentPieceLaws.nothing, specs.TextPieces.IsPiece}
+use Rattle.yq_edit_rules.{proofs.CommentPieceLaws.{byte_then, nothing}, specs.TextPieces.IsPiece}
 
 -- ---- a text cut in two
 
 pairs_whole : (x u : List ℕ) → pairs_returns (x ++ u) ≡ true → Whole x u → pairs_returns x ≡ true
 unfolding pairs_returns
 pairs_whole [] u h w = refl
-pairs_whole (b ∷ []) u h w = go (is_return b) h w
-  where
-    go : (r : Bool) → cond r (front is_feed u && pairs_returns u) (pairs_returns u) ≡ true → (r && front is_feed u) ≡ false → cond r (front is_feed [] && pairs_returns []) (pairs_returns []) ≡ true
-    go true h w = absurd (false≢true (sym w ∙ (and_parts (front is_feed u) (pairs_returns u) h).0))
-    go false h w = refl
-pairs_whole (b ∷ (c ∷ x)) u h w = go (is_return b) h (λ k. pairs_whole (c ∷ x) u k w)
-  where
-    go : (r : Bool) → cond r (is_feed c && pairs_returns (c ∷ (x ++ u))) (pairs_returns (c ∷ (x ++ u))) ≡ true → (pairs_returns (c ∷ (x ++ u)) ≡ true → pairs_returns (c ∷ x) ≡ true) →
-        cond r (is_feed c && pairs_returns (c ∷ x)) (pairs_returns (c ∷ x)) ≡ true
-    go true h again = let y = and_parts (is_feed c) (pairs_returns (c ∷ (x ++ u))) h in and_from _ _ y.0 (again y.1)
-    go false h again = again h
+pairs_whole (b ∷ []) u h w = grind (arith, common_steps, false≢true, and_parts)
+pairs_whole (b ∷ (c ∷ x)) u h w = grind (arith, common_steps, and_parts, and_from, pairs_whole (c ∷ x) u)
 
 -- the text before a place
 front_utf8 : (t a b : List ℕ) (n : ℕ) → t ≡ a ++ b → IsUtf8 t → IsCharBoundary t n → n ≡ length t - length b → IsUtf8 a
@@ -52,15 +43,7 @@ edit_pieces t before e piece is start ends whole =
 
 -- ---- what takes the place of an item or entry
 
-ascii_piece : (b : ℕ) → (b ≡ 32) ⊎ (b ≡ 44) → IsPiece (b ∷ [])
-unfolding chars pairs_returns
-ascii_piece b (inl e) = subst (λ (x : ℕ). IsPiece (x ∷ [])) (sym e) (record { utf8 = IsUtf8-from_ascii (32 ∷ []) (IsAscii-cons 32 [] (omega arith) IsAscii-nil); characters = refl })
-ascii_piece b (inr e) = subst (λ (x : ℕ). IsPiece (x ∷ [])) (sym e) (record { utf8 = IsUtf8-from_ascii (44 ∷ []) (IsAscii-cons 44 [] (omega arith) IsAscii-nil); characters = refl })
-
-pub one_space : IsPiece (32 ∷ [])
-one_space = ascii_piece 32 (inl refl)
-
 pub lead_piece : (l : List ℕ) → (l ≡ []) ⊎ ((l ≡ 32 ∷ []) ⊎ (l ≡ 44 ∷ [])) → IsPiece l
 lead_piece l (inl e) = subst IsPiece (sym e) nothing
-lead_piece l (inr (inl e)) = subst IsPiece (sym e) one_space
-lead_piece l (inr (inr e)) = subst IsPiece (sym e) (ascii_piece 44 (inr refl))
+lead_piece l (inr (inl e)) = subst IsPiece (sym e) (byte_then 32 [] refl nothing)
+lead_piece l (inr (inr e)) = subst IsPiece (sym e) (byte_then 44 [] refl nothing)

@@ -1,7 +1,7 @@
 -- The content of an item or entry of a flow collection is replaced by a value.
-use Rattle.std.proofs.Common.{rules, ◌≡◌, ℕ, ◌-◌, ◌<◌, ◌≤◌, Bool, true, false, List, [], ◌∷◌, ◌++◌, length, Option, Some, sym, ap, ◌∙◌}
-use Rattle.std.{proofs.Common.{subst, arith, ◌+◌, append-nil, length-append}, proofs.lemmas.Bool.cond_both, proofs.lemmas.Option.none-some}
-use Rattle.std.specs.Str.{IsCharBoundary}
+use Rattle.std.proofs.Common.{refl, rules, ◌≡◌, ℕ, ◌-◌, ◌<◌, ◌≤◌, Bool, true, false, List, [], ◌∷◌, ◌++◌, length, Option, Some, sym, ap}
+use Rattle.std.{proofs.Common.{◌∙◌, subst, arith, ◌+◌, append-nil, length-append}, proofs.lemmas.Bool.cond_both}
+use Rattle.std.{proofs.lemmas.Option.none-some, specs.Str.IsCharBoundary}
 use Rattle.yq_core.{specs.Keys.depth, specs.Paths.{Step, changed_at, change_child, further, within}, specs.Scalar.ScalarText}
 use Rattle.yq_core.{specs.declared.style.Place.TheVariants.Flow, specs.Collections.{CollAt, CollPieces, IsCollAt, item_in, room_in}}
 use Rattle.yq_core.{specs.Entries.EntryPieces, specs.Nodes.{Key, Items, none, item, is_empty_node, node_text, without_anchor}}
@@ -16,15 +16,16 @@ use Rattle.yq_documents.{specs.Documents.{EachHasFitKeys, HasFitKey, HasFitKeys,
 use Rattle.yq_documents.specs.Reading.{documents, read_at, root_of}
 use Rattle.yq_places.{specs.FlowNodes.flow_collection, specs.FlowViews.LeadsToHead, proofs.FlowPieces.{named_is, none_anchored}}
 use Rattle.yq_places.specs.Placements.{FlowPart, last_step}
-use Rattle.yq_edit_rules.{proofs.CommentPieceLaws.nothing, specs.FlowRows.FlowAt, specs.Rooms.is_block_root, specs.SoundRoots.IsSoundRoot}
-use Rattle.yq_edit_rules.{specs.TextPieces.IsPiece, proofs.FlowKeptLaws.flow_keys, proofs.PartLaws.document_known}
-use Rattle.yq_edit_rules.{proofs.SoundRootLaws.replace_keeps, specs.EditLaws.{CarriedOut, FlowValuesArePut, IsEdit}}
+use Rattle.yq_edit_rules.{proofs.CommentPieceLaws.{byte_then, nothing}, specs.FlowRows.FlowAt, specs.Rooms.is_block_root}
+use Rattle.yq_edit_rules.{specs.SoundRoots.IsSoundRoot, specs.TextPieces.IsPiece, proofs.FlowKeptLaws.flow_keys}
+use Rattle.yq_edit_rules.{proofs.PartLaws.document_known, proofs.SoundRootLaws.replace_keeps}
+use Rattle.yq_edit_rules.specs.EditLaws.{CarriedOut, FlowValuesArePut, IsEdit}
 use Rattle.yq_edit_rules.{specs.FlowParts.{content_written, flow_put, flow_segments, flow_value}, specs.Style.style_in}
 use Rattle.yq_edit_rules.{proofs.EditsFitLaws.{FitsReplace, fits_replace}, proofs.FlowWritten.flow_fits, proofs.KeptLaws.led_same}
 use Rattle.yq_edit_rules.{proofs.ValueTexts.style_line, proofs.StyleLaws.{style_inline, style_writes}}
 use Rattle.yq_edit_rules.proofs.ValueNodes.{flow_piece, scalar_is}
 use Rattle.yq_semantics.{specs.Changes.has_long_key, specs.Fits.Fits, specs.Operations.replace, specs.Rooms.room_of}
-use Rattle.yq_edit_laws.{specs.PartPuts.{EndsAsIn, IsPartOf}, proofs.FlowPieceLaws.{edit_pieces, one_space}, proofs.FlowSoundLaws.last_is}
+use Rattle.yq_edit_laws.{specs.PartPuts.{EndsAsIn, IsPartOf}, proofs.FlowPieceLaws.edit_pieces, proofs.FlowSoundLaws.last_is}
 use Rattle.yq_edit_laws.proofs.FlowPlacements.{EntryAt, entry_found, entry_placed}
 use Rattle.yq_edit_laws.proofs.FlowEditLaws.{FlowCarried, before_is, flow_carried, made_cut, made_reads, segments_old}
 use Rattle.yq_edit_laws.{proofs.FlowWholeLaws.{IsPlacedBefore, replaced_is_there}, proofs.LaterParts.later_part}
@@ -86,7 +87,7 @@ below_root : (block : Bool) (path init : List Step) (s : Step) → last_step pat
 below_root block path init s last none_left = absurd (none-some _ (ap last_step (sym none_left) ∙ last))
 
 space_there : (n : inline.FlowNode) → IsPiece (space_for n)
-space_there n = cond_both (is_empty_node n) (32 ∷ []) [] IsPiece (λ _. one_space) (λ _. nothing)
+space_there n = cond_both (is_empty_node n) (32 ∷ []) [] IsPiece (λ _. byte_then 32 [] refl nothing) (λ _. nothing)
 
 -- ---- at an item or entry
 

@@ -1,13 +1,13 @@
 -- The paths of operations in flow collections, and the roots that they leave.
-use Rattle.std.proofs.Common.{rules, ◌≡◌, inl, inr, ℕ, false, List, [], ◌∷◌, ◌++◌, Option, Some, None, option_map, refl, sym, ap, ◌∙◌}
-use Rattle.std.{proofs.Common.subst, proofs.lemmas.Bool.or_parts, proofs.lemmas.Option.{none-some, same_Some}, specs.List.list_any}
+use Rattle.std.proofs.Common.{rules, ◌≡◌, false, List, [], ◌∷◌, ◌++◌, Option, Some, None, option_map, refl, sym, ap, ◌∙◌, subst}
+use Rattle.std.proofs.lemmas.Option.{none-some, same_Some}
 use Rattle.yq_core.{specs.Paths.{Step, changed_at, child_at, node_at, remove_child, within}, specs.Tree.{Node, children_of}}
-use Rattle.yq_core.specs.Anchors.{Name, Anchors, Refers, IsAmong, names_of}
+use Rattle.yq_core.specs.Anchors.{names_of}
 use Rattle.yq_documents.specs.TreeEdits.{at_end}
 use Rattle.yq_places.specs.Placements.{last_step}
-use Rattle.yq_edit_rules.{specs.Conditions.{AreSpared, anchors_in, aliases_in}, specs.SoundRoots.IsSoundRoot}
-use Rattle.yq_edit_rules.{proofs.AfterLaws.end_is_change, proofs.SoundRootLess.remove_keeps, proofs.EditsFitLaws.none_refers}
-use Rattle.yq_semantics.specs.Changes.{refers_to, is_used, is_used_in}
+use Rattle.yq_edit_rules.{specs.SoundRoots.IsSoundRoot, proofs.AfterLaws.end_is_change, proofs.SoundRootLess.remove_keeps}
+use Rattle.yq_edit_rules.proofs.EditsFitLaws.{not_used}
+use Rattle.yq_semantics.specs.Changes.{is_used_in}
 
 -- ---- the last step of a path
 
@@ -30,23 +30,13 @@ above_is (t ∷ init) s root n e = search (rules, none-some, above_is init s)
 
 -- ---- anchors that nobody names
 
-not_used : (a : List ℕ) (gone names : List Name) → list_any (is_used names) gone ≡ false → IsAmong a (anchors_in gone) → IsAmong a (aliases_in names) → ⊥
-not_used a [] names e h r = h
-not_used a (Refers b ∷ gone) names e h r = not_used a gone names e h r
-not_used a (Anchors b ∷ gone) names e (inl same) r =
-    let x = or_parts (list_any (refers_to b) names) (list_any (is_used names) gone) e in none_refers b names x.0 (subst (λ (c : List ℕ). IsAmong c (aliases_in names)) same r)
-not_used a (Anchors b ∷ gone) names e (inr h) r = let x = or_parts (list_any (refers_to b) names) (list_any (is_used names) gone) e in not_used a gone names x.1 h r
-
-spared_of : (gone names : List Name) → list_any (is_used names) gone ≡ false → AreSpared gone [] names
-spared_of gone names e a h r = not_used a gone names e h r
-
 -- ---- an item or entry taken out
 
 pub remove_sound : (path init : List Step) (s : Step) (root n : Node) → IsSoundRoot root → last_step path ≡ Some (init, s) →
     node_at path root ≡ Some n → is_used_in (names_of root) (Some n) ≡ false → IsSoundRoot (changed_at init (within (remove_child s)) root)
 remove_sound path init s root n sound last there free =
     let a = above_is init s root n (subst (λ (x : List Step). node_at x root ≡ Some n) (last_is path init s last) there) in
-    remove_keeps init root a.0 n s sound a.1 a.2 (spared_of (names_of n) (names_of root) free)
+    remove_keeps init root a.0 n s sound a.1 a.2 (not_used (names_of root) (names_of n) free)
 
 pub remove_root : (path init : List Step) (s : Step) (root : Node) → last_step path ≡ Some (init, s) → changed_at init (within (remove_child s)) root ≡ at_end remove_child path root
 remove_root path init s root last = sym (ap (λ (x : List Step). at_end remove_child x root) (last_is path init s last) ∙ end_is_change remove_child init s root)

@@ -113,9 +113,6 @@ module _ (n : ℕ) (s : Step) (ss : List Step) (c : Cut) (e : RowsOfEntry) (ther
   -- ---- on the line of a dash
 
   module _ (free : takes_compact (held e).mark ≡ true) where
-    abbrev item : ℕ
-    item = item_column (mark_column e.row)
-
     abbrev compact : List Segment
     compact = held_put (break_text l.br) w (compact_text (block_value l (item_column w.mark.column) v))
 
@@ -158,7 +155,7 @@ module _ (n : ℕ) (s : Step) (ss : List Step) (c : Cut) (e : RowsOfEntry) (ther
         let a : List ℕ = e.start in
         let b : List ℕ = rows_text e.front [] in
         let d : List ℕ = row_front e.row in
-        let x : List ℕ = block_value l item v in
+        let x : List ℕ = block_value l (item_column (mark_column e.row)) v in
         let shape : a ++ (b ++ (d ++ (32 ∷ (x ++ ((w.white ++ (w.comment ++ w.last)) ++ w.after))))) ≡ ((a ++ b) ++ d) ++ ((32 ∷ x) ++ (w.white ++ (w.comment ++ (w.last ++ (w.after ++ []))))) = simp (append_assoc, append-nil) refl in
         ap (λ u. a ++ (b ++ u)) (after_spelled n s ss c h l (mapping_least n c) v filled f.near line_end dash is_end no_comment none_there no_name)
         ∙ (ap (λ u. a ++ (b ++ (d ++ (32 ∷ (x ++ (line_end ++ u)))))) (sym (following_is n s ss c e there last))

@@ -1,10 +1,11 @@
 -- What is known of what the key or dash of rows holds.
-use Rattle.std.proofs.Common.{◌≡◌, inl, ℕ, ℤ, true, false, cond, ◌&&◌, List, [], ◌∷◌, ◌++◌, length, Option, Some, None, is_some, refl, sym}
-use Rattle.std.{proofs.Common.{ap, ◌∙◌, subst, arith, append_assoc, length-append, rules}, proofs.lemmas.Bool.{false≢true, and_parts}}
+use Rattle.std.proofs.lemmas.Grind.{common_steps}
+use Rattle.std.proofs.Common.{◌≡◌, inl, ℕ, ℤ, true, false, cond, ◌&&◌, List, [], ◌∷◌, ◌++◌, length, Option, Some, is_some, refl, sym, ap}
+use Rattle.std.{proofs.Common.{◌∙◌, subst, arith, append_assoc, length-append, rules}, proofs.lemmas.Bool.{false≢true, and_parts}}
 use Rattle.yq_core.{specs.BlockWritten.break_text, specs.Characters.pairs_returns, specs.Paths.Step}
-use Rattle.yq_core.{specs.Text.{is_break, is_empty, is_line}, specs.Tree.{Node, anchor_of}, specs.Nodes.{node_text, IsFlowNode}}
-use Rattle.yq_outline.{specs.Comments.line_comment, specs.Outline.{IsOpen, Line, Outline, anchored, flatten, value}}
-use Rattle.yq_outline.{specs.Places.content_under, specs.Lines.{content_anchor, head_of, lines_of_rows, row_lines}}
+use Rattle.yq_core.{specs.Text.{is_break, is_empty, is_line}, specs.Tree.anchor_of, specs.Nodes.{node_text, IsFlowNode}}
+use Rattle.yq_outline.{specs.Comments.line_comment, specs.Outline.{IsOpen, Outline, anchored, flatten, value}, specs.Places.content_under}
+use Rattle.yq_outline.specs.Lines.{content_anchor, head_of, lines_of_rows, row_lines}
 use Rattle.yq_row_table.{specs.Exchange.asked_after, specs.Gap.IsBreak, specs.Grammar.{IsContent, IsRow, IsTail, unlimited}}
 use Rattle.yq_row_table.{specs.Rows.{Content, Cut, Row, cut_text, parent_indent, rows_text}, specs.View.{Slices, content_cut, slices}}
 use Rattle.yq_row_table.proofs.CharacterLaws.{pairs_back}
@@ -20,7 +21,6 @@ use Rattle.yq_edit_rules.{proofs.BrokenTails.{other_comment, other_tail, uncomme
 use Rattle.yq_edit_rules.proofs.CommentRowLaws.{cut_spelled, entry_row, line_whole}
 use Rattle.yq_edit_rules.{proofs.HeldPieces.{below_ended, end_agrees, held_spells}, proofs.TailPieces.white_piece}
 use Rattle.yq_edit_laws.{proofs.HeldCarried.{KnowsHeld, first_alone}, proofs.NodeRowLaws.{rest, following_is, mark_node}}
-use Rattle.yq_outline.specs.Outline as outline
 
 -- ---- ends of lines
 
@@ -97,13 +97,7 @@ module _ (n : ℕ) (s : Step) (ss : List Step) (c : Cut) (e : RowsOfEntry) (ther
   headless_there some = search (rules, line_there, head_there, e.row.content, row.content, some, no_rows_there, lines_there, false≢true, open')
 
   named_there : first_alone e.under ≡ false → anchor_of (content_under there.found.line there.found.under) ≡ content_anchor e.row.content
-  named_there beside = go there.found.under refl
-    where
-      open_row : (o : Option Node) (l : Line) (u after : Outline) → IsOpen o (outline.row l u after) → o ≡ None
-      open_row o l u after h = search rules
-
-      go : (u : Outline) → there.found.under ≡ u → anchor_of (content_under there.found.line there.found.under) ≡ content_anchor e.row.content
-      go u is = search (rules, line_there, content_named, row, open_row, open', false≢true, lines_there, value_unnamed)
+  named_there beside = grind (arith, common_steps, line_there, content_named, row, open', false≢true, lines_there, value_unnamed)
 
   module _ (read : read_at (cut_text c) ≡ Some c) (at : rows_of_entry n (s ∷ ss) c ≡ Some e) where
     pairs : pairs_returns ((slices e.row).tail ++ ((slices e.row).raw ++ rows_text e.under (after_entry e))) ≡ true

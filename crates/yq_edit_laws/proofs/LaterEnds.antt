@@ -6,9 +6,9 @@ use Rattle.std.{proofs.lemmas.Option.{none-some, same_Some}, specs.Prelude.⊤}
 use Rattle.yq_core.specs.Paths.{Step, is_here, further}
 use Rattle.yq_core.specs.Collections.{CollPieces, change_item, coll_along, coll_in, collection_put, put_coll, within_items}
 use Rattle.yq_core.specs.Entries.{EntryPieces, entry_pieces_at, path_inside, item_at}
-use Rattle.yq_core.specs.Nodes.{Key, FlowNode, empty, alias, scalar, coll, anchored, Items, none, item, Sep, flow_items_text, node_text}
-use Rattle.yq_core.{specs.Nodes.{sep_text, without_anchor}, specs.Trees.key_content, specs.Tree.key_label}
-use Rattle.yq_core.{proofs.NodeAgain.{key_longer, node_longer, sep_longer}, proofs.PathLaws.then_some}
+use Rattle.yq_core.specs.Nodes.{Key, FlowNode, coll, anchored, Items, none, item, Sep, flow_items_text, node_text, sep_text, without_anchor}
+use Rattle.yq_core.{specs.Trees.key_content, specs.Tree.key_label, proofs.NodeAgain.{key_longer, node_longer, sep_longer}}
+use Rattle.yq_core.proofs.PathLaws.{then_some}
 use Rattle.yq_flow_edits.specs.FlowEdits.{add_item, after_appended, after_last, is_none, put_item}
 use Rattle.yq_edit_laws.specs.PartPuts.{EndsAfter, EndsAs}
 use Rattle.yq_edit_laws.proofs.LaterParts.{Leads, content_within, inside_within, later, leads_part, node_put, part_leads, part_stays}
@@ -116,18 +116,14 @@ last_longer k gap (item j n sep (item j2 n2 sep2 is)) rest = last_longer k gap (
 -- ---- a collection with other items or entries
 
 coll_put : (gap : List ℕ) (is : Items) (node : FlowNode) (rest : List ℕ) (w : CollPieces) → coll_in node rest ≡ Some w → coll_in (put_coll gap is node) rest ≡ Some (record w { gap = gap; items = is })
-coll_put gap is empty rest w e = absurd (none-some _ e)
-coll_put gap is (alias n) rest w e = absurd (none-some _ e)
-coll_put gap is (scalar p) rest w e = absurd (none-some _ e)
 coll_put gap is (coll k g others) rest w e = ap (λ (v : CollPieces). Some (record v { gap = gap; items = is })) (same_Some _ _ e)
 coll_put gap is (anchored n g node) rest w e = coll_put gap is node rest w e
+coll_put gap is _ rest w e = absurd (none-some _ e)
 
 coll_changed : (f : Items → Items) (node : FlowNode) (rest : List ℕ) (w : CollPieces) → coll_in node rest ≡ Some w → coll_in (within_items f node) rest ≡ Some (record w { items = f w.items })
-coll_changed f empty rest w e = absurd (none-some _ e)
-coll_changed f (alias n) rest w e = absurd (none-some _ e)
-coll_changed f (scalar p) rest w e = absurd (none-some _ e)
 coll_changed f (coll k g others) rest w e = ap (λ (v : CollPieces). Some (record v { items = f v.items })) (same_Some _ _ e)
 coll_changed f (anchored n g node) rest w e = coll_changed f node rest w e
+coll_changed f _ rest w e = absurd (none-some _ e)
 
 -- ---- one that ends as another
 

@@ -4,9 +4,9 @@ use Rattle.std.{proofs.Common.{ap, ◌∙◌, arith, length-append}, proofs.lemm
 use Rattle.yq_core.specs.Paths.{Step, is_here, further}
 use Rattle.yq_core.specs.Collections.{CollPieces, change_item, coll_along, coll_in, collection_put, put_coll, within_items}
 use Rattle.yq_core.specs.Entries.{EntryPieces, entry_pieces_at, path_inside, item_at}
-use Rattle.yq_core.specs.Nodes.{Key, FlowNode, empty, alias, scalar, coll, anchored, Items, none, item, flow_items_text, node_text}
-use Rattle.yq_core.{specs.Nodes.{sep_text, without_anchor}, specs.Trees.key_content, specs.Tree.key_label}
-use Rattle.yq_core.{proofs.NodeAgain.{key_longer, node_longer, sep_longer}, proofs.PathLaws.then_some}
+use Rattle.yq_core.specs.Nodes.{Key, FlowNode, coll, anchored, Items, none, item, flow_items_text, node_text, sep_text, without_anchor}
+use Rattle.yq_core.{specs.Trees.key_content, specs.Tree.key_label, proofs.NodeAgain.{key_longer, node_longer, sep_longer}}
+use Rattle.yq_core.proofs.PathLaws.{then_some}
 use Rattle.yq_flow_edits.{specs.FlowEdits.{put_content, put_item, spaced_key}, proofs.ItemPlaces.item_rest}
 use Rattle.yq_edit_laws.proofs.FlowPlacements.{coll_entry}
 
@@ -100,11 +100,9 @@ item_changed k s r f Q (item key n sep is) rest y here there less own_stays =
 
 node_changed : (s r : Step) (f : FlowNode → FlowNode) (Q : EntryPieces → Type 0) (node : FlowNode) (rest : List ℕ) (y : EntryPieces) → path_inside s node rest ≡ Some y → HoldsOf Q (path_inside r node rest) →
     ((u : EntryPieces) → Q u → length u.rest < length (node_text y.node y.rest)) → (Q y → Q (with_node (f y.node) y)) → HoldsOf Q (path_inside r (within_items (change_item s f) node) rest)
-node_changed s r f Q empty rest y here there less own_stays = absurd (none-some _ here)
-node_changed s r f Q (alias n) rest y here there less own_stays = absurd (none-some _ here)
-node_changed s r f Q (scalar p) rest y here there less own_stays = absurd (none-some _ here)
 node_changed s r f Q (coll k gap is) rest y here there less own_stays = item_changed k s r f Q is rest y here there less own_stays
 node_changed s r f Q (anchored n gap node) rest y here there less own_stays = node_changed s r f Q node rest y here there less own_stays
+node_changed s r f Q _ rest y here there less own_stays = absurd (none-some _ here)
 
 -- The items of a collection are others, and a number of bytes at the end of the text stay: what holds of items or entries that end there holds after it, if it
 -- does where that collection is inside them, and where they are inside it.

@@ -5,7 +5,7 @@ use Rattle.std.proofs.lemmas.Bool.{false≢true, eqb-true, and_parts, cases_Bool
 use Rattle.yq_core.{specs.Block.is_tail, specs.Lines.is_hash}
 use Rattle.yq_core.specs.Text.{front, is_white, is_line, is_empty, ends_line, no_white, past_white}
 use Rattle.yq_outline.specs.Comments.{line_comment as comment_in}
-use Rattle.yq_row_table.{specs.Gap.{IsWhite, IsBreak, IsComment}, specs.Grammar.{IsTail, IsContent}}
+use Rattle.yq_row_table.{proofs.NothingLaws.some_after, specs.Gap.{IsWhite, IsBreak, IsComment}, specs.Grammar.{IsTail, IsContent}}
 use Rattle.yq_row_table.{specs.Rows.{Content, Nothing, Inline, Block, Row}, specs.View.{content_cut, slices}}
 use Rattle.yq_row_table.proofs.LineEnds.{white_none, text_line, white_again, after_comment}
 use Rattle.yq_edit_rules.{specs.PathTails.{IsLineTail, tailed}, specs.Rooms.row_shape}
@@ -30,10 +30,6 @@ white_more : (w : List ℕ) → IsWhite w → IsWhite (w ++ 32 ∷ [])
 white_more [] h = (refl, tt)
 white_more (b ∷ w) h = (h.0, white_more w h.1)
 
-some_more : (w : List ℕ) → is_empty (w ++ 32 ∷ []) ≡ false
-some_more [] = refl
-some_more (b ∷ w) = refl
-
 module _ (text tail more : List ℕ) (h : IsTail tail more) (no_breaks : Rattle.yq_core.proofs.Bytes.Each Rattle.yq_core.proofs.WrittenText.no_break text) where
   abbrev white : List ℕ
   white = new_white text h.white h.comment
@@ -52,7 +48,7 @@ module _ (text tail more : List ℕ) (h : IsTail tail more) (no_breaks : Rattle.
       go false = (refl, (refl, no_breaks_none text h.line.break no_breaks))
 
   pub apart : (is_empty (new_comment text) || not (is_empty (new_white text h.white h.comment))) ≡ true
-  apart = search (rules, some_more)
+  apart = search (rules, some_after)
 
   abbrev pub new_tail : IsTail tail_then more
   new_tail = record { white = new_white text h.white h.comment; comment = new_comment text; line = record { break = h.line.break; spelled = refl; blank = blank; as_comment = as_comment; ends = h.line.ends }; apart = apart }

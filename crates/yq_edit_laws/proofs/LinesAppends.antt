@@ -9,9 +9,9 @@ use Rattle.yq_semantics.specs.Operations.{append}
 use Rattle.yq_places.{specs.CollectionEnds.CollectionEnd, specs.PlacedRows.{PlacedPart, placed_document}, specs.RowPieces.upto_dash}
 use Rattle.yq_places.specs.Placements.{LinesIn, RowsOfEntry, Placement, before_entry, after_entry, compact_in, compact_lines, dash_text}
 use Rattle.yq_places.specs.Placements.{entry_placement, is_alone, root, root_lines, rows_of_entry, placement_at}
-use Rattle.yq_edit_rules.{specs.declared.layout.Layout.Layout, specs.CollectionPlaces.IsCollectionEnd, specs.Edits.op_edits}
-use Rattle.yq_edit_rules.{specs.EntryEdits.{block_more, more_lines}, specs.Layouts.layout_of, specs.PiecePuts.after_lines}
-use Rattle.yq_edit_rules.{specs.RowChanges.PutsOne, specs.PlacementLaws.HasItsRows, proofs.AppendPlaces.IsAppendPlace}
+use Rattle.yq_edit_rules.{specs.CollectionPlaces.IsCollectionEnd, specs.Edits.op_edits, specs.EntryEdits.{block_more, more_lines}}
+use Rattle.yq_edit_rules.{specs.Layouts.layout_of, specs.PiecePuts.after_lines, specs.RowChanges.PutsOne, specs.PlacementLaws.HasItsRows}
+use Rattle.yq_edit_rules.proofs.AppendPlaces.{IsAppendPlace}
 use Rattle.yq_edit_laws.{proofs.CollectionIsThere.{end_at, front_there, headless_dash, root_rows_there}, proofs.EntryAdds.AddsEntry}
 use Rattle.yq_edit_laws.proofs.FinalBreaks.{feed_last, last_feed}
 use Rattle.yq_edit_laws.proofs.MoreLaws.{compact_column, compact_end, compact_some, compact_spelled, compact_text, root_end, root_place}
@@ -22,13 +22,10 @@ module _ (m : ℕ) (steps : List Step) (key : List ℕ) (v : Node) (d : Cut) (w 
     (rows : (y : IsCollectionEnd d m place.part steps x) → (y.front ≡ front) × (y.back ≡ back)) (broken : is_empty w.last ≡ false) (ends : x.broken ≡ not (is_empty w.last))
     (spelled : w.before ++ (w.lines ++ w.last) ≡ x.before) (after : w.after ≡ x.after)
     (more : (placement_at m steps d >>= block_more (layout_of m d) (Some key) v) ≡ Some (after_lines w (more_lines (layout_of m d) (Some key) v x.column w.last))) where
-  abbrev l : Layout
-  l = layout_of m d
-
   abbrev lines : List ℕ
-  lines = more_lines l (Some key) v x.column (10 ∷ [])
+  lines = more_lines (layout_of m d) (Some key) v x.column (10 ∷ [])
 
-  more_is : more_lines l (Some key) v x.column w.last ≡ lines
+  more_is : more_lines (layout_of m d) (Some key) v x.column w.last ≡ lines
   more_is = search rules
 
   edited : op_edits (append m steps (Some key) v) d ≡ Some (after_lines w lines)
@@ -56,23 +53,20 @@ module _ (m : ℕ) (d : Cut) (q : PlacedPart) (read : read_at (cut_text d) ≡ S
   abbrev root_w : LinesIn
   root_w = root_lines q r rs
 
-  abbrev own : List ℕ
-  own = after_indent r (rows_text rs [])
-
   abbrev upto : List ℕ
   upto = q.before ++ rows_text q.part.rows []
 
-  parts : upto ≡ root_w.before ++ own
+  parts : upto ≡ root_w.before ++ (after_indent r (rows_text rs []))
   parts = search (rules, append_assoc)
 
   -- a line ends those of a root, if the text has a break before what comes after them
   pub root_last_some : (text : List ℕ) → upto ≡ text ++ (10 ∷ []) → is_empty root_w.last ≡ false
-  root_last_some text ended = last_feed root_w.before own text (root_some m d q read at r rs are single) (sym parts ∙ ended)
+  root_last_some text ended = last_feed root_w.before (after_indent r (rows_text rs [])) text (root_some m d q read at r rs are single) (sym parts ∙ ended)
 
   -- and the other way round
   pub root_text_ended : is_empty root_w.last ≡ false → (text : List ℕ) × (upto ≡ text ++ (10 ∷ []))
   root_text_ended broken =
-      let lf = feed_last own broken in
+      let lf = feed_last (after_indent r (rows_text rs [])) broken in
       (root_w.before ++ lf.0, parts ∙ (ap (λ (t : List ℕ). root_w.before ++ t) lf.1 ∙ sym (append_assoc root_w.before lf.0 (10 ∷ []))))
 
   pub root_adds : (key : List ℕ) (v : Node) → is_empty root_w.last ≡ false → AddsEntry m [] key v d q.part q.part.rows [] r.column upto (q.part.end ++ q.after)

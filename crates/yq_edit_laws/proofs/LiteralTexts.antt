@@ -1,9 +1,8 @@
 -- What literal block scalars hold and how they are written: line breaks alone without a known indentation, pieces of a text.
-use Rattle.std.proofs.Common.{◌≡◌, ◌⊎◌, inl, inr, ℕ, zero, suc, ◌+◌, ◌≤◌, not, ◌&&◌, List, [], ◌∷◌, ◌++◌, replicate, Option, Some, None}
-use Rattle.std.proofs.Common.{Bool, true, false, refl, sym, ap, ◌∙◌, subst, arith, append-nil, eqb-true, rules}
-use Rattle.std.{proofs.lemmas.Bool.{false≢true, and_parts, cases_Bool}, proofs.lemmas.List.Folds.list_all-append}
-use Rattle.std.{specs.List.{list_all, list_any}, specs.Str.{IsUtf8, chars}}
-use Rattle.yq_core.specs.Block.{BlockText, RawLines, AreRaw, IsDetected, IsDigit, IsTextIndent, ends_block}
+use Rattle.std.proofs.Common.{◌≡◌, ◌⊎◌, inl, inr, ℕ, zero, suc, ◌+◌, not, ◌&&◌, List, [], ◌∷◌, ◌++◌, replicate, Bool, true, false, refl}
+use Rattle.std.{proofs.Common.{sym, ap, ◌∙◌, subst, append-nil, eqb-true, rules}, proofs.lemmas.Bool.{false≢true, and_parts, cases_Bool}}
+use Rattle.std.{proofs.lemmas.List.Folds.list_all-append, specs.List.{list_all, list_any}, specs.Str.{IsUtf8, chars}}
+use Rattle.yq_core.specs.Block.{BlockText, RawLines, AreRaw, ends_block}
 use Rattle.yq_core.specs.BlockContent.{block_content, optional_break, folded, literal, text_of_line}
 use Rattle.yq_core.{specs.BlockWritten.{break_text, header_text, indented_text, raw_written, written_line}, specs.Characters.is_text_char}
 use Rattle.yq_core.{specs.Scalar.ScalarText, specs.Text.{ends_line, is_feed, is_line, joined, text_lines, upto}}
@@ -49,15 +48,6 @@ pub known_text : (b : BlockText) → AreRaw b.indent b.raw → list_any (λ x. n
 known_text b raw h = search (rules, cases_Bool, false≢true, no_others, literal_feeds, folded_feeds)
 
 -- ---- its indentation, and what comes after it
-
-detected_least : (least : ℕ) (f : TextIndent) (ls : RawLines) → IsDetected least f ls → least ≤ f.columns
-detected_least least f [] h = subst (λ (x : TextIndent). least ≤ x.columns) (sym h) (omega arith)
-detected_least least f (l ∷ ls) (inl h) = detected_least least f ls h.2
-detected_least least f (l ∷ ls) (inr h) = subst (λ (x : TextIndent). least ≤ x.columns) (sym h.1) h.2
-
-pub indent_least : (least : ℕ) (digit : Option ℕ) (f : TextIndent) (ls : RawLines) → IsDigit digit → IsTextIndent least digit f ls → least ≤ f.columns
-indent_least least None f ls d h = detected_least least f ls h
-indent_least least (Some n) f ls d h = subst (λ (x : TextIndent). least ≤ x.columns) (sym h) (let small = d.0 in omega (arith, small))
 
 pub loose : (keep : Bool) (f : TextIndent) (ls : RawLines) → ends_block keep f ls ≡ true → ends_block false f ls ≡ true
 unfolding ends_block

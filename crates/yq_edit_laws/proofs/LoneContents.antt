@@ -1,11 +1,12 @@
 -- The document in which the node of a value is put in a row that is alone on its line.
-use Rattle.std.proofs.Common.{refl, ◌≡◌, ℕ, eqb, List, [], ◌∷◌, ◌++◌, length, Some, true, false, sym, ap, ◌∙◌, subst, append_assoc, rules}
-use Rattle.std.{proofs.lemmas.Bool.{and_right, false≢true}, proofs.lemmas.Option.same_Some, specs.Str.is_utf8}
+use Rattle.std.proofs.lemmas.Grind.{common_steps}
+use Rattle.std.proofs.Common.{arith, refl, ◌≡◌, ℕ, eqb, List, [], ◌∷◌, ◌++◌, length, Some, true, false, sym, ap, ◌∙◌, subst, append_assoc}
+use Rattle.std.{proofs.Common.rules, proofs.lemmas.Bool.{and_right, false≢true}, proofs.lemmas.Option.same_Some, specs.Str.is_utf8}
 use Rattle.yq_core.{specs.Paths.{Step, changed_at, node_at}, specs.Piece.deeper, specs.Text.is_marker, specs.Tree.Node}
 use Rattle.yq_core.{proofs.Bools.guard_then, specs.Nodes.node_text}
 use Rattle.yq_outline.{specs.Comments.head_comment, specs.Group.{group, is_fine}, specs.Outline.Line}
-use Rattle.yq_outline.{specs.Places.{FoundLine, content_under}, specs.Sound.is_entry_line, proofs.Finding.{FoundNode, path_node}}
-use Rattle.yq_outline.specs.Lines.{lines_of_rows, mark_line, line_mark}
+use Rattle.yq_outline.{specs.Places.{FoundLine, content_under}, proofs.Finding.{FoundNode, path_node}}
+use Rattle.yq_outline.specs.Lines.{lines_of_rows, mark_line}
 use Rattle.yq_row_table.specs.Exchange.{allows_first, asked_after, row_front, with_content}
 use Rattle.yq_row_table.specs.Grammar.{Limit, unlimited, AreRows, IsContent, IsMark, IsRow, limit_after, may_be_alone, no_rows}
 use Rattle.yq_row_table.specs.Rows.{Bare, Content, Row, following_gap, content_text, dashes_text, mark_column, mark_text, parent_indent}
@@ -13,8 +14,7 @@ use Rattle.yq_row_table.{specs.Rows.{rows_text, Part, part_text, Cut, cut_text},
 use Rattle.yq_row_table.{proofs.PlaceLaws.row_front-append, proofs.seams.FrontSeams.after_row_some, proofs.seams.SeamLaws.rows_text-append}
 use Rattle.yq_row_table.{proofs.splices.PartPlaces.part_ends, proofs.splices.SpliceTexts.{own_gap, own_end}}
 use Rattle.yq_documents.{specs.Documents.{document_parts, lead_of}, specs.Reading.{part_outline, read_at, root_of}}
-use Rattle.yq_documents.{specs.Ready.begins_no_node, specs.TreeEdits.replaced_node, proofs.PartRows.each, proofs.ReadLaws.text_takes}
-use Rattle.yq_documents.specs.PartNumbers.{part_number}
+use Rattle.yq_documents.{specs.TreeEdits.replaced_node, proofs.PartRows.each, proofs.ReadLaws.text_takes, specs.PartNumbers.part_number}
 use Rattle.yq_places.{specs.RowPaths.IsReadable, proofs.RemovalLines.front_some, proofs.RowPathLaws.document_fine}
 use Rattle.yq_places.{proofs.RunSpans.rows_then, proofs.HeadSpanLaws.may_follow}
 use Rattle.yq_edit_rules.{specs.Changed.{IsChanged, put_document}, specs.Contents.{TakesContent, recontent}}
@@ -131,11 +131,4 @@ module _ (c : Cut) (n : ℕ) (p : Part) (old : IsDocumentPart (cut_text c) c n p
   same_block = search (rules, there, last_lines, no_node_first)
 
   pub rooted : steps ≡ [] → is_block_root p ≡ false
-  rooted e =
-      let all : lines_of_rows p.rows ≡ above ++ (line r.content ∷ lines_of_rows back) = ap lines_of_rows rows_are ∙ last_lines front r back r.content in
-      ap begins_no_node all ∙ first above (line r.content) (lines_of_rows back) (sym (ap length all) ∙ (subst (λ ss. LeadsToLone p ss front r) e leads).count) (ap (λ m. is_entry_line (line_mark m)) mark)
-    where
-      first : (xs : List Line) (l : Line) (ls : List Line) → length (xs ++ (l ∷ ls)) ≡ 1 → is_entry_line l.mark ≡ false → begins_no_node (xs ++ (l ∷ ls)) ≡ false
-      first [] l ls e m = m
-      first (x ∷ []) l ls e m = absurd (cc)
-      first (x ∷ (y ∷ xs)) l ls e m = absurd (cc)
+  rooted e = grind (arith, common_steps, last_lines)

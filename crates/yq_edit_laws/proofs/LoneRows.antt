@@ -1,4 +1,5 @@
 -- Rows that are alone on their lines: under a key or dash, and as roots.
+use Rattle.std.proofs.lemmas.Grind.{common_steps}
 use Rattle.std.proofs.Common.{option_map, append-nil, ◌≡◌, inl, inr, ℕ, ◌≤◌, true, false, List, [], ◌∷◌, ◌++◌, length, Option, Some, None}
 use Rattle.std.proofs.Common.{refl, sym, ap, ◌∙◌, subst, arith, append_assoc, length-append, rules}
 use Rattle.std.{proofs.lemmas.Bool.{and_parts, false≢true}, proofs.lemmas.Option.same_Some}
@@ -90,11 +91,7 @@ module _ (n : ℕ) (s : Step) (ss : List Step) (v : Node) (c : Cut) (read : read
   below = let old = (under_even (level_or 0 (part_outline there.part)) (part_outline there.part) s ss there.found even there.is).1 in (old.1, old.3.0, old.3.2)
 
   no_head : there.found.line.head ≡ None
-  no_head = go there.found.under first below.0
-    where
-      go : (o : Outline) → one.0 ∷ lines_of_rows rs ≡ flatten o → IsOpen there.found.line.head o → there.found.line.head ≡ None
-      go end e h = absurd (let no : one.0 ∷ lines_of_rows rs ≡ [] = e in cc)
-      go (row l u a) e h = headless there.found.line.head l u a h
+  no_head = grind (arith, common_steps, there, first, below, one, headless)
 
   leads : LeadsBelow d.part s ss front r
   leads = record {

@@ -76,9 +76,7 @@ left_core_text before core x tail rest = search (rules, put_core, append-nil, ap
 -- an anchor may come before rows that begin with an entry or item
 entry_free : (a : List ℕ) (above : List (List ℕ)) (column : ℕ) (ns : List ℕ) (m : rows.RowMark) (x : Content) (ls : List Line) → is_entry m ≡ true → IsFree (Some a) (lines_from above column ns m x ++ ls)
 entry_free a above column [] rows.Bare x ls e = absurd (false≢true e)
-entry_free a above column [] rows.Dash x ls e = tt
-entry_free a above column [] (rows.Key key colon) x ls e = tt
-entry_free a above column (n ∷ ns) m x ls e = tt
+entry_free a above column _ _ x ls e = tt
 
 pub laid_free : (a : Option (List ℕ)) (column : ℕ) (rs : List Row) (rest : List ℕ) → AreLaid column rs rest → IsFree a (lines_of_rows rs)
 laid_free a column rs rest h1 = search (rules, entry_free)

@@ -1,7 +1,7 @@
 -- One more item or entry that fits has a place in a flow collection, or at the end of a block collection.
 use Rattle.std.proofs.Common.{rules, ◌≡◌, ◌⊎◌, inl, inr, ℕ, Bool, true, false, cond, eqb, eqb-true, List, [], ◌∷◌, length, Option, Some}
 use Rattle.std.{proofs.Common.{None, option_map, refl, sym, ap, ◌∙◌, subst}, proofs.lemmas.Bool.{cond-false, cond-true, false≢true}}
-use Rattle.std.{proofs.lemmas.Option.{none-some, same_Some}, specs.List.slice_get, specs.Option.option_or, specs.Prelude.is_some}
+use Rattle.std.{proofs.lemmas.Option.{none-some, same_Some}, specs.List.slice_get, specs.Prelude.is_some}
 use Rattle.yq_core.{specs.Answers.◌>>=◌, specs.Paths.{Step, node_at}, specs.Text.is_empty, specs.Collections.CollPieces}
 use Rattle.yq_core.{specs.Nodes.{IsFlowNode, FlowNode, node_text}, specs.Trees.node_head}
 use Rattle.yq_outline.{specs.Outline.{Line, Outline, flatten}, specs.Places.{FoundLine, find}, specs.Positions.has_no_mark}
@@ -10,25 +10,23 @@ use Rattle.yq_row_table.{specs.Exchange.asked_after, specs.Grammar.{IsContent, I
 use Rattle.yq_row_table.specs.Rows.{Content, Nothing, Inline, Block, Cut, Part, Row, cut_text, parent_indent, rows_text}
 use Rattle.yq_row_table.specs.View.{anchor_cut, content_cut, slices}
 use Rattle.yq_documents.{specs.Documents.document_parts, specs.Reading.{part_outline, read_at, root_of}}
-use Rattle.yq_places.{specs.FlowNodes.{find_head, flow_collection}, specs.PlacedRows.PlacedPart}
+use Rattle.yq_places.{proofs.PlacedPartLaws.placed_is, specs.FlowNodes.{find_head, flow_collection}, specs.PlacedRows.PlacedPart}
 use Rattle.yq_places.specs.Placements.{RowsOfEntry, Placement, after_entry, past_mark, below, beside, entry_placement, held, is_alone}
 use Rattle.yq_places.specs.Placements.{root_placement, placement_at}
-use Rattle.yq_edit_rules.{specs.Siblings.{HasEntries, IsCollectionAt, IsEntry, NodeLines}, specs.PlacementLaws.HasItsRows}
-use Rattle.yq_edit_rules.{proofs.NodeLineLaws.lines_found, proofs.PlacementMarks.{even_there, row_there, under_it}}
-use Rattle.yq_edit_rules.{proofs.PlacementRows.rows_located, proofs.UnderLaws.{line_is, under_is}, specs.declared.layout.Layout.Layout}
-use Rattle.yq_edit_rules.{specs.EditLaws.AppendHasEdit, specs.EntryEdits.block_more, specs.Edits.appended}
-use Rattle.yq_edit_rules.{specs.FlowParts.{flow_more, takes_key}, specs.Layouts.layout_of}
+use Rattle.yq_edit_rules.{proofs.ApartLaws.block_some, specs.Siblings.{HasEntries, IsCollectionAt, IsEntry, NodeLines}}
+use Rattle.yq_edit_rules.{specs.PlacementLaws.HasItsRows, proofs.NodeLineLaws.lines_found}
+use Rattle.yq_edit_rules.{proofs.PlacementMarks.{even_there, row_there, under_it}, proofs.PlacementRows.rows_located}
+use Rattle.yq_edit_rules.{proofs.UnderLaws.{line_is, under_is}, specs.declared.layout.Layout.Layout, specs.EditLaws.AppendHasEdit}
+use Rattle.yq_edit_rules.{specs.EntryEdits.block_more, specs.Edits.appended, specs.FlowParts.{flow_more, takes_key}}
+use Rattle.yq_edit_rules.specs.Layouts.{layout_of}
 use Rattle.yq_semantics.specs.Fits.{Takes}
 use Rattle.yq_text.specs.Script.{Segment}
 use Rattle.yq_edit_laws.{proofs.FlowHeldNodes.{collection_cases, FlowContent as Holds, held as held_in}, proofs.DocumentParts.part_of}
-use Rattle.yq_edit_laws.{proofs.FlowHeldLines.flow_there, proofs.PlacementExists.{placed_there, rows_there}}
+use Rattle.yq_edit_laws.{proofs.FlowHeldLines.flow_there, proofs.PlacementExists.rows_there, proofs.RemoveExists.second_there}
 use Rattle.yq_core.specs.Tree as tree
 use Rattle.yq_outline.specs.Outline as outlines
 
 -- ---- lines of items or entries
-
-none_there : (o : Outline) → HasEntries o → [] ≡ flatten o → ⊥
-none_there o h e = search rules
 
 first_is : (o : Outline) (l : Line) (ls : List Line) → HasEntries o → l ∷ ls ≡ flatten o → IsEntry l.mark
 first_is o l ls h e = search rules
@@ -53,11 +51,11 @@ head_bare flow spaces d node rest h e = search (rules, none-some, false≢true)
 
 module _ (l : Layout) (key : Option (List ℕ)) (v : tree.Node) where
   below_put : (e : RowsOfEntry) (us : List Row) (o : Outline) → HasEntries o → lines_of_rows us ≡ flatten o → IsPut l key v (below e us)
-  below_put e [] o block lines = absurd (none_there o block lines)
+  below_put e [] o block lines = absurd (block_some o block (sym lines))
   below_put e (r ∷ rs) o block lines = (_, ap (block_more l key v) (cond-false _ _ _ (not_alone r rs o block lines)))
 
   root_put : (d : PlacedPart) (rs : List Row) (o : Outline) → HasEntries o → lines_of_rows rs ≡ flatten o → IsPut l key v (root_placement d rs)
-  root_put d [] o block lines = absurd (none_there o block lines)
+  root_put d [] o block lines = absurd (block_some o block (sym lines))
   root_put d (r ∷ rs) o block lines = (_, ap (block_more l key v) (cond-false _ _ _ (not_alone r rs o block lines)))
 
   -- after a mark, where no head is written
@@ -90,7 +88,7 @@ module _ (l : Layout) (key : Option (List ℕ)) (v : tree.Node) where
   block_put : (n : ℕ) (steps : List Step) (c : Cut) (p : Part) (h : NodeLines) → read_at (cut_text c) ≡ Some c → slice_get (document_parts c) n ≡ Some p → IsCollectionAt steps (part_outline p) h →
       (ss : List Segment) × ((placement_at n steps c >>= block_more l key v) ≡ Some ss)
   block_put n [] c p h read there at =
-      let d = placed_there c n p there in
+      let d = placed_is n c p there in
       let own : part_outline p ≡ h.lines = ap (λ (z : NodeLines). z.lines) (same_Some _ _ at.place_is) in
       let lines : lines_of_rows d.0.part.rows ≡ flatten h.lines = ap (λ (q : Part). lines_of_rows q.rows) d.2 ∙ (sym (flatten-group (lines_of_rows p.rows)) ∙ ap flatten own) in
       let w = root_put d.0 d.0.part.rows h.lines at.block lines in
@@ -116,10 +114,6 @@ bracket_takes key w e = search rules
 
 -- ---- either
 
-or_second : (a b : Option (List Segment)) (ss : List Segment) → b ≡ Some ss → (us : List Segment) × (option_or a b ≡ Some us)
-or_second None b ss e = (ss, e)
-or_second (Some us) b ss e = (us, refl)
-
 pub takers_have_edit : AppendHasEdit
 takers_have_edit n steps key v c read fits =
     let p = part_of c n fits.0 fits.1 in
@@ -132,5 +126,6 @@ takers_have_edit n steps key v c read fits =
     go p there at x holds takes (inl y) =
         let w = flow_there c n steps x (record { read = read; part = p; there = there; line = y.0.0; rest = y.0.1; found = y.1; at = (fits.2.2.0, at, holds) }) in
         let own : takes_key w.0.close key ≡ true = bracket_takes key w.0 (ap (λ (z : Holds). z.0) w.2 ∙ takes) in
-        or_second (placement_at n steps c >>= block_more (layout_of n c) key v) (flow_collection n steps c >>= flow_more (cut_text c) key v) _ (ap (λ (o : Option CollPieces). o >>= flow_more (cut_text c) key v) w.1 ∙ cond-true _ _ _ own)
+        second_there (placement_at n steps c >>= block_more (layout_of n c) key v) (flow_collection n steps c >>= flow_more (cut_text c) key v)
+        (_, ap (λ (o : Option CollPieces). o >>= flow_more (cut_text c) key v) w.1 ∙ cond-true _ _ _ own)
     go p there at x holds takes (inr b) = search (rules, block_put (layout_of n c) key v n steps c p b.0 read there b.1)

@@ -1,6 +1,10 @@
 -- One item or entry more at the end of a block collection: what is put there reads as the documents after the operation.
-use Rattle.std.proofs.Common.{rules, inl, inr, ◌⊎◌, ◌≡◌, ℕ, zero, suc, ◌<◌, ◌≤◌, Bool, true, false, cond, eqb, not, List, [], ◌∷◌, ◌++◌}
-use Rattle.std.proofs.Common.{length, drop, replicate, take, Option, Some, refl, sym, ap, ◌∙◌, subst, arith, append_assoc, append-nil}
+use Rattle.yq_edit_laws.{proofs.DashNodes.dashes_from, proofs.CollectionRows.{EndIn, past_front, text_broken}}
+use Rattle.yq_edit_laws.proofs.CollectionIsThere.{are, begins_after, begins_under, end_at, ends_there, headless_dash, headless_mark}
+use Rattle.yq_edit_laws.{proofs.CollectionIsThere.root_ends, proofs.FinalBreaks.{entry_some, mark_some}}
+use Rattle.yq_edit_laws.proofs.AppendInside.{IsPutAt, edit_at, held_put_at, lines_put_at}
+use Rattle.std.proofs.Common.{rules, inl, inr, ◌⊎◌, ◌≡◌, ℕ, suc, ◌<◌, ◌≤◌, Bool, true, false, cond, eqb, not, List, [], ◌∷◌, ◌++◌, length}
+use Rattle.std.proofs.Common.{drop, replicate, take, Option, Some, refl, sym, ap, ◌∙◌, subst, arith, append_assoc, append-nil}
 use Rattle.std.{proofs.lemmas.Bool.{cases_lt, cond-false, eqb-true, eqb-false}, proofs.lemmas.Option.{none-some, same_Some}}
 use Rattle.yq_core.{specs.BlockWritten.break_text, specs.Paths.Step, specs.Text.is_empty, specs.Tree.Node, proofs.Bools.bind_some}
 use Rattle.yq_row_table.{specs.Exchange.row_front, specs.Grammar.{AreDashes, AreRows, IsRow, Limit, unlimited}}
@@ -23,10 +27,6 @@ use Rattle.yq_edit_rules.{proofs.PlacementRows.rows_located, specs.EditLaws.{IsE
 use Rattle.yq_edit_rules.{specs.EntryEdits.{entry_lines, more_at, after_held, more_lines, block_more}, specs.Layouts.layout_of}
 use Rattle.yq_edit_rules.{specs.PiecePuts.after_lines, proofs.AppendPlaces.IsAppendPlace}
 use Rattle.yq_edit_rules.{proofs.CommentRowLaws.{entry_is_row, entry_row, rows_front}, proofs.HeldLaws.held_spelled}
-use Rattle.yq_edit_laws.proofs.CollectionRows.{EndIn, past_front, text_broken}
-use Rattle.yq_edit_laws.proofs.CollectionIsThere.{are, begins_after, begins_under, end_at, ends_there, headless_dash, headless_mark}
-use Rattle.yq_edit_laws.{proofs.CollectionIsThere.root_ends, proofs.FinalBreaks.{entry_some, mark_some}}
-use Rattle.yq_edit_laws.proofs.AppendInside.{IsPutAt, edit_at, held_put_at, lines_put_at}
 
 -- Segments put one more item or entry at the end of a block collection.
 abbrev IsMore : ℕ → List Step → Option (List ℕ) → Node → Cut → List Segment → Type 0
@@ -91,14 +91,9 @@ module _ (n : ℕ) (s : Step) (ss : List Step) (key : Option (List ℕ)) (v : No
   dashed (m ∷ ns) [] limit rest h k d = mark_some e.row.mark e.row.content rest _ h.mark d.1
   dashed (m ∷ ns) (q ∷ ms) limit rest h k d = refl
 
-  past : (k : ℕ) (ns : List ℕ) → k < length ns → (m : ℕ) × (ms : List ℕ) × (drop k ns ≡ m ∷ ms)
-  past k [] h = absurd (omega (arith, h))
-  past zero (m ∷ ns) h = (m, ns, refl)
-  past (suc k) (m ∷ ns) h = past k ns (omega (arith, h))
-
   dash_some : (k : ℕ) (ns : List ℕ) → k < length ns → AreDashes ns e.row.mark → {l : Limit} {rest : List ℕ} → IsRow l e.row rest → is_empty (past_dash (drop k ns) (after_dashes e.row (rows_text e.under []))) ≡ false
   dash_some k ns h d {l} {rest} row =
-      let x = past k ns h in
+      let x = dashes_from k ns h in
       ap (λ us. is_empty (past_dash us (after_dashes e.row (rows_text e.under [])))) x.2
       ∙ some_after (replicate x.0 32) (dashes_text x.1 (after_dashes e.row (rows_text e.under []))) (dashed ns x.1 l rest row (omega (arith, h)) d)
 

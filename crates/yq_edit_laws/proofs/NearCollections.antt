@@ -1,10 +1,11 @@
 -- Collections to which steps lead in a node, each item or entry found on its own.
-use Rattle.std.proofs.Common.{rules, ◌≡◌, ◌-◌, ◌<◌, ◌≤◌, List, [], ◌∷◌, Option, Some, None, Bool, true, false, cond, drop, length, map}
-use Rattle.std.{proofs.Common.{slice_index_or, take, arith, sym, ap, ◌∙◌, subst, take_all}, proofs.lemmas.Option.{none-some, same_Some}}
+use Rattle.std.proofs.lemmas.Grind.{common_steps}
+use Rattle.std.proofs.Common.{rules, ◌≡◌, ◌-◌, ◌<◌, ◌≤◌, List, [], ◌∷◌, Option, Some, None, true, false, drop, length, map, slice_index_or}
+use Rattle.std.{proofs.Common.{take, arith, sym, ap, ◌∙◌, take_all}, proofs.lemmas.Option.{none-some, same_Some}}
 use Rattle.std.proofs.lemmas.Bool.{false≢true}
 use Rattle.yq_core.{specs.Answers.◌>>=◌, specs.Entries.{PlacedEntry, flow_part_at, parts_of, placed_entry_at, tree_step}}
-use Rattle.yq_core.{specs.Keys.{EachHasUniqueKeys, HasUniqueKeys}, specs.Paths.{Step, further, is_here}, specs.Tree.key_label}
-use Rattle.yq_core.{specs.Places.{Parts, Placed, end, part}, specs.Trees.{parts_tree, placed_tree, unplaced_key}}
+use Rattle.yq_core.{specs.Keys.{EachHasUniqueKeys, HasUniqueKeys}, specs.Paths.{Step, further}, specs.Places.{Parts, Placed, end, part}}
+use Rattle.yq_core.specs.Trees.{parts_tree, placed_tree}
 use Rattle.yq_places.specs.FlowViews.{following_anchor, collection_along, collection_of}
 use Rattle.yq_edit_laws.specs.NearParts.{IsUniqueNode, is_collection}
 use Rattle.yq_core.specs.declared.path.Step as declared
@@ -23,11 +24,7 @@ apart (x ∷ ss) s some at = (λ i. sym at i ∷ sym (take_all (length (x ∷ ss
 -- an item or entry of a node without a key twice has none
 unique_part : (s : Step) (ps : Parts) (e : PlacedEntry) → flow_part_at s ps ≡ Some e → EachHasUniqueKeys (parts_tree ps) → HasUniqueKeys (placed_tree e.1)
 unique_part s end e at h = absurd (none-some _ at)
-unique_part s (part key n ps) e at h = go (is_here s (key_label (unplaced_key key))) at h.0 (λ there. unique_part (further s) ps e there h.1)
-  where
-    go : (b : Bool) → cond b (Some (key, n)) (flow_part_at (further s) ps) ≡ Some e → HasUniqueKeys (placed_tree n) → (flow_part_at (further s) ps ≡ Some e → HasUniqueKeys (placed_tree e.1)) → HasUniqueKeys (placed_tree e.1)
-    go true here own again = subst (λ (x : PlacedEntry). HasUniqueKeys (placed_tree x.1)) (same_Some _ _ here) own
-    go false there own again = again there
+unique_part s (part key n ps) e at h = grind (arith, common_steps, same_Some, unique_part (further s) ps e)
 
 parts_unique : (p : Placed) → IsUniqueNode p → (s : Step) (e : PlacedEntry) → flow_part_at s (parts_of p) ≡ Some e → HasUniqueKeys (placed_tree e.1)
 parts_unique p h s e at = search (rules, none-some, unique_part)

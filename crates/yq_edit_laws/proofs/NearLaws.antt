@@ -1,11 +1,11 @@
 -- What each operation puts is near.
-use Rattle.std.proofs.Common.{rules, ◌≡◌, ◌⊎◌, inl, inr, ℕ, ◌≤◌, Bool, true, false, cond, eqb, List, [], ◌∷◌, length, Option, Some, None}
+use Rattle.std.proofs.lemmas.Grind.{common_steps}
+use Rattle.std.proofs.Common.{arith, rules, ◌≡◌, ◌⊎◌, inl, inr, ℕ, ◌≤◌, Bool, true, false, cond, List, [], ◌∷◌, length, Option, Some, None}
 use Rattle.std.{proofs.Common.{option_map, refl, subst, ap, sym, ◌&&◌, ◌++◌, ◌∙◌, append_assoc, append-nil}, specs.Prelude.⊤}
 use Rattle.std.{proofs.lemmas.Option.{none-some, same_Some}, specs.Option.option_or, proofs.lemmas.Bool.or_parts}
-use Rattle.yq_core.{specs.Answers.◌>>=◌, specs.Paths.Step, specs.Scalar.ScalarText, specs.Tree.Node, specs.Writable.can_write}
-use Rattle.yq_core.{specs.Written.double, specs.declared.style.Place.TheVariants.Block as InBlock}
-use Rattle.yq_core.{specs.declared.style.Style.TheVariants.Literal, proofs.Bools.{bind_some, at_byte}, specs.Collections.CollPieces}
-use Rattle.yq_core.{specs.NodesWritten.{flow_key, flow_of}, specs.Text.{NoneIn, ends_line, front, is_empty, is_feed, is_return, is_white}}
+use Rattle.yq_core.{specs.Answers.◌>>=◌, specs.Paths.Step, specs.Scalar.ScalarText, specs.Tree.Node, proofs.Bools.{bind_some, at_byte}}
+use Rattle.yq_core.{specs.Collections.CollPieces, specs.NodesWritten.{flow_key, flow_of}}
+use Rattle.yq_core.specs.Text.{NoneIn, ends_line, front, is_empty, is_feed, is_return, is_white}
 use Rattle.yq_text.{specs.Limit.text_limit, specs.Script.{Segment, from_first, keep, new_text}}
 use Rattle.yq_row_table.{specs.Rows.{Cut, Row, cut_text, parent_indent, rows_text}, specs.Exchange.asked_after}
 use Rattle.yq_row_table.{specs.Gap.{IsComment, IsWhite}, specs.Grammar.{IsRow, IsTail, unlimited}, specs.View.slices}
@@ -18,16 +18,15 @@ use Rattle.yq_places.specs.Placements.{held, last_step, no_rows, rows_of_entry, 
 use Rattle.yq_places.{proofs.PrintedTexts.map_some, specs.CommentPlaces.{LineEnd, end_in_line}, specs.PrintedLines.last_break}
 use Rattle.yq_places.proofs.LineEndLaws.{line_tail}
 use Rattle.yq_semantics.{specs.Fits.Fits, specs.Operations.{replace, append, remove, line_comment, head_comment}, specs.Rooms.room_of}
-use Rattle.yq_edit_rules.{specs.declared.layout.Layout.Layout, specs.CommentEdits.{comment_put, head_comment_put, line_comment_put}}
+use Rattle.yq_edit_rules.{specs.declared.layout.Layout.Layout, specs.CommentEdits.{head_comment_put, line_comment_put}}
 use Rattle.yq_edit_rules.specs.Edits.{part_removed, replace_segments, rows_or_sole, sole_removed}
 use Rattle.yq_edit_rules.specs.EntryEdits.{block_more, one_removed}
 use Rattle.yq_edit_rules.{specs.FlowParts.{flow_more, flow_put, flow_removed, flow_segments, takes_key}, specs.Layouts.layout_of}
 use Rattle.yq_edit_rules.specs.Removing.{first_removed, rows_removed}
-use Rattle.yq_edit_rules.specs.ReplaceEdits.{block_put, has_text, held_put, literal_put, block_scalar_put, string_put, value_put}
-use Rattle.yq_edit_rules.{specs.ReplaceEdits.line_break, specs.Replacing.keeps_scalar}
-use Rattle.yq_edit_rules.{specs.WrittenValues.{Written, compact_text, inline, lines}, specs.PlacementLaws.HasItsRows}
-use Rattle.yq_edit_rules.{proofs.PlacementMarks.row_there, proofs.PlacementRows.rows_located, proofs.BreakLaws.{IsLfOrCrLf, last_is}}
-use Rattle.yq_edit_rules.proofs.HeldPieces.{break_cases, end_agrees}
+use Rattle.yq_edit_rules.specs.ReplaceEdits.{block_put, has_text, held_put, block_scalar_put, string_put, value_put, line_break}
+use Rattle.yq_edit_rules.{specs.Replacing.keeps_scalar, specs.WrittenValues.{Written, compact_text, inline, lines}}
+use Rattle.yq_edit_rules.{specs.PlacementLaws.HasItsRows, proofs.PlacementMarks.row_there, proofs.PlacementRows.rows_located}
+use Rattle.yq_edit_rules.{proofs.BreakLaws.{IsLfOrCrLf, last_is}, proofs.HeldPieces.{break_cases, end_agrees}}
 use Rattle.yq_edit_laws.{specs.TouchedRanges.{AreInLines, EditsAreNear, IsLocalEdit, is_one_line}, proofs.RemovingLaws.rows_near}
 
 -- ---- what is kept after the head of a key or dash is a part of its line
@@ -96,15 +95,10 @@ InLines ss = AreInLines [] (from_first ss)
 
 held_near : (br : List ℕ) (h : Held) (w : Written) → IsInLine h → InLines (held_put br h w)
 held_near br h (inline t) k = (nothing_line, (k.ends, (nothing_line, tt)))
-held_near br h (compact_text t) k = (nothing_line, (k.ends, (nothing_line, tt)))
-held_near br h (lines t) k = (nothing_line, (k.ends, (nothing_line, tt)))
+held_near br h _ k = (nothing_line, (k.ends, (nothing_line, tt)))
 
 string_near : (br : List ℕ) (h : Held) (indent : ℕ) (s : ScalarText) → IsInLine h → InLines (string_put br h indent s)
-string_near br h indent s k = go (can_write s Literal InBlock)
-  where
-    go : (b : Bool) → InLines (cond b (literal_put br h indent s.text) (held_put br h (inline (double s.text))))
-    go true = (nothing_line, (k.broken, (nothing_line, tt)))
-    go false = held_near br h (inline (double s.text)) k
+string_near br h indent s k = grind (arith, common_steps, nothing_line, held_near)
 
 block_near : (br : List ℕ) (h : Held) (w : Written) → IsInLine h → InLines (block_put br h w)
 block_near br h (inline t) k = held_near br h (inline t) k
@@ -159,11 +153,7 @@ more_near : (l : Layout) (key : Option (List ℕ)) (v : Node) (t : Placement) (s
 more_near l key v t ss is = search (rules, none-some, same_Some, nothing_line)
 
 line_near : (text : List ℕ) (e : RowsOfEntry) (ss : List Segment) → line_comment_put text e ≡ Some ss → InLines ss
-line_near text e ss = go (eqb e.line (length e.row.dashes))
-  where
-    go : (b : Bool) → cond b (Some (comment_put text (held e))) None ≡ Some ss → InLines ss
-    go true is = subst InLines (same_Some _ _ is) (search (rules, nothing_line))
-    go false is = absurd (none-some _ is)
+line_near text e ss = grind (arith, common_steps, same_Some, nothing_line, none-some)
 
 head_near : (br text : List ℕ) (e : RowsOfEntry) (ss : List Segment) → head_comment_put br text e ≡ Some ss → InLines ss
 head_near br text e ss = search (rules, same_Some, nothing_line, none-some)

@@ -3,7 +3,7 @@ use Rattle.std.proofs.Common.{◌≡◌, ℕ, ◌+◌, ◌≤◌, Bool, true, fa
 use Rattle.std.proofs.lemmas.List.{length-append}
 use Rattle.yq_core.specs.Text.{is_empty}
 use Rattle.yq_row_table.specs.Exchange.{row_front, with_content}
-use Rattle.yq_row_table.specs.Rows.{Content, content_text, Row, after_dashes, following_gap, after_indent, dashes_text, print_row}
+use Rattle.yq_row_table.specs.Rows.{Content, content_text, Row, after_dashes, after_indent, dashes_text, print_row}
 use Rattle.yq_row_table.{specs.View.{content_cut, slices}, proofs.PlaceLaws.{dashes_then, row_front-append}}
 use Rattle.yq_row_table.{proofs.seams.JoinLaws.dashes_text-append, proofs.SliceLaws.content_slices, specs.Items.rows_items}
 use Rattle.yq_places.specs.RowPieces.{anchor_before, space_before}
@@ -15,18 +15,7 @@ own_space_lead r =
     let x = content_cut r.content in
     let more : List ℕ = x.3 ++ (x.4 ++ (x.5 ++ [])) in
     let text : content_text r.content [] ≡ x.0 ++ (x.1 ++ (x.2 ++ more)) = sym (content_slices r.content []) in
-    omega (
-      arith,
-      ap length (row_front-append r []),
-      ap length text,
-      length-append (row_front r) (content_text r.content []),
-      length-append x.0 (x.1 ++ (x.2 ++ more)),
-      length-append x.1 (x.2 ++ more),
-      length-append x.2 more,
-      length-append (row_front r) (anchor_before (slices r) ++ space_before (slices r)),
-      length-append (anchor_before (slices r)) (space_before (slices r)),
-      spaced (is_empty x.1) x.0 x.1 x.2,
-    )
+    omega (arith, ap length (row_front-append r []), ap length text, length-append {A = ℕ}, spaced (is_empty x.1) x.0 x.1 x.2)
   where
     spaced : (b : Bool) (p q r : List ℕ) → length (cond b [] (p ++ q)) + length (cond b p r) ≤ length p + (length q + length r)
     spaced true p q r = omega arith
@@ -46,15 +35,7 @@ upto_long (at_dash {r} {ns} n ms is) =
     let more : List ℕ = replicate n 32 ++ dashes_text ms (after_dashes r []) in
     let own : after_indent r [] ≡ dashes_text ns (45 ∷ []) ++ more =
     ap (λ ds. dashes_text ds (after_dashes r [])) is ∙ (dashes_text-append ns (n ∷ ms) (after_dashes r []) ∙ dashes_then ns (45 ∷ []) more) in
-    omega (
-      arith,
-      ap length own,
-      length-append (dashes_text ns (45 ∷ [])) more,
-      length-append r.gap (following_gap r []),
-      length-append (replicate r.column 32) (after_indent r []),
-      length-append r.gap (replicate r.column 32 ++ dashes_text ns (45 ∷ [])),
-      length-append (replicate r.column 32) (dashes_text ns (45 ∷ [])),
-    )
+    omega (arith, ap length own, length-append {A = ℕ})
 
 -- the text of a row that comes after others begins with what comes before a place on its line
 pub first_lead : (b f p before more lead : List ℕ) → b ++ (f ++ p) ≡ before ++ more → before ≡ (b ++ f) ++ lead → length lead ≤ length p

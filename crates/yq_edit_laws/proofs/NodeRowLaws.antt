@@ -45,9 +45,7 @@ entry_after : (above : List (List ℕ)) (column : ℕ) (ns : List ℕ) (m : rows
 entry_after above column [] m x more outline.end entry e = absurd (cc)
 entry_after above column (n ∷ ns) m x more outline.end entry e = absurd (cc)
 entry_after above column [] rows.Bare x more (outline.row l u after) entry e = absurd (false≢true entry)
-entry_after above column [] rows.Dash x more (outline.row l u after) entry e = subst (λ (k : Line). IsEntry k.mark) (head-eq_of_cons-eq e) tt
-entry_after above column [] (rows.Key key colon) x more (outline.row l u after) entry e = subst (λ (k : Line). IsEntry k.mark) (head-eq_of_cons-eq e) tt
-entry_after above column (n ∷ ns) m x more (outline.row l u after) entry e = subst (λ (k : Line). IsEntry k.mark) (head-eq_of_cons-eq e) tt
+entry_after above column _ _ x more (outline.row l u after) entry e = subst (λ (k : Line). IsEntry k.mark) (head-eq_of_cons-eq e) tt
 
 pub entries_under : {s r : Row} (u : IsUpto s r) (under : List Row) (o : Outline) → is_entry r.mark ≡ true → length s.dashes < length r.dashes → (lines_upto u under).0 ≡ flatten o → HasEntries o
 unfolding lines_upto
@@ -131,8 +129,7 @@ module _ (doc : ℕ) (s : Step) (ss : List Step) (c : Cut) (h : NodeRows doc s s
     where
       rank_high : (m : outline.LineMark) → outline.rank m ≤ 3
       rank_high outline.Bare = omega arith
-      rank_high (outline.Key j) = omega arith
-      rank_high outline.Dash = omega arith
+      rank_high _ = omega arith
 
   pub rows_there : AreRows (asked_after unlimited h.front) (h.row ∷ (h.under ++ h.back)) h.p.end (after_document doc c)
   rows_there = own_rows (cut_text c) c doc h.p h.front h.row (h.under ++ h.back) h.old h.rows_are

@@ -1,7 +1,8 @@
 -- Segments that put one text in the place of another: a value on one line, a line comment or a head comment.
-use Rattle.std.proofs.Common.{rules, ◌≡◌, ℕ, ◌+◌, Bool, true, false, cond, List, [], ◌∷◌, ◌++◌, length, refl, sym, ap, ◌∙◌, arith}
-use Rattle.std.{proofs.Common.{append-nil, append_assoc, length-append}, specs.Prelude.⊤}
-use Rattle.yq_core.{specs.Text.is_empty, specs.Tree.Node, specs.declared.style.Place.TheVariants.Block as InBlock}
+use Rattle.std.proofs.lemmas.Grind.{common_steps}
+use Rattle.std.proofs.Common.{rules, ◌≡◌, ℕ, ◌+◌, Bool, true, false, cond, List, [], ◌∷◌, ◌++◌, length, refl, ap, ◌∙◌, arith, append-nil}
+use Rattle.std.{proofs.Common.{append_assoc, length-append}, specs.Prelude.⊤}
+use Rattle.yq_core.{specs.Text.{is_empty, joined}, specs.Tree.Node, specs.declared.style.Place.TheVariants.Block as InBlock}
 use Rattle.yq_places.specs.Placements.{Held, LinesIn}
 use Rattle.yq_text.proofs.BetweenLaws.{after_nothing}
 use Rattle.yq_text.{specs.Script.{Segment, changes, keep, keep_before, merged, put, put_before, splice_at, splices_at}, specs.Splice.Splice}
@@ -26,6 +27,17 @@ after_keep n (b ∷ t) (put o w ∷ ss) = refl
 
 first_keep : (t : List ℕ) (ss : List Segment) → splices_at 0 (keep_before t ss) ≡ splices_at (length t) ss
 first_keep t ss = let same : 0 + length t ≡ length t = omega arith in after_keep 0 t ss ∙ ap (λ (m : ℕ). splices_at m ss) same
+
+-- texts that are kept one after the other
+abbrev keeps : List (List ℕ) → List Segment → List Segment
+keeps [] ss = ss
+keeps (t ∷ ts) ss = keep t ∷ keeps ts ss
+
+kept_first : (ts : List (List ℕ)) (n : ℕ) (ss : List Segment) → splices_at n (merged (keeps ts ss)) ≡ splices_at (n + length (joined ts)) (merged ss)
+kept_first [] n ss = let same : n ≡ n + 0 = omega arith in ap (λ (m : ℕ). splices_at m (merged ss)) same
+kept_first (t ∷ ts) n ss =
+    let same : n + length t + length (joined ts) ≡ n + length (t ++ joined ts) = omega (arith, length-append t (joined ts)) in
+    after_keep n t (merged (keeps ts ss)) ∙ (kept_first ts (n + length t) ss ∙ ap (λ (m : ℕ). splices_at m (merged ss)) same)
 
 quiet_splices : (n : ℕ) (ss : List Segment) → AreQuiet ss → splices_at n (merged ss) ≡ []
 quiet_splices n [] h = refl
@@ -65,11 +77,7 @@ module _ (h : Held) (v : Node) (some : is_empty h.head ≡ false) (none : h.brea
 
   one_put : PutsOne (inline_put v h) (h.before ++ h.space) h.head t after
   unfolding changes
-  one_put = record {
-    old_is = (λ i. h.before ++ (h.space ++ (h.head ++ (h.white ++ (h.comment ++ (none i ++ (no_lines i ++ (h.last ++ append-nil h.after i)))))))) ∙ sym (append_assoc h.before h.space (h.head ++ after));
-    new_is = (λ i. h.before ++ (h.space ++ (text_is i ++ (h.white ++ (h.comment ++ (h.last ++ append-nil h.after i)))))) ∙ sym (append_assoc h.before h.space (t ++ after));
-    changes_are = search (rules, first_keep, after_keep, put_quiet, none, no_lines, length-append, text_is);
-  }
+  one_put = grind (arith, common_steps, append-nil, append_assoc, text_is, first_keep, after_keep, put_quiet, length-append)
 
 pub inline_puts : InlinePutsOne
 inline_puts v h some none no_lines = one_put h v some none no_lines
@@ -79,33 +87,19 @@ inline_puts v h some none no_lines = one_put h v some none no_lines
 pub lines_put_one : (h : Held) (new : List ℕ) → PutsOne (after_held h new) (h.before ++ (h.space ++ (h.head ++ (h.white ++ (h.comment ++ (h.break ++ (h.lines ++ h.last))))))) [] new h.after
 unfolding changes
 lines_put_one h new =
-    let n : ℕ = length h.before in
-    let last : List Segment = put [] new ∷ (keep h.after ∷ []) in
-    let lines : List Segment = keep h.break ∷ (keep h.lines ∷ (keep h.last ∷ last)) in
+    let ts : List (List ℕ) = h.before ∷ (h.space ∷ (h.head ∷ (h.white ∷ (h.comment ∷ (h.break ∷ (h.lines ∷ (h.last ∷ []))))))) in
     record {
       old_is = simp (append_assoc, append-nil) refl;
       new_is = simp (append_assoc, append-nil) refl;
       changes_are =
-          first_keep h.before (merged (keep h.space ∷ (keep h.head ∷ (keep h.white ∷ (keep h.comment ∷ lines)))))
-          ∙ (after_keep n h.space (merged (keep h.head ∷ (keep h.white ∷ (keep h.comment ∷ lines))))
-          ∙ (after_keep (n + length h.space) h.head (merged (keep h.white ∷ (keep h.comment ∷ lines)))
-          ∙ (after_keep (n + length h.space + length h.head) h.white (merged (keep h.comment ∷ lines))
-          ∙ (after_keep (n + length h.space + length h.head + length h.white) h.comment (merged lines)
-          ∙ (after_keep (n + length h.space + length h.head + length h.white + length h.comment) h.break (merged (keep h.lines ∷ (keep h.last ∷ last)))
-          ∙ (after_keep (n + length h.space + length h.head + length h.white + length h.comment + length h.break) h.lines (merged (keep h.last ∷ last))
-          ∙ (after_keep (n + length h.space + length h.head + length h.white + length h.comment + length h.break + length h.lines) h.last (merged last)
-          ∙ (put_quiet (n + length h.space + length h.head + length h.white + length h.comment + length h.break + length h.lines + length h.last) [] new (keep h.after ∷ []) tt
+          kept_first ts 0 (put [] new ∷ (keep h.after ∷ []))
+          ∙ (put_quiet (0 + length (joined ts)) [] new (keep h.after ∷ []) tt
           ∙ ap (λ (m : ℕ). splice_at m [] new)
           (omega (
             arith,
-            length-append h.before (h.space ++ (h.head ++ (h.white ++ (h.comment ++ (h.break ++ (h.lines ++ h.last)))))),
-            length-append h.space (h.head ++ (h.white ++ (h.comment ++ (h.break ++ (h.lines ++ h.last))))),
-            length-append h.head (h.white ++ (h.comment ++ (h.break ++ (h.lines ++ h.last)))),
-            length-append h.white (h.comment ++ (h.break ++ (h.lines ++ h.last))),
-            length-append h.comment (h.break ++ (h.lines ++ h.last)),
-            length-append h.break (h.lines ++ h.last),
-            length-append h.lines h.last,
-          ))))))))));
+            ap (λ (x : List ℕ). length (h.before ++ (h.space ++ (h.head ++ (h.white ++ (h.comment ++ (h.break ++ (h.lines ++ x))))))))
+                (append-nil h.last),
+          )));
     }
 
 -- ---- lines after others
@@ -131,27 +125,14 @@ module _ (h : Held) (text : List ℕ) where
 
   by_white : (b : Bool) → PutsOne (segments b) (h.before ++ (h.space ++ (h.head ++ cond b [] h.white))) (cond b h.white [] ++ h.comment) new lower
   unfolding changes
-  by_white true = record {
-    old_is = simp (append_assoc, append-nil) refl;
-    new_is = simp (append_assoc, append-nil) refl;
-    changes_are =
-        first_keep h.before (merged (keep h.space ∷ (keep h.head ∷ (put h.white [] ∷ (put h.comment new ∷ kept)))))
-        ∙ (after_keep (length h.before) h.space (merged (keep h.head ∷ (put h.white [] ∷ (put h.comment new ∷ kept))))
-        ∙ (after_keep (length h.before + length h.space) h.head (merged (put h.white [] ∷ (put h.comment new ∷ kept)))
-        ∙ (ap (splices_at (length h.before + length h.space + length h.head)) (put_twice h.white [] h.comment new (merged kept))
-        ∙ (put_quiet (length h.before + length h.space + length h.head) (h.white ++ h.comment) new kept tt
-        ∙ ap (λ (m : ℕ). splice_at m (h.white ++ h.comment) new) (omega (arith, length-append h.before (h.space ++ (h.head ++ [])), length-append h.space (h.head ++ []), length-append h.head []))))));
-  }
+  by_white true = grind (arith, common_steps, append_assoc, append-nil, kept_first, put_twice, put_quiet)
   by_white false = record {
     old_is = simp (append_assoc, append-nil) refl;
     new_is = simp (append_assoc, append-nil) refl;
     changes_are =
-        first_keep h.before (merged (keep h.space ∷ (keep h.head ∷ (keep h.white ∷ (put h.comment new ∷ kept)))))
-        ∙ (after_keep (length h.before) h.space (merged (keep h.head ∷ (keep h.white ∷ (put h.comment new ∷ kept))))
-        ∙ (after_keep (length h.before + length h.space) h.head (merged (keep h.white ∷ (put h.comment new ∷ kept)))
-        ∙ (after_keep (length h.before + length h.space + length h.head) h.white (merged (put h.comment new ∷ kept))
-        ∙ (put_quiet (length h.before + length h.space + length h.head + length h.white) h.comment new kept tt
-        ∙ ap (λ (m : ℕ). splice_at m h.comment new) (omega (arith, length-append h.before (h.space ++ (h.head ++ h.white)), length-append h.space (h.head ++ h.white), length-append h.head h.white))))));
+        kept_first (h.before ∷ (h.space ∷ (h.head ∷ (h.white ∷ [])))) 0 (put h.comment new ∷ kept)
+        ∙ (put_quiet (0 + length (h.before ++ (h.space ++ (h.head ++ (h.white ++ []))))) h.comment new kept tt
+        ∙ ap (λ (m : ℕ). splice_at m h.comment new) (omega (arith, ap (λ (x : List ℕ). length (h.before ++ (h.space ++ (h.head ++ x)))) (append-nil h.white))));
   }
 
 pub comment_puts : CommentPutsOne

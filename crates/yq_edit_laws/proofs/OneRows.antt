@@ -94,18 +94,7 @@ module _ (op : Operation) (c : Cut) (h : RowIn (op_document op) c) (new : Row) w
 
     -- in it the row of an item or entry has given way to that one
     pub row_changes : (e : RowsOfEntry) → length h.front ≡ length e.front → row_shape new ≡ row_shape h.row → ChangesRow (op_document op) c e us
-    row_changes e front shape = record {
-      part = h.part;
-      there = h.old.there;
-      front = h.front;
-      row = h.row;
-      new = new;
-      back = h.back;
-      rows_are = h.rows_are;
-      front_size = front;
-      shape = shape;
-      read = row_made;
-    }
+    row_changes e front shape = search (rules, row_made) depth 9
 
     pub row_carried : CarriedOut op c us
     row_carried = record {

@@ -1,8 +1,9 @@
 -- A gap without a final break, with one after it: it is a gap before any text, and ends in the same comment.
-use Rattle.std.proofs.Common.{◌≡◌, ◌&&◌, inr, eqb, List, [], ◌∷◌, ◌++◌, ℕ, is_some, true, false, cond, refl, sym, ap, ◌∙◌, subst}
+use Rattle.std.proofs.lemmas.Grind.{common_steps}
+use Rattle.std.proofs.Common.{arith, ◌≡◌, ◌&&◌, inr, eqb, List, [], ◌∷◌, ◌++◌, ℕ, is_some, true, false, cond, refl, sym, ap, ◌∙◌, subst}
 use Rattle.std.{proofs.Common.{append_assoc, append-nil, ⊎_elim, rules}, proofs.lemmas.Bool.false≢true}
-use Rattle.yq_core.{specs.BlockWritten.break_text, specs.Characters.pairs_returns}
-use Rattle.yq_core.{specs.Text.{front, is_empty, joined, past_white, with_first}, specs.declared.block_types.Break.Break}
+use Rattle.yq_core.{specs.BlockWritten.break_text, specs.Characters.pairs_returns, specs.Text.{front, joined, past_white, with_first}}
+use Rattle.yq_core.specs.declared.block_types.Break.{Break}
 use Rattle.yq_outline.specs.Comments.{comment_text, are_comments, last_comments, head_comment}
 use Rattle.yq_row_table.{specs.Gap.{IsComment, IsGapLine, AreGapLines, IsGap}, proofs.CharacterLaws.pairs_back}
 use Rattle.yq_row_table.{proofs.NothingLaws.line_end_other, proofs.seams.GapFronts.gap_lines, proofs.GapLaws.some_more}
@@ -69,24 +70,7 @@ lines_broken l [] x br h open' pairs =
       ap (λ b. b && true) marks,
     )
 lines_broken l (k ∷ ls) x br h open' pairs =
-    let some : is_empty (joined (k ∷ ls)) ≡ false = some_more k (joined ls) h.1.0.some in
-    let own : is_closed_text (joined (k ∷ ls)) ≡ false = sym (closed_after l (joined (k ∷ ls)) some) ∙ open' in
-    let w = lines_broken k ls x br h.1 own (pairs_back l (joined (k ∷ ls)) pairs) in
-    let all : are_comments (l ∷ broken_lines (k ∷ ls) (break_text br)) ≡ are_comments (l ∷ (k ∷ ls)) = ap (λ b. front (λ b. eqb b 35) (past_white l) && b) w.2 in
-    let more : is_empty (joined (broken_lines (k ∷ ls) (break_text br)) ++ x) ≡ false =
-    ap (λ t. is_empty (t ++ x)) (joined_broken k ls (break_text br)) ∙ some_more (joined (k ∷ ls) ++ break_text br) x (some_more (joined (k ∷ ls)) (break_text br) some) in (
-      (
-        record {
-          white = h.0.white;
-          comment = h.0.comment;
-          line = line_end_other h.0.white h.0.comment l (joined (k ∷ ls) ++ []) (joined (broken_lines (k ∷ ls) (break_text br)) ++ x) (some_more (joined (k ∷ ls)) [] some) h.0.line;
-          some = h.0.some;
-        },
-        w.0,
-      ),
-      (λ i. cond (all i) (with_first (comment_text l) (w.1 i)) (w.1 i)),
-      all,
-    )
+    grind (arith, common_steps, some_more, closed_after, pairs_back, joined_broken, line_end_other, lines_broken k ls x br h.1)
 
 -- ---- the gap
 

@@ -15,21 +15,26 @@ use Rattle.yq_edit_rules.{specs.Changed.{put_document, put_part}, proofs.Documen
 abbrev pub broken_before : List ℕ → PlacedPart → PlacedPart
 broken_before break d = record { before = d.before ++ break; part = d.part; after = [] }
 
--- Part i is the last part: it comes after the last marker, and does so where that gets a break.
-record IsLast (break : List ℕ) (i : ℕ) (c : Cut) : Type 0 where
+-- A part after a text is the last part, and comes after the last marker, also where that gets a break.
+pub record IsAtEnd (break : List ℕ) (before : List ℕ) (p : Part) (c : Cut) : Type 0 where
   pub pre : List ℕ
-  pub before_is : before_part i c ≡ pre ++ last_marker c
-  pub part_is : IsPart (begins_document (last_marker c)) (nth_part i c) []
+  pub before_is : before ≡ pre ++ last_marker c
+  pub part_is : IsPart (begins_document (last_marker c)) p []
   pub long : 3 ≤ length (last_marker c)
+  pub above : List Item
+  pub gap : List ℕ
+  pub old_are : items_of_cut c ≡ above ++ (end_item gap (last_marker c) ∷ rows_items p.rows (end_item p.end [] ∷ []))
+  pub new_are : (q : Part) → items_of_cut (with_last_part break q c) ≡ above
+      ++ (end_item gap (last_marker c ++ break) ∷ rows_items q.rows (end_item q.end [] ∷ []))
+
+-- Part i is so.
+record IsLast (break : List ℕ) (i : ℕ) (c : Cut) : Type 0 where
+  pub end : IsAtEnd break (before_part i c) (nth_part i c) c
   pub placed : placed_at i (with_last_part break (nth_part i c) c) ≡ broken_before break (placed_at i c)
   pub numbers_are : (is : Bool) (n : ℕ) → number_from is n (with_last_part break (nth_part i c) c) ≡ number_from is n c
   pub parts_are : (is : Bool) → parts_from is (with_last_part break (nth_part i c) c) ≡ parts_from is c
   pub begins : has_begin (with_last_part break (nth_part i c) c) ≡ has_begin c
   pub put : (q : Part) → put_part i q (with_last_part break (nth_part i c) c) ≡ with_last_part break q c
-  pub above : List Item
-  pub gap : List ℕ
-  pub old_are : items_of_cut c ≡ above ++ (end_item gap (last_marker c) ∷ rows_items (nth_part i c).rows (end_item (nth_part i c).end [] ∷ []))
-  pub new_are : (q : Part) → items_of_cut (with_last_part break q c) ≡ above ++ (end_item gap (last_marker c ++ break) ∷ rows_items q.rows (end_item q.end [] ∷ []))
 
 begins_same : (m break : List ℕ) → 3 ≤ length m → begins_document (m ++ break) ≡ begins_document m
 begins_same [] break h = absurd (omega (arith, h))
@@ -39,65 +44,55 @@ marker_some : (m t : List ℕ) → 3 ≤ length m → m ++ t ≡ [] → ⊥
 marker_some [] t h e = omega (arith, h)
 marker_some (b ∷ m) t h e = cc
 
--- the numbers of documents after a part
-numbers_later : (p : Part) (m : List ℕ) (a b : Cut) → ((is : Bool) (n : ℕ) → number_from is n a ≡ number_from is n b) → (is : Bool) (n : ℕ) → number_from is n (marked p m a) ≡ number_from is n (marked p m b)
-numbers_later p m a b h1 is n = search rules
-
-numbers_same : (p q : Part) (m break : List ℕ) (is : Bool) (n : ℕ) → number_from is n (marked p (m ++ break) (last q)) ≡ number_from is n (marked p m (last q))
-numbers_same p q m break is n = search rules
-
 is_last : (break : List ℕ) (i : ℕ) (c : Cut) (started : Bool) (p : Part) (m : List ℕ) → AreParts started (marked p m c) → after_part i c ≡ [] → IsLast break (suc i) (marked p m c)
 is_last break i (last q) started p m h none =
     let same : begins_document (m ++ break) ≡ begins_document m = begins_same m break h.1.long in
     let text : part_text p (m ++ break) ++ [] ≡ (part_text p m ++ []) ++ break = append-nil (part_text p (m ++ break)) ∙ (part_then p m break ∙ ap (λ t. t ++ break) (sym (append-nil (part_text p m)))) in
     record {
-      pre = part_text p [];
-      before_is = append-nil (part_text p m) ∙ part_then p [] m;
-      part_is = h.2;
-      long = h.1.long;
+      end = record {
+        pre = part_text p [];
+        before_is = append-nil (part_text p m) ∙ part_then p [] m;
+        part_is = h.2;
+        long = h.1.long;
+        above = rows_items p.rows [];
+        gap = p.end;
+        old_are = rows_before p.rows [] (end_item p.end m ∷ rows_items q.rows (end_item q.end [] ∷ []));
+        new_are = λ x. rows_before p.rows [] (end_item p.end (m ++ break) ∷ rows_items x.rows (end_item x.end [] ∷ []));
+      };
       placed = λ j. record { before = text j; part = q; after = [] };
-      numbers_are = numbers_same p q m break;
+      numbers_are = λ is n. (search rules);
       parts_are = λ b. ap (λ x. with_part b p (with_part x q [])) same;
       begins = ap (λ x. x || false) same;
       put = λ x. refl;
-      above = rows_items p.rows [];
-      gap = p.end;
-      old_are = rows_before p.rows [] (end_item p.end m ∷ rows_items q.rows (end_item q.end [] ∷ []));
-      new_are = λ x. rows_before p.rows [] (end_item p.end (m ++ break) ∷ rows_items x.rows (end_item x.end [] ∷ []));
     }
 is_last break zero (marked q m2 c) started p m h none = absurd (marker_some m2 (cut_text c) h.2.1.long none)
 is_last break (suc i) (marked q m2 c) started p m h none =
     let r = is_last break i c (begins_document m) q m2 h.2 none in
     let next : Cut = marked q m2 c in
     record {
-      pre = part_text p m ++ r.pre;
-      before_is = ap (λ t. part_text p m ++ t) r.before_is ∙ sym (append_assoc (part_text p m) r.pre (last_marker next));
-      part_is = r.part_is;
-      long = r.long;
+      end = record {
+        pre = part_text p m ++ r.end.pre;
+        before_is = ap (λ t. part_text p m ++ t) r.end.before_is ∙ sym (append_assoc (part_text p m) r.end.pre (last_marker next));
+        part_is = r.end.part_is;
+        long = r.end.long;
+        above = rows_items p.rows (end_item p.end m ∷ r.end.above);
+        gap = r.end.gap;
+        old_are = ap (λ is. rows_items p.rows (end_item p.end m ∷ is)) r.end.old_are ∙ rows_before p.rows (end_item p.end m ∷ r.end.above) _;
+        new_are = λ y. ap (λ is. rows_items p.rows (end_item p.end m ∷ is)) (r.end.new_are y) ∙ rows_before p.rows (end_item p.end m ∷ r.end.above) _;
+      };
       placed = search (rules, append_assoc);
-      numbers_are = numbers_later p m _ next r.numbers_are;
+      numbers_are = λ is n. (search (rules, r.numbers_are));
       parts_are = λ b. ap (with_part b p) (r.parts_are (begins_document m));
       begins = ap (λ b. begins_document m || b) r.begins;
       put = λ y. ap (marked p m) (r.put y);
-      above = rows_items p.rows (end_item p.end m ∷ r.above);
-      gap = r.gap;
-      old_are = ap (λ is. rows_items p.rows (end_item p.end m ∷ is)) r.old_are ∙ rows_before p.rows (end_item p.end m ∷ r.above) _;
-      new_are = λ y. ap (λ is. rows_items p.rows (end_item p.end m ∷ is)) (r.new_are y) ∙ rows_before p.rows (end_item p.end m ∷ r.above) _;
     }
 
 -- Document n is the last part, after a marker, and stays so where that gets a break.
 pub record IsAfterMarker (break : List ℕ) (n : ℕ) (c : Cut) (d : PlacedPart) : Type 0 where
-  pub pre : List ℕ
-  pub before_is : d.before ≡ pre ++ last_marker c
-  pub part_is : IsPart (begins_document (last_marker c)) d.part []
-  pub long : 3 ≤ length (last_marker c)
+  pub end : IsAtEnd break d.before d.part c
   pub placed : placed_document n (with_last_part break d.part c) ≡ Some (broken_before break d)
   pub parts_are : document_parts (with_last_part break d.part c) ≡ document_parts c
   pub put : (q : Part) → put_document n q (with_last_part break d.part c) ≡ with_last_part break q c
-  pub above : List Item
-  pub gap : List ℕ
-  pub old_are : items_of_cut c ≡ above ++ (end_item gap (last_marker c) ∷ rows_items d.part.rows (end_item d.part.end [] ∷ []))
-  pub new_are : (q : Part) → items_of_cut (with_last_part break q c) ≡ above ++ (end_item gap (last_marker c ++ break) ∷ rows_items q.rows (end_item q.end [] ∷ []))
 
 bare_same : (break : List ℕ) (q p : Part) (m : List ℕ) (c : Cut) → begins_bare (with_last_part break q (marked p m c)) ≡ begins_bare (marked p m c)
 bare_same break q p m c = search rules
@@ -120,15 +115,8 @@ after_marker break n (marked p m c) d h at none some = go (part_number n (marked
         let parts : document_parts new ≡ document_parts old = ap (λ b. parts_from b new) is ∙ r.parts_are (begins_bare old || not (has_begin old)) in
         let number : part_number n new ≡ suc i = ap (λ b. number_from b n new) is ∙ (r.numbers_are (begins_bare old || not (has_begin old)) n ∙ e) in
         subst (IsAfterMarker break n old) (is_at (suc i) e) (record {
-          pre = r.pre;
-          before_is = r.before_is;
-          part_is = r.part_is;
-          long = r.long;
+          end = r.end;
           placed = (λ j. option_map (λ (y : Part). placed_at (number j) new) ((ap (λ ps. slice_get ps n) parts ∙ (part_is_there n old d at).there) j)) ∙ ap (λ (y : PlacedPart). Some y) r.placed;
           parts_are = parts;
           put = λ q. ap (λ j. put_part j q new) number ∙ r.put q;
-          above = r.above;
-          gap = r.gap;
-          old_are = r.old_are;
-          new_are = r.new_are;
         })

@@ -1,9 +1,10 @@
 -- Where the root of a document comes that has no rows, after a text that doesn't end in a break: on a line of its own, after a break that comes first.
+use Rattle.std.proofs.lemmas.Grind.{common_steps}
 use Rattle.std.proofs.Common.{◌≡◌, inl, inr, ℕ, ◌≤◌, List, [], ◌∷◌, ◌++◌, length, Some, true, false, refl, sym, ap, ◌∙◌, subst, arith}
 use Rattle.std.proofs.Common.{append_assoc, append-nil, length-append, rules, map}
 use Rattle.std.{proofs.lemmas.Bool.{false≢true, cond-true, false_from_ne_true, and_parts}, proofs.lemmas.Str.is_utf8-from_IsUtf8}
 use Rattle.std.{specs.List.{list_all, slice_get}, specs.Str.{chars, is_utf8}}
-use Rattle.yq_core.{specs.BlockWritten.break_text, specs.Characters.{is_text, is_text_char, pairs_returns}, specs.Text.{is_empty, is_line}}
+use Rattle.yq_core.{specs.BlockWritten.break_text, specs.Characters.{is_text, is_text_char, pairs_returns}, specs.Text.is_empty}
 use Rattle.yq_core.{specs.Tree.Node, specs.declared.block_types.Break.Break, proofs.Bools.guard_then, specs.Answers.◌>>=◌}
 use Rattle.yq_text.{specs.Limit.text_limit, specs.Script.{Segment, new_text, kept_front, kept_back}}
 use Rattle.yq_flow_edits.specs.Valued.{IsValueTree}
@@ -57,9 +58,6 @@ same_reads op b c new other read same h = record {
 -- rows come after a gap, at the end of a text
 room_at_end : (gap : List ℕ) → ((x : List ℕ) → is_empty x ≡ false → IsGap gap x) → HasRoom gap [] [] []
 room_at_end gap front = record { front = front; tail = nothing_tail; apart = refl; uncommented = none_uncommented; back_is = no_gap_here []; ends = refl }
-
-front_short : (a b : List ℕ) (limit : ℕ) → length (a ++ b) ≤ limit → length a ≤ limit
-front_short a b limit h = omega (arith, h, length-append a b)
 
 module _ (n : ℕ) (c : Cut) (w : TextPiece) (read : read_at (cut_text c) ≡ Some c) (h : IsUnwrittenRoot n c w) (open' : is_closed_text w.before ≡ false) (br : Break) where
   all_open : is_closed_text (h.d.before ++ h.d.part.end) ≡ false
@@ -116,15 +114,11 @@ module _ (n : ℕ) (c : Cut) (w : TextPiece) (read : read_at (cut_text c) ≡ So
     marker = after_marker (break_text br) n c h.d (cut n c w read h).parts h.placed nothing_after (open_some h.d.before before_open)
 
     marker_open : is_closed_text (last_marker c) ≡ false
-    marker_open = sym (closed_after marker.pre (last_marker c) (long_some (last_marker c) marker.long)) ∙ (ap is_closed_text (sym marker.before_is) ∙ before_open)
+    marker_open = sym (closed_after marker.end.pre (last_marker c) (long_some (last_marker c) marker.end.long))
+        ∙ (ap is_closed_text (sym marker.end.before_is) ∙ before_open)
 
     fits_there : PartFits (break_text br) h.d.part c
-    fits_there = record {
-      some = long_some (last_marker c) marker.long;
-      bare = false_from_ne_true (is_line (last_marker c)) (λ line. false≢true (sym marker_open ∙ closed_line (last_marker c) line));
-      break_is = break_is br;
-      part = marker.part_is;
-    }
+    fits_there = grind (arith, common_steps, long_some, marker, false_from_ne_true, false≢true, marker_open, closed_line, break_is)
 
     -- the text with a break after it
     abbrev other : Cut
@@ -176,7 +170,7 @@ module _ (n : ℕ) (c : Cut) (w : TextPiece) (read : read_at (cut_text c) ≡ So
     carried_after_marker none =
         let text : (h.d.before ++ break_text br) ++ (h.d.part.end ++ (block_value l 0 v ++ [])) ≡ new_text ss = search (rules, append_assoc, nothing_after) in
         let size : length (h.d.before ++ break_text br) ≤ text_limit =
-        front_short (h.d.before ++ break_text br) (h.d.part.end ++ (block_value l 0 v ++ [])) text_limit (subst (λ t. length t ≤ text_limit) (sym text) readable.size) in
+        omega (arith, readable.size, ap length text, length-append (h.d.before ++ break_text br) (h.d.part.end ++ (block_value l 0 v ++ []))) in
         let takes = takes_after_marker none size in
         let d2 : PlacedPart = broken_before (break_text br) h.d in
         let c2 : Cut = with_last_part (break_text br) h.d.part c in
@@ -186,26 +180,35 @@ module _ (n : ℕ) (c : Cut) (w : TextPiece) (read : read_at (cut_text c) ≡ So
         let whole : cut_text (put_document n q c2) ≡ new_text ss = text_is n c2 d2 h.d.part.end [] [] takes v l 0 step value_tree fits.near ∙ text in
         let there : IsReadable (cut_text (put_document n q c2)) = subst IsReadable (sym whole) readable in
         let last : List Item = rows_items rs (end_item [] [] ∷ []) in
-        let front : List Item = m.above in
-        let lead : List ℕ = m.gap ++ last_marker c in
-        let old_are : items_of_cut c ≡ front ++ (end_item m.gap (last_marker c) ∷ (end_item [] [] ∷ [])) = search (rules, front, m) in
-        let front_text : items_text (front ++ (end_item m.gap (last_marker c) ∷ (end_item [] [] ∷ []))) [] ≡ items_text front lead =
-        items_text-append front (end_item m.gap (last_marker c) ∷ (end_item [] [] ∷ [])) [] ∙ ap (λ t. items_text front (m.gap ++ t)) (append-nil (last_marker c)) in
+        let front : List Item = m.end.above in
+        let lead : List ℕ = m.end.gap ++ last_marker c in
+        let old_are : items_of_cut c ≡ front ++ (end_item m.end.gap (last_marker c) ∷ (end_item [] [] ∷ [])) = search (rules, front, m.end) in
+        let front_text : items_text (front ++ (end_item m.end.gap (last_marker c) ∷ (end_item [] [] ∷ []))) [] ≡ items_text front lead =
+        items_text-append front (end_item m.end.gap (last_marker c) ∷ (end_item [] [] ∷ [])) []
+        ∙ ap (λ t. items_text front (m.end.gap ++ t)) (append-nil (last_marker c)) in
         let local : IsLocal ss c (put_document n q c2) = record {
           front = front;
-          gone = end_item m.gap (last_marker c) ∷ (end_item [] [] ∷ []);
-          come = end_item m.gap (last_marker c ++ break_text br) ∷ last;
+          gone = end_item m.end.gap (last_marker c) ∷ (end_item [] [] ∷ []);
+          come = end_item m.end.gap (last_marker c ++ break_text br) ∷ last;
           back = [];
           lead = lead;
           trail = [];
           old_are = old_are;
-          new_are = search (rules, m.put, q, m.new_are, front, append-nil, rs, last);
+          new_are = search (rules, m.put, q, m.end.new_are, front, append-nil, rs, last);
           before_is = before ∙ (sym (append-nil w.before)
               ∙ (ap (λ t. w.before ++ t) (sym (h.following_is ∙ nothing_after))
               ∙ (unwritten_root.whole n c w read h ∙ (sym (items_of_text c) ∙ (ap (λ xs. items_text xs []) old_are ∙ front_text)))));
           following_is = after ∙ (h.following_is ∙ nothing_after);
-          begins = (omega arith, omega (arith, length-append m.gap (last_marker c), length-append m.gap (last_marker c ++ break_text br), length-append (last_marker c) (break_text br)));
-          ends = (omega arith, last_nothing (end_item m.gap (last_marker c ++ break_text br) ∷ last));
+          begins = (
+            omega arith,
+            omega (
+              arith,
+              length-append m.end.gap (last_marker c),
+              length-append m.end.gap (last_marker c ++ break_text br),
+              length-append (last_marker c) (break_text br),
+            ),
+          );
+          ends = (omega arith, last_nothing (end_item m.end.gap (last_marker c ++ break_text br) ∷ last));
         } in
         record {
           reads = same_reads (replace n [] v) c2 c (new_text ss) (other_read none size) read m.parts_are

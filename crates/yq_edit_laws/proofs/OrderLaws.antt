@@ -1,7 +1,7 @@
 -- Edits one after the other lead from text to text.
 use Rattle.std.proofs.Common.{rules, ◌≡◌, inl, inr, ℕ, List, [], ◌∷◌, ◌++◌, refl, sym, ap, ◌∙◌, subst, append_assoc, append-nil}
 use Rattle.yq_text.specs.Splice.{Splice}
-use Rattle.yq_edit_laws.{specs.Answers.EditFails, specs.Edit.{Edit, unreadable, refuses, gives, edit_after, edit_then, in_order}}
+use Rattle.yq_edit_laws.{specs.Answers.EditFails, specs.Edit.{Edit, gives, edit_after, edit_then, in_order}}
 use Rattle.yq_edit_laws.specs.Theorems.{InOrder, Leading, StopsInOrder}
 use Rattle.yq_semantics.specs.Judgement.{ExprError}
 
@@ -39,9 +39,8 @@ following_none r = search rules
 
 -- an edit after splices, after others
 pub after_both : (bs cs : List Splice) (r : Edit) → edit_after (bs ++ cs) r ≡ edit_after bs (edit_after cs r)
-after_both bs cs unreadable = refl
-after_both bs cs (refuses why) = refl
 after_both bs cs (gives t ds) = ap (gives t) (append_assoc bs cs ds)
+after_both bs cs _ = refl
 
 -- a step that fails fails all that come after it
 pub fails_on : (e : ExprError) (g : List ℕ → Edit) (r : Edit) → EditFails e r → EditFails e (edit_then g r)

@@ -1,34 +1,31 @@
 -- Where a node is, something is.
-use Rattle.std.proofs.Common.{rules, ◌≡◌, ◌⊎◌, inl, inr, ltb, ℕ, true, false, List, [], ◌∷◌, ◌++◌, length, Option, Some, None, option_map}
+use Rattle.std.proofs.Common.{rules, ◌≡◌, ◌⊎◌, inl, inr, ltb, ℕ, true, false, List, [], ◌∷◌, ◌++◌, length, Option, Some, option_map}
 use Rattle.std.{proofs.Common.{option_and_then, refl, sym, ap, ◌∙◌}, proofs.lemmas.Option.{none-some, same_Some}, specs.List.slice_get}
 use Rattle.yq_core.{specs.Answers.◌>>=◌, specs.Paths.{Step, child_at, node_at}, specs.Tree.{Node, children_of}, proofs.Bools.bind_some}
 use Rattle.yq_core.{specs.Collections.CollPieces, specs.Entries.{EntryPieces, item_at}, specs.Trees.items_tree}
 use Rattle.yq_outline.{specs.Counts.count, specs.Ends.{found_line, line_at_steps}, specs.Outline.{Line, anchored, children, flatten, value}}
-use Rattle.yq_outline.specs.Places.{FoundLine, content_under, find, find_row, lines_after, lines_before}
-use Rattle.yq_outline.{proofs.ChildLaws.anchored_children, proofs.Finding.row_child, specs.Lines.lines_of_rows}
+use Rattle.yq_outline.{specs.Places.{FoundLine, find, find_row, lines_after, lines_before}, proofs.ChildLaws.anchored_children}
+use Rattle.yq_outline.{proofs.Finding.row_child, specs.Lines.lines_of_rows}
 use Rattle.yq_row_table.specs.Rows.{Part, Cut, cut_text}
 use Rattle.yq_documents.{specs.Documents.{Document, document_parts}, specs.Reading.{documents, part_outline, read_at, root_of}}
 use Rattle.yq_documents.specs.LinesInRows.{row_line, row_line_of}
-use Rattle.yq_places.{specs.FlowNodes.find_head, specs.NodesAt.node_in, specs.PlacedRows.{PlacedPart, placed_document}}
+use Rattle.yq_places.{proofs.PlacedPartLaws.placed_is, specs.FlowNodes.find_head, specs.NodesAt.node_in, specs.PlacedRows.PlacedPart}
 use Rattle.yq_places.specs.RemovalPlaces.{has_others_at, has_several}
 use Rattle.yq_places.specs.Placements.{FlowPart, RowsOfEntry, entry_rows_at, flow_part, flow_placement, last_step, rows_of_entry}
-use Rattle.yq_places.{specs.Placements.root_placement, proofs.FoundEntries.middle, proofs.PlacedRowLaws.{document_placed, part_of}}
-use Rattle.yq_places.{proofs.RowPathLaws.found_lines, proofs.DashLineLaws.row_line_found}
+use Rattle.yq_places.{specs.Placements.root_placement, proofs.FoundEntries.middle, proofs.RowPathLaws.found_lines}
+use Rattle.yq_places.{proofs.DashLineLaws.row_line_found, proofs.PrintedTexts.map_some}
 use Rattle.yq_edit_rules.{specs.Siblings.{IsCollectionAt, IsEntryAt, NodeLines}, specs.PlacementLaws.{EntriesOccur, RootsOccur}}
-use Rattle.yq_edit_rules.{proofs.EditedLaws.lines_are_there, proofs.RemovalChangeLaws.{children-value, take_init}}
+use Rattle.yq_edit_rules.{proofs.EditedLaws.lines_are_there, proofs.RemovalChangeLaws.{children-value, take_init}, proofs.PathLaws.found_at}
 use Rattle.yq_edit_laws.{proofs.FlowHeldNodes.{collection_cases, FlowContent, entry_tree, held, item_child}, proofs.DocumentParts.PartOf}
-use Rattle.yq_edit_laws.{proofs.EntryLines.{entry_line, found_at}, proofs.FlowHeldLines.flow_there}
-use Rattle.yq_edit_laws.proofs.FlowSoundLaws.{above_is, last_is}
+use Rattle.yq_edit_laws.{proofs.EntryLines.entry_line, proofs.FlowHeldLines.flow_there, proofs.FlowSoundLaws.{above_is, last_is}}
 use Rattle.yq_core.specs.Tree as tree
 use Rattle.yq_edit_laws.proofs.DocumentParts as parts
 
 -- ---- roots
 
-pub placed_there : (c : Cut) (n : ℕ) (p : Part) → slice_get (document_parts c) n ≡ Some p → (d : PlacedPart) × (placed_document n c ≡ Some d) × (d.part ≡ p)
-placed_there c n p there = search (rules, document_placed, part_of, none-some, same_Some)
-
 pub roots_are_there : RootsOccur
-roots_are_there n c p there = let d = placed_there c n p there in (root_placement d.0 d.0.part.rows, ap (option_map (λ (d : PlacedPart). root_placement d d.part.rows)) d.1)
+roots_are_there n c p there = let d = placed_is n c p there in
+    (root_placement d.0 d.0.part.rows, ap (option_map (λ (d : PlacedPart). root_placement d d.part.rows)) d.1)
 
 -- ---- the rows of an item or entry
 
@@ -43,7 +40,7 @@ rows_there n s ss c p there f found =
     let rest : List Line = flatten f.under ++ (flatten f.after ++ lines_after f.place) in
     let line : slice_get (lines_of_rows p.rows) k ≡ Some f.line = ap (λ (ls : List Line). slice_get ls k) (found_lines (lines_of_rows p.rows) s ss [] f found) ∙ middle (lines_before f.place) rest f.line in
     let x = row_line_found p.rows k f.line line in
-    let d = placed_there c n p there in
+    let d = placed_is n c p there in
     let printed_line : row_line_of (s ∷ ss) d.0.part.rows ≡ Some x.0 = ap (λ (q : Part). row_line_of (s ∷ ss) q.rows) d.2 ∙ (ap (λ (o : Option ℕ). o >>= λ k. row_line k p.rows) number ∙ x.1) in (
       entry_rows_at d.0 x.0,
       ap (λ (o : Option PlacedPart). o >>= λ q. option_map (entry_rows_at q) (row_line_of (s ∷ ss) q.part.rows)) d.1 ∙ ap (option_map (entry_rows_at d.0)) printed_line,
@@ -56,14 +53,9 @@ HasPart n path c = (x : FlowPart) × (flow_placement n c (last_step path) ≡ So
 
 -- a node with an item or entry is a collection
 holds_child : (s : Step) (old n : Node) → child_at s (children_of old) ≡ Some n → (x : FlowContent) × (held old ≡ Some x) × (children_of old ≡ x.1)
-holds_child s (tree.alias name) n e = absurd (none-some _ e)
-holds_child s (tree.scalar anchor kind text) n e = absurd (none-some _ e)
 holds_child s (tree.list anchor cs) n e = ((false, cs), refl, refl)
 holds_child s (tree.map anchor cs) n e = ((true, cs), refl, refl)
-
-entry_of : (o : Option EntryPieces) (n : Node) → option_map entry_tree o ≡ Some n → (y : EntryPieces) × (o ≡ Some y)
-entry_of None n e = absurd (none-some _ e)
-entry_of (Some y) n e = (y, refl)
+holds_child s _ n e = absurd (none-some _ e)
 
 -- A node in a document, the collection that holds it, and the last step to it.
 record NodeIn (c : Cut) (n : ℕ) (path : List Step) (v : Node) : Type 0 where
@@ -83,7 +75,7 @@ part_there c n path v h y found =
     let x = holds_child h.step h.old v h.child in
     let w = flow_there c n h.init x.0 (record { read = h.read; part = h.part; there = h.there; line = y.0; rest = y.1; found = found; at = (h.old, h.above, x.1) }) in
     let items : option_map entry_tree (item_at w.0.close h.step w.0.items w.0.rest) ≡ Some v = search (rules, item_child) in
-    let item = entry_of (item_at w.0.close h.step w.0.items w.0.rest) v items in
+    let item = map_some (item_at w.0.close h.step w.0.items w.0.rest) items in
     let g : EntryPieces → FlowPart = λ z. record { step = h.step; collection = w.0; part = z } in
     let others : has_others_at n path c ≡ ltb 1 (count (children_of h.old)) =
     ap (λ p. has_others_at n p c) (last_is path h.init h.step h.last)
@@ -95,15 +87,11 @@ part_there c n path v h y found =
 
 -- ---- an item or entry of a block collection
 
-line_there : (r : Option FoundLine) (n : Node) → option_map (λ f. content_under f.line f.under) r ≡ Some n → (f : FoundLine) × (r ≡ Some f)
-line_there None n e = absurd (none-some _ e)
-line_there (Some f) n e = (f, refl)
-
 entry_there : (c : Cut) (n : ℕ) (path : List Step) (v : Node) (h : NodeIn c n path v) (b : NodeLines) → IsCollectionAt h.init (part_outline h.part) b → (f : FoundLine) × IsEntryAt h.init h.step (part_outline h.part) b f
 entry_there c n path v h b at =
     let own : anchored b.anchor (value b.lines) ≡ h.old = same_Some _ _ (sym (lines_are_there h.init (part_outline h.part) b at.place_is) ∙ h.above) in
     let cs : children b.lines ≡ children_of h.old = sym (children-value b.lines at.block) ∙ (sym (anchored_children b.anchor (value b.lines)) ∙ ap children_of own) in
-    let f = line_there (find_row h.step b.lines) v (sym (row_child h.step b.lines) ∙ (ap (child_at h.step) cs ∙ h.child)) in
+    let f = map_some (find_row h.step b.lines) (sym (row_child h.step b.lines) ∙ (ap (child_at h.step) cs ∙ h.child)) in
     (f.0, record { place_is = at.place_is; block = at.block; found = f.1 })
 
 -- ---- any node below the root

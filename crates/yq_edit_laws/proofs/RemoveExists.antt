@@ -8,7 +8,7 @@ use Rattle.yq_outline.{specs.Places.{FoundLine, find, lines_after, lines_before}
 use Rattle.yq_row_table.specs.Rows.{Part, Cut, cut_text}
 use Rattle.yq_documents.{specs.declared.path.Part.TheVariants.Entry, specs.Pieces.TextPiece, specs.Reading.read_at}
 use Rattle.yq_documents.{specs.LinesInRows.{RowLine, row_line, row_line_of}, specs.Documents.document_parts}
-use Rattle.yq_places.specs.FirstPlaces.{first_entry, first_out, first_removal}
+use Rattle.yq_places.{proofs.PlacedPartLaws.placed_is, specs.FirstPlaces.{first_entry, first_out, first_removal}}
 use Rattle.yq_places.specs.PathPieces.{BlockEntry, PrintedDocument, entry_piece, found_entry, piece_in, piece_in_entry, printed_document}
 use Rattle.yq_places.{specs.PrintedLines.line_in, specs.RemovalPlaces.{OwnRows, in_three, removal_place, row_count, rows_out}}
 use Rattle.yq_places.{specs.Placements.{RowsOfEntry, rows_of_entry}, proofs.FoundEntries.{entry_there, middle}}
@@ -17,7 +17,20 @@ use Rattle.yq_places.proofs.DashLineLaws.{row_line_found}
 use Rattle.yq_edit_rules.{specs.PlacementLaws.HasItsRows, proofs.PlacementRows.rows_located, specs.EntryEdits.one_removed}
 use Rattle.yq_edit_rules.{specs.Removing.{first_removed, rows_removed}, proofs.PartLaws.document_known, proofs.PlaceTextLaws.around}
 use Rattle.yq_text.specs.Script.{Segment}
-use Rattle.yq_edit_laws.proofs.PlacementExists.{placed_there}
+
+-- ---- the first of two that is there
+
+-- there is an edit
+abbrev pub IsThere : Option (List Segment) → Type 0
+IsThere o = (ss : List Segment) × (o ≡ Some ss)
+
+-- the first of two that is there
+pub first_there : (a b : Option (List Segment)) → IsThere a → IsThere (option_or a b)
+first_there a b h = (h.0, ap (λ (x : Option (List Segment)). option_or x b) h.1)
+
+pub second_there : (a b : Option (List Segment)) → IsThere b → IsThere (option_or a b)
+second_there None b h = h
+second_there (Some ss) b h = (ss, refl)
 
 -- ---- the lines of a document of a cut that has a reading
 
@@ -60,7 +73,7 @@ module _ (n : ℕ) (s : Step) (ss : List Step) (c : Cut) (e : RowsOfEntry) (read
   -- the first line of a row
   by_rows : (w : RowLine) → row_line at p.rows ≡ Some w → eqb w.line 0 ≡ true → (us : List Segment) × (option_map rows_removed (removal_place n (s ∷ ss) c) ≡ Some us)
   by_rows w is first =
-      let d = placed_there c n p x.old.there in
+      let d = placed_is n c p x.old.there in
       let own : OwnRows = in_three w.before (row_count (lines_end at ls - at) (drop w.before p.rows)) p.rows in
       let place : removal_place n (s ∷ ss) c ≡ Some (rows_out d.0 own) = search rules in
       (rows_removed (rows_out d.0 own), ap (option_map rows_removed) place)
@@ -84,12 +97,8 @@ module _ (n : ℕ) (s : Step) (ss : List Step) (c : Cut) (e : RowsOfEntry) (read
       (first_removed (first_out y.0), ap (λ (o : Option TextPiece). option_map first_removed (option_map first_out o)) line)
 
   either : (w : RowLine) → row_line at p.rows ≡ Some w → (b : Bool) → eqb w.line 0 ≡ b → (us : List Segment) × (one_removed n (s ∷ ss) c ≡ Some us)
-  either w is true first = let y = by_rows w is first in (y.0, ap (λ (o : Option (List Segment)). option_or o (option_map first_removed (first_removal n (s ∷ ss) c))) y.1)
-  either w is false first = after (option_map rows_removed (removal_place n (s ∷ ss) c)) (by_first w is first)
-    where
-      after : (o : Option (List Segment)) → ((us : List Segment) × (option_map first_removed (first_removal n (s ∷ ss) c) ≡ Some us)) → (us : List Segment) × (option_or o (option_map first_removed (first_removal n (s ∷ ss) c)) ≡ Some us)
-      after None h = h
-      after (Some us) h = (us, refl)
+  either w is true first = first_there _ _ (by_rows w is first)
+  either w is false first = second_there _ _ (by_first w is first)
 
 pub one_there : (n : ℕ) (s : Step) (ss : List Step) (c : Cut) (e : RowsOfEntry) → read_at (cut_text c) ≡ Some c → rows_of_entry n (s ∷ ss) c ≡ Some e → (us : List Segment) × (one_removed n (s ∷ ss) c ≡ Some us)
 one_there n s ss c e read is = let x = rows_located n s ss c e read is in let w = printed_line n s ss c e read x in either n s ss c e read x w.0 w.1 (eqb w.0.line 0) refl

@@ -93,14 +93,10 @@ gap_no_longer rs end first others e =
     search (rules, arith, run_split (text_lines first.gap) ∙ joined_lines first.gap, ap (λ (xs : List Row). length (kept_gap xs end)) e, length-append)
 
 module _ (doc : ℕ) (steps : List Step) (c : Cut) (x : Removal) (old : old_text (rows_removed x) ≡ cut_text c) (out : IsTakenOut c doc steps (x.before ++ (mended x.seam x.gap ++ x.after))) (a : AreRowsTaken c doc x out.old out.new) where
-  -- the rows that go, with the gap after them
-  abbrev own : List Row
-  own = a.first ∷ a.others
-
   went_out : RowsGoOut (rows_removed x) c doc out.old
   went_out =
       let p : Part = out.old in
-      let kept : List ℕ = kept_gap own p.end in
+      let kept : List ℕ = kept_gap (a.first ∷ a.others) p.end in
       let m : IsAfter (gap_mended x.seam x.gap) = after (gap_mended x.seam x.gap) in
       let u : List ℕ = kept_back (gap_mended x.seam x.gap) in
       record {
@@ -111,13 +107,13 @@ module _ (doc : ℕ) (steps : List Step) (c : Cut) (x : Removal) (old : old_text
         first = a.first;
         others = a.others;
         back = a.back;
-        gap = left_gap a.front own a.back p;
+        gap = left_gap a.front (a.first ∷ a.others) a.back p;
         rows_are = a.rows_are;
         lead = kept;
         end' = u;
         before_is = append-nil x.before ∙ (a.before_is ∙ at_row a.start a.front kept);
         following_is = back_last (gap_mended x.seam x.gap) x.after ∙ ap (λ t. u ++ t) a.following_is;
-        begins = gap_no_longer own p.end a.first a.others refl;
+        begins = gap_no_longer (a.first ∷ a.others) p.end a.first a.others refl;
         ends = last_within (first_gap a.back p.end) m.old u (sym a.gap_is ∙ (sym (gap_old x.seam x.gap) ∙ m.old_is));
         puts = refl;
         old_is = old;

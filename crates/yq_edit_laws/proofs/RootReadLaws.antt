@@ -1,22 +1,22 @@
 -- A value as the root of a document in which that is a block collection, or isn't written: what the text then reads as.
-use Rattle.std.proofs.Common.{Some, ◌≡◌, ℕ, ◌≤◌, List, [], ◌∷◌, ◌++◌, map, replicate, None, true, false, sym, ap, ◌∙◌, subst, append-nil}
-use Rattle.std.{proofs.Common.rules, proofs.lemmas.Bool.false≢true, proofs.lemmas.Option.same_Some, specs.List.slice_get}
+use Rattle.std.proofs.lemmas.Grind.{common_steps}
+use Rattle.std.proofs.Common.{arith, Some, ◌≡◌, ℕ, ◌≤◌, List, [], ◌∷◌, ◌++◌, map, replicate, None, true, false, sym, ap, ◌∙◌, subst}
+use Rattle.std.{proofs.Common.{append-nil, rules}, proofs.lemmas.Bool.false≢true, proofs.lemmas.Option.same_Some, specs.List.slice_get}
 use Rattle.yq_core.{specs.Paths.within, specs.Tree.{Node, children_of, anchor_of}, specs.Anchors.names_of}
 use Rattle.yq_flow_edits.specs.Valued.{IsValueTree}
 use Rattle.yq_outline.{specs.Comments.head_comment, specs.Outline.anchored, proofs.NodeLaws.anchored_none}
-use Rattle.yq_row_table.{specs.Grammar.{unlimited, AreRows, no_rows}, specs.Rows.{Row, rows_text, Part, Cut, cut_text}}
-use Rattle.yq_row_table.{specs.SpliceFits.is_after, specs.Splices.{first_gap, marker_before}}
+use Rattle.yq_row_table.{specs.Grammar.no_rows, specs.Rows.{Row, rows_text, Part, Cut, cut_text}, specs.SpliceFits.is_after}
+use Rattle.yq_row_table.specs.Splices.{first_gap, marker_before}
 use Rattle.yq_documents.{specs.Documents.{Document, document_parts, lead_of}, specs.TreeEdits.{headed, lead_by, led, replaced_node}}
 use Rattle.yq_documents.{specs.Reading.{root_of, read_at, documents}, specs.PartNumbers.part_number}
 use Rattle.yq_places.{specs.PlacedRows.PlacedPart, specs.RowPaths.IsReadable}
 use Rattle.yq_edit_rules.{specs.declared.layout.Layout.Layout, specs.BlockText.block_value, specs.BlockValues.HasNearKeys}
 use Rattle.yq_edit_rules.{specs.Changed.{changed as part_changed, IsChanged, KeepsRows, put_document}, specs.Conditions.AreSpared}
-use Rattle.yq_edit_rules.{specs.DocumentRows.{IsDocumentPart, after_document}, specs.PlacedParts.IsDocumentAt}
-use Rattle.yq_edit_rules.{specs.Replaces.{TakesRoot, rooted}, specs.Rooms.{is_block_root, LeadGoes}}
-use Rattle.yq_edit_rules.{specs.SoundRoots.{inner_names, IsNewValue}, proofs.AfterLaws.nth_is, proofs.ChangedLaws.document_put}
-use Rattle.yq_edit_rules.{proofs.EditedLaws.led_same, proofs.RootLaws.root_rows_replaced, specs.ReadsAfter.ReadsAfter}
-use Rattle.yq_edit_rules.{proofs.DoneLaws.document_done, specs.EditLaws.CarriedOut, specs.Local.IsLocal, proofs.LocalLaws.cut_known}
-use Rattle.yq_edit_rules.proofs.EditsFitLaws.{fits_replace}
+use Rattle.yq_edit_rules.{specs.DocumentRows.IsDocumentPart, specs.PlacedParts.IsDocumentAt, specs.Replaces.{TakesRoot, rooted}}
+use Rattle.yq_edit_rules.{specs.Rooms.{is_block_root, LeadGoes}, specs.SoundRoots.{inner_names, IsNewValue}, proofs.AfterLaws.nth_is}
+use Rattle.yq_edit_rules.{proofs.ChangedLaws.document_put, proofs.EditedLaws.led_same, proofs.RootLaws.root_rows_replaced}
+use Rattle.yq_edit_rules.{specs.ReadsAfter.ReadsAfter, proofs.DoneLaws.document_done, specs.EditLaws.CarriedOut, specs.Local.IsLocal}
+use Rattle.yq_edit_rules.{proofs.LocalLaws.cut_known, proofs.EditsFitLaws.fits_replace}
 use Rattle.yq_semantics.{specs.Operations.replace, specs.Fits.Fits, specs.Rooms.room_of}
 use Rattle.yq_edit_laws.{proofs.RootRows.{root_rows, HasRoom, AreRootRows}, proofs.RootValues.value_root_rows}
 use Rattle.yq_text.specs.Script.{Segment, new_text}
@@ -63,13 +63,7 @@ module _ (n : ℕ) (c : Cut) (d : PlacedPart) (gap last back : List ℕ) (h : Ta
   text_is = h.is_located.put q ∙ ap (λ t. d.before ++ t) (ap (λ xs. rows_text xs (back ++ d.after)) (append-nil rs) ∙ are.spelled)
 
   takes : TakesRoot c n p rs back
-  takes = record {
-    some = are.some;
-    new_are = subst (AreRows unlimited rs back) (sym h.is_located.after) are.rows;
-    start = λ e. h.starts (rows_text rs (back ++ after_document n c)) e;
-    keys = are.keys;
-    short = are.short;
-  }
+  takes = grind (arith, common_steps, are)
 
   gap_first : (xs : List Row) → no_rows xs ≡ false → first_gap xs [] ≡ gap → first_gap (xs ++ []) back ≡ gap
   gap_first [] some e = absurd (false≢true (sym some))

@@ -146,8 +146,7 @@ module _ (v : Node) (l : Layout) (gap : List ℕ) (column : ℕ) (last back rest
       where
         entry_short : (mark : rows.RowMark) (c : rows.Content) → is_entry mark ≡ true → is_long_plain mark c ≡ false
         entry_short rows.Bare c h = absurd (false≢true h)
-        entry_short rows.Dash c h = refl
-        entry_short (rows.Key k colon) c h = refl
+        entry_short _ c h = refl
 
         led_anchors : (o : Outline) → HaveOneAnchorEach (flatten o) → HaveOneAnchorEach (flatten (with_lead above o))
         led_anchors end h = h

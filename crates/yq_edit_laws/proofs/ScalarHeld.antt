@@ -2,10 +2,9 @@
 use Rattle.std.proofs.Common.{◌≡◌, inl, inr, ℕ, cond, List, [], ◌++◌, length, Option, None, Some, true, false, ◌&&◌, ◌||◌, refl, sym, ap}
 use Rattle.std.{proofs.Common.{◌∙◌, subst, append_assoc, append-nil, rules, ◌≤◌, not, ◌∷◌}, proofs.lemmas.Bool.{false≢true, and_parts}}
 use Rattle.yq_core.{specs.Block.{BlockText, block_text}, specs.Lines.{is_blank, is_hash}, specs.Paths.Step}
-use Rattle.yq_core.specs.Text.{front, is_empty, is_line, is_white, past_white, separates}
-use Rattle.yq_core.{specs.declared.block_types.Break.TheVariants.{Lf, CrLf}, specs.Tree.{anchor_of, Node}, specs.BlockWritten.break_text}
-use Rattle.yq_core.{specs.Piece.deeper, specs.Plain.ends_plain, specs.declared.block_types.Break.Break, specs.Nodes.{node_text, IsFlowNode}}
-use Rattle.yq_core.specs.Trees.{node_anchor}
+use Rattle.yq_core.{specs.Text.{front, is_empty, is_line, is_white, past_white, separates}, specs.Tree.{anchor_of, Node}}
+use Rattle.yq_core.{specs.BlockWritten.break_text, specs.Piece.deeper, specs.Plain.ends_plain, specs.declared.block_types.Break.Break}
+use Rattle.yq_core.{specs.Nodes.{node_text, IsFlowNode}, specs.Trees.node_anchor}
 use Rattle.yq_outline.{specs.Places.content_under, specs.Lines.{block_anchor, content_anchor}, specs.Comments.line_comment}
 use Rattle.yq_row_table.{specs.Exchange.{row_front, with_content}, specs.Gap.IsBreak, specs.Grammar.{IsContent, IsTail, IsAnchor}}
 use Rattle.yq_row_table.specs.Rows.{Anchor, Block, anchor_text, content_text, Row, parent_indent, rows_text, Cut, cut_text, Content, Inline}
@@ -13,9 +12,9 @@ use Rattle.yq_row_table.{specs.Rows.mark_column, specs.View.slices, proofs.LineE
 use Rattle.yq_row_table.{proofs.NodeExchange.space_apart, proofs.PlaceLaws.row_front-append, proofs.seams.RowSeams.block_no_space}
 use Rattle.yq_places.{specs.CommentPlaces.{LineEnd, end_in_line}, specs.PrintedLines.{last_break, less_break}}
 use Rattle.yq_places.{specs.RowPieces.{anchor_before, space_before}, specs.Placements.{RowsOfEntry, before_entry, held, Held}}
-use Rattle.yq_edit_rules.{specs.PlacementLaws.HasItsRows, specs.TextPieces.IsPiece}
+use Rattle.yq_edit_rules.{proofs.HeldCuts.break_is_piece, specs.PlacementLaws.HasItsRows, specs.TextPieces.IsPiece}
 use Rattle.yq_edit_rules.{specs.ReplaceEdits.{line_break, raw_last, spaced_text, held_put}, proofs.BreakLaws.{IsLfOrCrLf, break_is}}
-use Rattle.yq_edit_rules.{proofs.CommentPieceLaws.break_piece, proofs.CommentRowLaws.end_parts, specs.InlineRows.IsValueNode}
+use Rattle.yq_edit_rules.{proofs.CommentRowLaws.end_parts, specs.InlineRows.IsValueNode}
 use Rattle.yq_edit_rules.proofs.CoreLaws.{recore, anchored_node, core_anchor, core_bare, core_head, core_keys}
 use Rattle.yq_edit_rules.{proofs.InlineReplaceLaws.deeper_entry, proofs.PathTailLaws.anchor_other, proofs.ValueContentLaws.more_some}
 use Rattle.yq_edit_rules.{specs.EditLaws.CarriedOut, proofs.EditsFitLaws.FitsReplace, proofs.ValueTexts.IsWrittenFor}
@@ -30,10 +29,6 @@ use Rattle.yq_core.specs.Nodes as inline
 use Rattle.yq_edit_rules.specs.WrittenValues as written
 
 -- ---- the break of a header's line
-
-broken_line : (b : List ℕ) → IsLfOrCrLf b → IsPiece b
-broken_line b (inl e) = subst IsPiece (sym e) (break_piece Lf)
-broken_line b (inr e) = subst IsPiece (sym e) (break_piece CrLf)
 
 has_break : (tail more : List ℕ) → is_line tail ≡ true → (h : IsTail tail more) → IsLfOrCrLf h.line.break
 unfolding is_line
@@ -133,7 +128,7 @@ module _ (n : ℕ) (s : Step) (ss : List Step) (c : Cut) (e : RowsOfEntry) (ther
   line_is = search (rules, break_there)
 
   pub line_piece : IsPiece (line_break (held e))
-  line_piece = broken_line (line_break (held e)) (subst IsLfOrCrLf (sym line_is) break_there)
+  line_piece = break_is_piece (line_break (held e)) (inr (subst IsLfOrCrLf (sym line_is) break_there))
 
   pub header_line : (u : List ℕ) → (held e).white ++ ((held e).comment ++ (line_break (held e) ++ u)) ≡ block.tail ++ u
   header_line u =

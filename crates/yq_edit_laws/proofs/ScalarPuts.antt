@@ -14,9 +14,9 @@ use Rattle.yq_row_table.{specs.Grammar.IsTail, specs.View.slices, specs.Exchange
 use Rattle.yq_row_table.{proofs.PlaceLaws.row_front-append, proofs.seams.RowSeams.block_no_space}
 use Rattle.yq_places.{specs.NodesAt.{node_in, scalar_in}, specs.Placements.{Held, RowsOfEntry, held}, proofs.LineEndLaws.header_tail}
 use Rattle.yq_places.specs.RowPieces.{anchor_before, space_before}
-use Rattle.yq_edit_rules.{specs.PlacementLaws.HasItsRows, specs.declared.layout.Layout.Layout, specs.BlockReading.is_filled}
-use Rattle.yq_edit_rules.{specs.BlockRows.item_column, specs.BlockText.block_value, specs.EditLaws.{CarriedOut, IsEdit}}
-use Rattle.yq_edit_rules.specs.Layouts.{layout_of}
+use Rattle.yq_edit_rules.{proofs.ColumnLaws.indent_least, specs.PlacementLaws.HasItsRows, specs.declared.layout.Layout.Layout}
+use Rattle.yq_edit_rules.{specs.BlockReading.is_filled, specs.BlockRows.item_column, specs.BlockText.block_value}
+use Rattle.yq_edit_rules.{specs.EditLaws.{CarriedOut, IsEdit}, specs.Layouts.layout_of}
 use Rattle.yq_edit_rules.specs.ReplaceEdits.{block_put, has_text, held_put, literal_put, block_scalar_put, string_put, value_put, raw_put}
 use Rattle.yq_edit_rules.specs.ReplaceEdits.{holds_text}
 use Rattle.yq_edit_rules.specs.WrittenValues.{Written, inline, compact_text, lines, collection_at, column_under, lines_in, takes_compact}
@@ -29,7 +29,7 @@ use Rattle.yq_edit_laws.proofs.HeldCarried.{held_old, put_carried, KnowsHeld, Sp
 use Rattle.yq_edit_laws.proofs.HeldLines.{held_compact, lines_piece, rows_put, rows_spell}
 use Rattle.yq_edit_laws.proofs.ScalarHeld.{raw_old, scalar_inline, header_line, line_piece, tail_is, valid, anchor_is, apart_is, front_text}
 use Rattle.yq_edit_laws.{proofs.ScalarHeld.row_is, proofs.NodeValueLaws.{IsContentFor, takes_content}}
-use Rattle.yq_edit_laws.{proofs.LiteralTexts.{header_piece, indent_least, known_text, loose, raw_piece}, proofs.NodeLeads.own_space_lead}
+use Rattle.yq_edit_laws.{proofs.LiteralTexts.{header_piece, known_text, loose, raw_piece}, proofs.NodeLeads.own_space_lead}
 use Rattle.yq_edit_laws.proofs.NodeRowLaws.{NodeRows, line_is, rest, following_is, mark_node}
 use Rattle.yq_core.specs.Tree as tree
 use Rattle.yq_core.specs.declared.style.Place.TheVariants as places
@@ -231,8 +231,7 @@ module _ (n : ℕ) (s : Step) (ss : List Step) (c : Cut) (e : RowsOfEntry) (ther
       go : (x : Bool) → has_text (node_in n (s ∷ ss) c) ≡ x → (y : Bool) → is_string kind ≡ y →
           Done (tree.scalar a kind t) (cond (x && y) (string_put br w block.indent.columns (record { kind = kind; text = t })) (held_put br w (inline (value_text places.Block [] (tree.scalar a kind t)))))
       go true has true string = string_done a kind t h f has string
-      go true has false string = other
-      go false has y string = other
+      go _ has _ string = other
 
   -- A value in the place of the block scalar.
   pub scalar_edit : (v : Node) → IsEdit (replace n (s ∷ ss) v) c (value_put (has_text (node_in n (s ∷ ss) c)) l v (placements.block w block.indent.columns))

@@ -1,12 +1,12 @@
 -- A collection in another one, in the head of a row, that has no more than one item or entry: it is an item or entry there, which an empty collection replaces.
-use Rattle.std.proofs.Common.{rules, ◌≡◌, ℕ, suc, ◌+◌, length, length-append, Bool, true, false, cond, eqb, List, [], ◌∷◌, ◌++◌, Option}
-use Rattle.std.{proofs.Common.{Some, None, refl, sym, ap, ◌∙◌, append_assoc}, proofs.lemmas.Bool.false≢true}
+use Rattle.std.proofs.lemmas.Grind.{common_steps}
+use Rattle.std.proofs.Common.{arith, rules, ◌≡◌, ℕ, suc, ◌+◌, length, length-append, Bool, true, false, cond, eqb, List, [], ◌∷◌, ◌++◌}
+use Rattle.std.{proofs.Common.{Option, Some, refl, sym, ap, ◌∙◌, append_assoc}, proofs.lemmas.Bool.false≢true}
 use Rattle.std.{proofs.lemmas.Option.{none-some, same_Some}, specs.Prelude.nat_lt}
 use Rattle.yq_core.{specs.Paths.Step, specs.Collections.{CollPieces, coll_along, coll_in}, specs.Entries.{EntryPieces, item_at}}
-use Rattle.yq_core.specs.Nodes.{FlowNode, IsFlowNode, Items, alias, anchored, coll, empty, flow_items_text, node_text, scalar, takes_anchor}
-use Rattle.yq_core.{specs.Nodes.without_anchor, specs.NodesWritten.flow_of, specs.Tree.Node}
-use Rattle.yq_core.{specs.Trees.{items_tree, tree_collection, tree_of, with_name}, proofs.Bools.bind_some}
-use Rattle.yq_core.proofs.PathLaws.{items_hold, then_some}
+use Rattle.yq_core.specs.Nodes.{FlowNode, IsFlowNode, Items, anchored, coll, flow_items_text, node_text, without_anchor}
+use Rattle.yq_core.{specs.NodesWritten.flow_of, specs.Tree.Node, specs.Trees.{items_tree, tree_collection, tree_of, with_name}}
+use Rattle.yq_core.{proofs.Bools.bind_some, proofs.PathLaws.{items_hold, then_some}}
 use Rattle.yq_flow_edits.{specs.FlowEdits.FlowEdit, proofs.EditLaws.around_is}
 use Rattle.yq_outline.specs.Counts.{count}
 use Rattle.yq_row_table.specs.Rows.{Cut, cut_text}
@@ -16,7 +16,7 @@ use Rattle.yq_places.specs.Placements.{last_step}
 use Rattle.yq_edit_rules.{specs.Edits.empty_collection, specs.FlowRows.{FlowAt, text_after_node}, specs.Replacing.keeps_scalar}
 use Rattle.yq_lookup.proofs.RowParts.{node_entry}
 use Rattle.yq_edit_laws.{proofs.LaterEnds.rest_in, proofs.FlowSoundLaws.last_is, proofs.FlowPlacements.EntryAt}
-use Rattle.yq_edit_laws.proofs.SoleParts.{IsEmptiedBy, last_of}
+use Rattle.yq_edit_laws.proofs.SoleParts.{IsEmptiedBy, last_of, named_children}
 use Rattle.yq_core.specs.Tree as tree
 use Rattle.yq_edit_laws.proofs.FlowPutLaws as put
 use Rattle.yq_edit_laws.proofs.FlowPlacements as placement
@@ -80,67 +80,33 @@ empty_bytes k = cond (eqb k 125) (123 ∷ (125 ∷ [])) (91 ∷ (93 ∷ []))
 
 named_empty : (a : List ℕ) (n : Node) → empty_collection (with_name a n) ≡ empty_collection n
 named_empty a (tree.alias name) = refl
-named_empty a (tree.scalar b kind t) = refl
-named_empty a (tree.list b cs) = refl
-named_empty a (tree.map b cs) = refl
+named_empty a _ = refl
 
 named_several : (a : List ℕ) (n : Node) → has_several (Some (with_name a n)) ≡ has_several (Some n)
-named_several a (tree.alias name) = refl
-named_several a (tree.scalar b kind t) = refl
-named_several a (tree.list b cs) = refl
-named_several a (tree.map b cs) = refl
+named_several a n = ap (λ (cs : tree.Children). nat_lt 1 (count cs)) (named_children a n)
 
 collection_emptied : (k : ℕ) (cs : tree.Children) → nat_lt 1 (count cs) ≡ false → IsEmptiedBy (empty_tree k) (tree_collection k cs)
-collection_emptied k cs few = go (eqb k 125)
-  where
-    go : (b : Bool) → IsEmptiedBy (cond b (tree.map None tree.none) (tree.list None tree.none)) (cond b (tree.map None cs) (tree.list None cs))
-    go true = (refl, few)
-    go false = (refl, few)
+collection_emptied k cs few = grind (arith, common_steps)
 
 pub node_emptied : (node : FlowNode) (rest : List ℕ) (z : CollPieces) → coll_in node rest ≡ Some z → nat_lt 1 (count (items_tree z.items)) ≡ false → IsEmptiedBy (empty_tree z.close) (tree_of node)
 unfolding tree_of
-node_emptied empty rest z e few = absurd (none-some _ e)
-node_emptied (alias n) rest z e few = absurd (none-some _ e)
-node_emptied (scalar p) rest z e few = absurd (none-some _ e)
 node_emptied (coll k gap is) rest z e few = search (rules, same_Some, e, collection_emptied, few)
 node_emptied (anchored n gap node) rest z e few =
     let h = node_emptied node rest z e few in
     (named_empty n (tree_of node) ∙ h.0, named_several n (tree_of node) ∙ h.1)
+node_emptied _ rest z e few = absurd (none-some _ e)
 
 -- after its anchor it is the collection
 only_coll : (flow : Bool) (spaces : Option ℕ) (d : ℕ) (node : FlowNode) (rest : List ℕ) (z : CollPieces) → IsFlowNode flow spaces d node rest → coll_in node rest ≡ Some z → without_anchor node ≡ coll z.close z.gap z.items
 unfolding IsFlowNode
-only_coll flow spaces d empty rest z h e = absurd (none-some _ e)
-only_coll flow spaces d (alias n) rest z h e = absurd (none-some _ e)
-only_coll flow spaces d (scalar p) rest z h e = absurd (none-some _ e)
-only_coll flow spaces d (coll k gap is) rest z h e = ap (λ (w : CollPieces). coll w.close w.gap w.items) (same_Some _ _ e)
-only_coll flow spaces d (anchored n gap node) rest z h e = go node h.3 e
-  where
-    go : (m : FlowNode) → takes_anchor m ≡ true → coll_in m rest ≡ Some z → m ≡ coll z.close z.gap z.items
-    go empty takes e = absurd (none-some _ e)
-    go (alias n) takes e = absurd (none-some _ e)
-    go (scalar p) takes e = absurd (none-some _ e)
-    go (coll k gap is) takes e = ap (λ (w : CollPieces). coll w.close w.gap w.items) (same_Some _ _ e)
-    go (anchored n gap node) takes e = absurd (false≢true takes)
+only_coll flow spaces d node rest z h e = grind (arith, common_steps, none-some, same_Some, false≢true)
 
 no_scalar : (old : Option Node) (k : ℕ) → keeps_scalar old (empty_tree k) ≡ false
-no_scalar old k = go old (eqb k 125)
-  where
-    open_ : (o : Option Rattle.yq_core.specs.Scalar.ScalarText) → Rattle.yq_edit_rules.specs.Replacing.are_same o None ≡ false
-    open_ None = refl
-    open_ (Some s) = refl
-
-    go : (old : Option Node) (b : Bool) → keeps_scalar old (cond b (tree.map None tree.none) (tree.list None tree.none)) ≡ false
-    go old true = open_ _
-    go old false = open_ _
+no_scalar old k = search rules depth 9
 
 written_empty : (old : List ℕ) (k : ℕ) → node_text (Rattle.yq_edit_rules.specs.FlowParts.flow_value old (empty_tree k)) [] ≡ empty_bytes k
 unfolding node_text flow_of
-written_empty old k = go (eqb k 125)
-  where
-    go : (b : Bool) → node_text (Rattle.yq_edit_rules.specs.FlowParts.flow_value old (cond b (tree.map None tree.none) (tree.list None tree.none))) [] ≡ cond b (123 ∷ (125 ∷ [])) (91 ∷ (93 ∷ []))
-    go true = refl
-    go false = refl
+written_empty old k = grind (arith, common_steps)
 
 -- how long its text is
 pub coll_size : (k : ℕ) (gap : List ℕ) (is : Items) (rest : List ℕ) → length (node_text (coll k gap is) rest) ≡ suc (length gap + length (flow_items_text k is rest))

@@ -1,13 +1,12 @@
 -- What is known of a flow collection with one item or entry, by what is next to that and by how the collection ends.
-use Rattle.std.proofs.Common.{rules, ◌≡◌, ℕ, Bool, true, false, cond, eqb, List, [], ◌∷◌, Some, None, option_map, refl, sym, ap, ◌∙◌}
-use Rattle.std.{proofs.lemmas.Option.{none-some, same_Some}, specs.Prelude.nat_lt}
-use Rattle.yq_core.{specs.Answers.◌>>=◌, specs.Collections.{CollPieces, coll_along, coll_in}, specs.Paths.{Step, further, is_here}}
-use Rattle.yq_core.specs.Entries.{EntryPieces, entry_pieces_at}
-use Rattle.yq_core.{specs.Nodes.{FlowNode, Items, none, item, empty, alias, scalar, coll, anchored}, specs.Places.Placed}
-use Rattle.yq_core.{specs.Tree.key_label, specs.Trees.{items_tree, key_content, placed_tree, tree_of, with_name}, proofs.Bools.bind_some}
-use Rattle.yq_core.proofs.TreeLaws.{node_tree}
+use Rattle.std.proofs.Common.{arith, rules, ◌≡◌, ℕ, Bool, false, cond, eqb, List, Some, None, option_map, refl, sym, ◌∙◌}
+use Rattle.std.{proofs.lemmas.Grind.common_steps, proofs.lemmas.Option.{none-some, same_Some}, specs.Prelude.nat_lt}
+use Rattle.yq_edit_rules.proofs.FlowLocationLaws.{coll_entry}
+use Rattle.yq_core.{specs.Answers.◌>>=◌, specs.Collections.{CollPieces, coll_along, coll_in}, specs.Paths.{Step, further}}
+use Rattle.yq_core.{specs.Entries.{EntryPieces, entry_pieces_at}, specs.Nodes.{FlowNode, Items, none, item, coll, anchored}}
+use Rattle.yq_core.{specs.Tree.key_label, specs.Trees.{items_tree, tree_of, with_name}, proofs.Bools.bind_some, proofs.TreeLaws.node_tree}
 use Rattle.yq_inline.specs.Along.{as_item, front_read}
-use Rattle.yq_inline.specs.Neighbours.{PartTexts, PartsAround, around_part, coll_around, coll_end, coll_read, first_ends, first_text}
+use Rattle.yq_inline.specs.Neighbours.{PartTexts, PartsAround, around_part, coll_around, coll_end, coll_read, first_ends}
 use Rattle.yq_inline.specs.declared.before_offset.LeadingNode.{LeadingNode}
 use Rattle.yq_outline.specs.Counts.{count}
 use Rattle.yq_places.specs.NodesAt.{NodeAt, node_summary}
@@ -25,16 +24,9 @@ named_kind a n = search rules
 
 coll_kind : (node : FlowNode) (rest : List ℕ) (w : CollPieces) → coll_in node rest ≡ Some w → node_summary (tree_of node) ≡ kind_of (eqb w.close 125) (nat_lt 1 (count (items_tree w.items)))
 unfolding tree_of
-coll_kind empty rest w e = absurd (none-some _ e)
-coll_kind (alias n) rest w e = absurd (none-some _ e)
-coll_kind (scalar p) rest w e = absurd (none-some _ e)
 coll_kind (coll k gap is) rest w e = search (rules, same_Some)
 coll_kind (anchored n gap node) rest w e = named_kind n (tree_of node) ∙ coll_kind node rest w e
-
--- the collection to which steps lead is that of the item or entry there
-coll_there : (ss : List Step) (x : EntryPieces) (w : CollPieces) → coll_along ss x.node x.rest ≡ Some w → (y : EntryPieces) × (entry_pieces_at ss x ≡ Some y) × (coll_in y.node y.rest ≡ Some w)
-coll_there [] x w e = (x, refl, e)
-coll_there (s ∷ ss) x w e = search (rules, none-some, coll_there ss)
+coll_kind _ rest w e = absurd (none-some _ e)
 
 -- ---- a sole item or entry
 
@@ -46,14 +38,7 @@ one_left : (k : ℕ) (s : Step) (is : Items) (rest : List ℕ) (x : PartsAround)
 unfolding items_tree
 one_left k s none rest x e first last = refl
 one_left k s (item key n sep none) rest x e first last = refl
-one_left k s (item key n sep (item key2 n2 sep2 is)) rest x e first last = absurd (go (is_here s (key_label (key_content key))) e)
-  where
-    others : Items
-    others = item key2 n2 sep2 is
-
-    go : (b : Bool) → cond b (Some (record { before = None; here = first_ends k key n sep others rest; next = first_text k others rest })) (around_part k (further s) (Some (first_ends k key n sep others rest)) others rest) ≡ Some x → ⊥
-    go true e = none-some _ (sym last ∙ sym (ap (λ (y : PartsAround). y.next) (same_Some _ _ e)))
-    go false e = one_before k (further s) (first_ends k key n sep others rest) others rest x e first
+one_left k s (item key n sep (item key2 n2 sep2 is)) rest x e first last = grind (arith, common_steps, none-some, same_Some, one_before)
 
 -- ---- in a node in front of a text
 
@@ -65,10 +50,7 @@ module _ (ss : List Step) (n : LeadingNode) (s : Step) (y : PartsAround) (is : S
   x = bind_some (front_read n) w.1
 
   abbrev there : (z : EntryPieces) × (entry_pieces_at ss (as_item x.0) ≡ Some z) × (coll_in z.node z.rest ≡ Some w.0)
-  there = coll_there ss (as_item x.0) w.0 x.2
-
-  abbrev summary_of : List ℕ × Placed → NodeAt
-  summary_of z = node_summary (placed_tree z.1)
+  there = coll_entry ss (as_item x.0) w.0 x.2
 
   few : nat_lt 1 (count (items_tree w.0.items)) ≡ false
   few = one_left w.0.close s w.0.items w.0.rest y w.2 first last

@@ -1,21 +1,22 @@
 -- A sole item or entry of a flow collection that is an item or entry itself: that it is removed is that an empty collection replaces its own.
-use Rattle.std.proofs.Common.{rules, ◌≡◌, ℕ, ◌+◌, Bool, true, false, cond, eqb, List, [], ◌∷◌, ◌++◌, length, Option, Some, None, option_map}
-use Rattle.std.{proofs.Common.{refl, sym, ap, ◌∙◌, subst, arith}, proofs.lemmas.Bool.ltb-false, proofs.lemmas.Option.{none-some, same_Some}}
+use Rattle.std.proofs.lemmas.Grind.{common_steps}
+use Rattle.std.proofs.Common.{rules, ◌≡◌, ℕ, ◌+◌, false, List, [], ◌∷◌, ◌++◌, length, Option, Some, None, option_map, refl, sym, ap, ◌∙◌}
+use Rattle.std.{proofs.Common.{subst, arith}, proofs.lemmas.Bool.ltb-false, proofs.lemmas.Option.{none-some, same_Some}}
 use Rattle.std.{specs.Option.option_or, specs.Prelude.{nat_lt, option_and_then}}
 use Rattle.yq_core.{specs.Answers.◌>>=◌, specs.Collections.{CollPieces, coll_along, coll_in}, specs.Entries.{EntryPieces, item_at}}
-use Rattle.yq_core.{specs.Nodes.{FlowNode, Items, none, item, empty, alias, scalar, coll, anchored}, specs.Paths.{Step, further, is_here}}
-use Rattle.yq_core.{specs.Tree.{Children, Node, children_of, key_label}, specs.Trees.{items_tree, key_content, tree_of, with_name}}
-use Rattle.yq_flow_edits.specs.Removals.{before_next, edit_from_item, gap_of, last_out, removing, removing_from}
+use Rattle.yq_core.{specs.Nodes.{FlowNode, Items, none, item, coll, anchored}, specs.Paths.{Step, further, is_here}}
+use Rattle.yq_core.{specs.Tree.{Children, Node, children_of, key_label}, specs.Trees.{items_tree, tree_of, with_name}}
+use Rattle.yq_flow_edits.specs.Removals.{removing, removing_from}
 use Rattle.yq_outline.{specs.Counts.count, specs.Outline.Outline, specs.Places.{FoundLine, lines_before}}
-use Rattle.yq_row_table.{specs.Exchange.after_row, specs.Rows.{Content, Nothing, Inline, Block, Cut, cut_text}}
+use Rattle.yq_row_table.{specs.Exchange.after_row, specs.Rows.{Content, Inline, Cut, cut_text}}
 use Rattle.yq_documents.{specs.Documents.Document, specs.LinesInRows.{RowLine, document_row}, proofs.ReadLaws.parts_read}
 use Rattle.yq_documents.specs.Reading.{documents, part_outline, read_at}
 use Rattle.yq_places.specs.FlowNodes.{content_flow, find_head, flow_collection, head_line, line_collection, part_collection}
 use Rattle.yq_places.{specs.RemovalPlaces.{has_others_at, has_several}, specs.Placements.last_step}
 use Rattle.yq_semantics.{specs.Fits.Fits, specs.Operations.{remove, replace}, specs.Rooms.room_of}
 use Rattle.yq_edit_rules.{proofs.RemovalChangeLaws.take_init, specs.FlowParts.{flow_removed, flow_segments}}
-use Rattle.yq_edit_rules.specs.Edits.{empty_collection, op_edits, part_removed, replace_segments, sole_removed}
-use Rattle.yq_edit_laws.{proofs.EntryLines.found_at, proofs.FlowPartNodes.{LineAt, line_at, part_node}, proofs.FlowSoundLaws.last_is}
+use Rattle.yq_edit_rules.{specs.Edits.{empty_collection, op_edits, part_removed, replace_segments, sole_removed}, proofs.PathLaws.found_at}
+use Rattle.yq_edit_laws.{proofs.FlowPartNodes.{LineAt, line_at, part_node}, proofs.FlowSoundLaws.last_is}
 use Rattle.yq_edit_laws.{proofs.FlowPlacements.{EntryAt, coll_entry}, proofs.SoleLaws.sole_fits, proofs.StepsOn.head_on}
 use Rattle.yq_edit_laws.{specs.Carried.carried, specs.Theorems.IsFitting}
 use Rattle.yq_core.specs.Tree as tree
@@ -29,9 +30,8 @@ along_on (t ∷ ss) s node rest w y found at = search (rules, none-some, along_o
 
 content_on : (x : Content) (ss : List Step) (s : Step) (after : List ℕ) (w : CollPieces) (y : EntryPieces) → content_flow ss x after ≡ Some w →
     item_at w.close s w.items w.rest ≡ Some y → content_flow (ss ++ (s ∷ [])) x after ≡ coll_in y.node y.rest
-content_on (Nothing tail) ss s after w y e at = absurd (none-some _ e)
 content_on (Inline space node tail) ss s after w y e at = along_on ss s node (tail ++ after) w y e at
-content_on (Block space anchor block) ss s after w y e at = absurd (none-some _ e)
+content_on _ ss s after w y e at = absurd (none-some _ e)
 
 head_again : (f : FoundLine) (ss : List Step) (s : Step) → head_line f (ss ++ (s ∷ [])) ≡ Some (f, ss ++ (s ∷ []))
 head_again f [] s = refl
@@ -60,30 +60,18 @@ collection_on c n path a =
 sole_items : (k : ℕ) (rest : List ℕ) (s : Step) (g : List ℕ) (is : Items) → nat_lt 1 (count (items_tree is)) ≡ false → removing_from k rest s g is ≡ None
 unfolding items_tree
 sole_items k rest s g none few = refl
-sole_items k rest s g (item key n sep none) few = go (is_here s (key_label (key_content key)))
-  where
-    go : (b : Bool) → cond b (before_next k rest g key n sep none) (option_or (last_out k rest (further s) g key n sep none) (option_map (edit_from_item g key n sep) (removing_from k rest (further s) (gap_of sep) none))) ≡ None
-    go true = refl
-    go false = refl
+sole_items k rest s g (item key n sep none) few = grind (arith, common_steps)
 sole_items k rest s g (item key n sep (item key2 n2 sep2 is)) few = absurd (omega (arith, ltb-false 1 (count (items_tree (item key n sep (item key2 n2 sep2 is)))) few))
 
-named_children : (a : List ℕ) (n : Node) → children_of (with_name a n) ≡ children_of n
+pub named_children : (a : List ℕ) (n : Node) → children_of (with_name a n) ≡ children_of n
 named_children a (tree.alias name) = refl
-named_children a (tree.scalar b kind t) = refl
-named_children a (tree.list b cs) = refl
-named_children a (tree.map b cs) = refl
+named_children a _ = refl
 
 sole_node : (node : FlowNode) (rest : List ℕ) (w : CollPieces) (s : Step) → nat_lt 1 (count (children_of (tree_of node))) ≡ false → coll_in node rest ≡ Some w → removing s w ≡ None
 unfolding tree_of
-sole_node empty rest w s few e = absurd (none-some _ e)
-sole_node (alias n) rest w s few e = absurd (none-some _ e)
-sole_node (scalar p) rest w s few e = absurd (none-some _ e)
-sole_node (coll k gap is) rest w s few e = subst (λ (v : CollPieces). removing s v ≡ None) (same_Some _ _ e) (sole_items k rest s gap is (go (eqb k 125) few))
-  where
-    go : (b : Bool) → nat_lt 1 (count (children_of (cond b (tree.map None (items_tree is)) (tree.list None (items_tree is))))) ≡ false → nat_lt 1 (count (items_tree is)) ≡ false
-    go true h = h
-    go false h = h
+sole_node (coll k gap is) rest w s few e = grind (arith, common_steps, same_Some, sole_items)
 sole_node (anchored n gap node) rest w s few e = sole_node node rest w s (ap (λ (cs : Children). nat_lt 1 (count cs)) (sym (named_children n (tree_of node))) ∙ few) e
+sole_node _ rest w s few e = absurd (none-some _ e)
 
 -- ---- the operation
 
@@ -92,9 +80,8 @@ abbrev pub IsEmptiedBy : (v old : Node) → Type 0
 IsEmptiedBy v old = (empty_collection old ≡ Some v) × (has_several (Some old) ≡ false)
 
 pub last_of : (path : List Step) (s : Step) → last_step (path ++ (s ∷ [])) ≡ Some (path, s)
-last_of [] s = refl
-last_of (t ∷ []) s = refl
 last_of (t ∷ (u ∷ ss)) s = ap (option_map (λ (y : List Step × Step). (t ∷ y.0, y.1))) (last_of (u ∷ ss) s)
+last_of _ s = refl
 
 module _ (d : Cut) (n : ℕ) (path : List Step) (s : Step) (v : Node) (read : read_at (cut_text d) ≡ Some d) (a : EntryAt d n path) (h : IsEmptiedBy v (tree_of a.item.node)) where
   abbrev gone : List Step

@@ -4,7 +4,7 @@ use Rattle.std.{proofs.Common.length-append, proofs.lemmas.Option.{none-some, sa
 use Rattle.yq_core.{specs.Paths.Step, specs.Tree.Node}
 use Rattle.yq_outline.{specs.Outline.Outline, specs.Places.{FoundLine, in_head, place_inside}}
 use Rattle.yq_places.{specs.FlowNodes.{bare_line, find_head}, proofs.HeadSteps.stem_found}
-use Rattle.yq_edit_laws.proofs.EntryLines.{found_at}
+use Rattle.yq_edit_rules.proofs.PathLaws.{found_at}
 
 abbrev Reached : Type 0
 Reached = FoundLine × List Step

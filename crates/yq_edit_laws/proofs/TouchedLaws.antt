@@ -62,32 +62,28 @@ module _ (ss : List Segment) (new : Cut) (near : IsLocalEdit ss) (kept : are_kep
           from_front before after (length before + length (item_text w)) ended (omega arith) [] ss whole lines kept (omega (arith, front)) back (omega (arith, size_one w ws))
       by_near (inr one) = by_side (side (one new read))
 
-  -- items after what is kept in front
-  later_touched : (back : List Item) → back ≡ in_back (length (kept_back ss)) (items_of_cut new) → (done ws : List Item) → items_of_cut new ≡ done ++ (ws ++ back) → length (kept_front ss) ≤ length (items_text done []) →
-      AreTouched (length (items_text done [])) ws (put_ranges ss)
-  later_touched back after done [] are front = tt
-  later_touched back after done (w ∷ ws) are front =
+  -- items the first of which ends after what is kept in front
+  items_touched : (back : List Item) → back ≡ in_back (length (kept_back ss)) (items_of_cut new) → (done ws : List Item) → items_of_cut new ≡ done
+      ++ (ws ++ back) →
+      ((w : Item) (more : List Item) → items_of_cut new ≡ done ++ (w ∷ more) →
+      length (kept_front ss) ≤ length (items_text done []) + length (item_text w)) → AreTouched (length (items_text done [])) ws (put_ranges ss)
+  items_touched back after done [] are front = tt
+  items_touched back after done (w ∷ ws) are front =
       let n : length (items_text (done ++ (w ∷ [])) []) ≡ length (items_text done []) + length (item_text w) = omega (arith, size_joined done (w ∷ []), size_one w []) in
+      let front_long = front w (ws ++ back) are in
       let back_long : length (kept_back ss) ≤ length (items_text (w ∷ (ws ++ back)) []) =
       subst (λ (b : List Item). length (kept_back ss) ≤ length (items_text (w ∷ (ws ++ b)) [])) (sym after)
       (back_stop (length (kept_back ss)) (items_of_cut new) done w ws (are ∙ ap (λ (b : List Item). done ++ (w ∷ (ws ++ b))) after)) in (
-        item_touched done w (ws ++ back) are (omega (arith, front)) back_long,
-        subst (λ (k : ℕ). AreTouched k ws (put_ranges ss)) n (later_touched back after (done ++ (w ∷ [])) ws (are ∙ sym (append_assoc done (w ∷ []) (ws ++ back))) (omega (arith, n, front))),
+        item_touched done w (ws ++ back) are front_long back_long,
+        subst (λ (k : ℕ). AreTouched k ws (put_ranges ss)) n
+            (items_touched back after (done ++ (w ∷ [])) ws (are ∙ sym (append_assoc done (w ∷ []) (ws ++ back)))
+            (λ u more rest. omega (arith, n, front_long))),
       )
 
   -- all of them
   all_touched : (front back : List Item) → front ≡ before_offset (length (kept_front ss)) (items_of_cut new) → back ≡ in_back (length (kept_back ss)) (items_of_cut new) → (ws : List Item) → items_of_cut new ≡ front ++ (ws ++ back) →
       AreTouched (length (items_text front [])) ws (put_ranges ss)
-  all_touched front back before after [] are = tt
-  all_touched front back before after (w ∷ ws) are =
-      let n : length (items_text (front ++ (w ∷ [])) []) ≡ length (items_text front []) + length (item_text w) = omega (arith, size_joined front (w ∷ []), size_one w []) in
-      let front_long : length (kept_front ss) ≤ length (items_text front []) + length (item_text w) = search (rules, front_stop) in
-      let back_long : length (kept_back ss) ≤ length (items_text (w ∷ (ws ++ back)) []) =
-      subst (λ (b : List Item). length (kept_back ss) ≤ length (items_text (w ∷ (ws ++ b)) [])) (sym after)
-      (back_stop (length (kept_back ss)) (items_of_cut new) front w ws (are ∙ ap (λ (b : List Item). front ++ (w ∷ (ws ++ b))) after)) in (
-        item_touched front w (ws ++ back) are front_long back_long,
-        subst (λ (k : ℕ). AreTouched k ws (put_ranges ss)) n (later_touched back after (front ++ (w ∷ [])) ws (are ∙ sym (append_assoc front (w ∷ []) (ws ++ back))) (omega (arith, n, front_long))),
-      )
+  all_touched front back before after ws are = items_touched back after front ws are (λ w more are. (search (rules, front_stop)))
 
 pub near_touched : NearAreTouched
 near_touched ss c new near kept read front back is after t = search (rules, all_touched)

@@ -10,8 +10,8 @@ use Rattle.yq_semantics.specs.Operations.{append}
 use Rattle.yq_places.{specs.CollectionEnds.CollectionEnd, specs.CommentPlaces.text_to_line_end, specs.PrintedLines.last_break}
 use Rattle.yq_places.proofs.CommentEndLaws.{row_text_parts}
 use Rattle.yq_places.specs.Placements.{RowsOfEntry, before_entry, after_entry, entry_placement, held, is_alone, rows_of_entry, under}
-use Rattle.yq_edit_rules.{specs.declared.layout.Layout.Layout, specs.Edits.op_edits, specs.EntryEdits.{after_held, more_lines}}
-use Rattle.yq_edit_rules.{specs.Layouts.layout_of, specs.RowChanges.PutsOne, specs.PlacementLaws.HasItsRows}
+use Rattle.yq_edit_rules.{specs.Edits.op_edits, specs.EntryEdits.{after_held, more_lines}, specs.Layouts.layout_of}
+use Rattle.yq_edit_rules.{specs.RowChanges.PutsOne, specs.PlacementLaws.HasItsRows}
 use Rattle.yq_edit_laws.{proofs.CollectionIsThere.{end_at, front_there, headless_mark}, proofs.EntryAdds.AddsEntry}
 use Rattle.yq_edit_laws.{proofs.FinalBreaks.{feed_last, last_feed}, proofs.MoreLaws.{below_some, there, under_end, under_spelled}}
 use Rattle.yq_edit_laws.proofs.OnePutLaws.{lines_put_one}
@@ -51,11 +51,8 @@ module _ (m : ℕ) (s : Step) (ss : List Step) (d : Cut) (e : RowsOfEntry) (r : 
 
 module _ (m : ℕ) (s : Step) (ss : List Step) (key : List ℕ) (v : Node) (d : Cut) (e : RowsOfEntry) (read : read_at (cut_text d) ≡ Some d) (found : rows_of_entry m (s ∷ ss) d ≡ Some e) (r : Row) (rs : List Row)
     (last : e.line ≡ length e.row.dashes) (plain : is_block e.row.content ≡ false) (none : is_empty (slices e.row).head ≡ true) (is : e.under ≡ r ∷ rs) (single : is_alone r ≡ false) (broken : is_empty (held e).last ≡ false) where
-  abbrev l : Layout
-  l = layout_of m d
-
   abbrev lines : List ℕ
-  lines = more_lines l (Some key) v r.column (10 ∷ [])
+  lines = more_lines (layout_of m d) (Some key) v r.column (10 ∷ [])
 
   abbrev segments : List Segment
   segments = after_held (held e) lines
@@ -66,7 +63,7 @@ module _ (m : ℕ) (s : Step) (ss : List Step) (key : List ℕ) (v : Node) (d : 
   abbrev pub upto : List ℕ
   upto = before_entry e ++ print_row e.row (rows_text e.under [])
 
-  more_is : more_lines l (Some key) v r.column (held e).last ≡ lines
+  more_is : more_lines (layout_of m d) (Some key) v r.column (held e).last ≡ lines
   more_is = search rules
 
   edited : op_edits (append m (s ∷ ss) (Some key) v) d ≡ Some segments

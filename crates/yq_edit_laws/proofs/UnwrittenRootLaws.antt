@@ -1,4 +1,5 @@
 -- Where the root of a document comes that has no rows: in general, and after a text that ends in a break.
+use Rattle.std.proofs.lemmas.Grind.{common_steps}
 use Rattle.std.proofs.Common.{◌≡◌, ◌⊎◌, inl, inr, ℕ, zero, suc, ◌≤◌, List, [], ◌∷◌, ◌++◌, length, Some, Bool, true, false, refl, sym, ap}
 use Rattle.std.proofs.Common.{◌∙◌, subst, arith, append_assoc, append-nil, ⊎_elim, length-append, rules}
 use Rattle.std.{proofs.lemmas.List.nil_from_length, proofs.lemmas.Bool.{false≢true, or_right, and_parts, or_parts}}
@@ -30,10 +31,9 @@ use Rattle.yq_core.specs.declared.block_types.Break.TheVariants as breaks
 -- the end of a text tells
 pub closed_after : (a b : List ℕ) → is_empty b ≡ false → is_closed_text (a ++ b) ≡ is_closed_text b
 unfolding is_closed_text
-closed_after [] b some = refl
 closed_after (x ∷ []) [] some = absurd (false≢true (sym some))
-closed_after (x ∷ []) (y ∷ b) some = refl
 closed_after (x ∷ (z ∷ a)) b some = closed_after (z ∷ a) b some
+closed_after _ _ some = refl
 
 -- with a break after it a text ends in one
 pub closed_end : (a b : List ℕ) → IsLfOrCrLf b → is_closed_text (a ++ b) ≡ true
@@ -80,16 +80,7 @@ last_line l x h closed = ⊎_elim {0, 0, 0}
 closed_lines : (ls : List (List ℕ)) (x : List ℕ) → AreGapLines ls [] → is_closed_text (joined ls) ≡ true → AreGapLines ls x
 closed_lines [] x h e = tt
 closed_lines (l ∷ []) x h e = (last_line l x h.0 (sym (ap is_closed_text (append-nil l)) ∙ e), tt)
-closed_lines (l ∷ (k ∷ ls)) x h e =
-    let some : is_empty (k ++ joined ls) ≡ false = some_more k (joined ls) h.1.0.some in (
-      record {
-        white = h.0.white;
-        comment = h.0.comment;
-        line = line_end_other h.0.white h.0.comment l ((k ++ joined ls) ++ []) ((k ++ joined ls) ++ x) (some_more (k ++ joined ls) [] some) h.0.line;
-        some = h.0.some;
-      },
-      closed_lines (k ∷ ls) x h.1 (sym (closed_after l (k ++ joined ls) some) ∙ e),
-    )
+closed_lines (l ∷ (k ∷ ls)) x h e = grind (arith, common_steps, some_more, line_end_other, closed_after, closed_lines (k ∷ ls) x h.1)
 
 -- ---- the marker in front
 
@@ -99,9 +90,8 @@ marker_at (marked p marker c) zero started h = inl refl
 marker_at (marked p marker c) (suc k) started h = inr (go c k marker (begins_document marker) h.2 h.1)
   where
     go : (c : Cut) (k : ℕ) (before : List ℕ) (started : Bool) → AreParts started c → IsMarkerLine before (cut_text c) → IsMarkerLine (marker_before before k c) (part_text (nth_part k c) (after_part k c))
-    go (last p) k before started h line = line
-    go (marked p marker c) zero before started h line = line
     go (marked p marker c) (suc k) before started h line = go c k marker (begins_document marker) h.2 h.1
+    go _ _ before started h line = line
 
 -- the text before a document ends in it
 ends_at_marker : (i : ℕ) (c : Cut) (before : List ℕ) → (pre : List ℕ) × (before ++ before_part i c ≡ pre ++ marker_before before i c)

@@ -9,6 +9,7 @@ use Rattle.yq_row_table.{specs.Rows.{print_row, Row, rows_text, Part, Cut, cut_t
 use Rattle.yq_row_table.{proofs.PlaceLaws.row_then, proofs.seams.SeamLaws.rows_text-append, specs.Items.rows_items}
 use Rattle.yq_row_table.specs.Grammar.{IsTail, limit_after}
 use Rattle.yq_places.{specs.CollectionEnds.CollectionEnd, specs.RowPaths.IsReadable, proofs.RunSpans.rows_then}
+use Rattle.yq_places.proofs.RemovalLines.{front_some}
 use Rattle.yq_documents.specs.Reading.{read_at}
 use Rattle.yq_edit_rules.{specs.declared.layout.Layout.Layout, specs.Alone.singleton, specs.BlockRows.node_rows}
 use Rattle.yq_edit_rules.{proofs.TextLaws.value_spelled, specs.Changed.put_document, specs.CollectionPlaces.IsCollectionEnd}
@@ -17,7 +18,7 @@ use Rattle.yq_edit_rules.{proofs.ItemsLocal.{first_within, last_nothing}, proofs
 use Rattle.yq_edit_rules.{specs.EntryEdits.entry_lines, specs.ReadsAfter.ReadsAfter, proofs.CommentPieceLaws.break_piece}
 use Rattle.yq_edit_rules.{proofs.SegmentLaws.segments_readable, specs.BlockValues.IsEnd, specs.Ends.{TakesRowsLast, closed_with}}
 use Rattle.yq_edit_rules.proofs.EndLaws.{end_of_text_appended}
-use Rattle.yq_edit_rules.proofs.UnbrokenLaws.{EndsText, ends_text, closed_row, closed_text, closed_root, closed_lead, some_closed}
+use Rattle.yq_edit_rules.proofs.UnbrokenLaws.{EndsText, ends_text, closed_row, closed_text, closed_root, closed_lead}
 use Rattle.yq_edit_rules.proofs.AppendEntryLaws.{none_uncommented}
 use Rattle.yq_edit_rules.proofs.AppendPlaces.{IsAppendPlace, put_segments, old_is, p, there, e, allows_there, kept_pieces, IsAsked, entry}
 use Rattle.yq_edit_rules.{proofs.AppendPlaces.{written, new_rows_are, entry_piece, filled, finished}, proofs.LaidRows.no_gap_here}
@@ -129,6 +130,6 @@ module _ (doc : ℕ) (steps : List Step) (key : Option (List ℕ)) (v : Node) (c
       }) (omega arith) longer (omega arith) (last_nothing (rows_items (closed_by (break_text l.br) place.last ∷ new) [])) in (
         subst (ReadsAfter (append doc steps key v) c) new_is
             (finished doc steps key v c x read at g q [] none_uncommented changed (closed_lead part place.others new place.last (break_text l.br) ends.rows_are) (closed_root part place.others new place.last (break_text l.br) ends.rows_are)
-            (some_closed place.others new place.last (break_text l.br))),
+            (front_some place.others (closed_by (break_text l.br) place.last) (new ++ []))),
         cut_known ss c (put_document doc q c) changed.read new_is local,
       )

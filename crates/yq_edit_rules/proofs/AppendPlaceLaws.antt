@@ -1,4 +1,10 @@
 -- What may be at the end of a block collection.
+use Rattle.yq_edit_rules.{proofs.FirstReplaceLaws.rows_after, specs.CollectionPlaces.IsCollectionEnd}
+use Rattle.yq_edit_rules.{specs.DocumentRows.{IsDocumentPart, after_document}, specs.LineRows.{Begins, AreDeep}, specs.Moved.dash_lines}
+use Rattle.yq_edit_rules.proofs.ApartLaws.{even_deep, lines_apart, block_some}
+use Rattle.yq_edit_rules.{proofs.ColumnLaws.{allowed_content, below_node, high_level, next_low}, proofs.LineLaws.{above_mark, mark_after}}
+use Rattle.yq_edit_rules.{proofs.NodeLineLaws.lines_even, proofs.PartLaws.{document_known, part_numbered}}
+use Rattle.yq_edit_rules.proofs.PlacedLaws.{same_parts, whole_lines}
 use Rattle.std.proofs.Common.{◌≡◌, ℕ, suc, ◌+◌, ◌*◌, ◌<◌, ◌≤◌, List, [], ◌∷◌, ◌++◌, Option, Some, None, true, refl, sym, ap, ◌∙◌, subst}
 use Rattle.std.{proofs.Common.{arith, append_assoc, append-nil, length-append, rules}, proofs.lemmas.Bool.lt-ltb}
 use Rattle.std.proofs.lemmas.Option.{same_Some}
@@ -12,11 +18,6 @@ use Rattle.yq_row_table.{specs.Splices.{first_gap, after_first}, proofs.PlainEnd
 use Rattle.yq_row_table.{proofs.splices.PartPlaces.{part_in, part_ends}, proofs.splices.SpliceTexts.first_is}
 use Rattle.yq_places.{specs.CollectionEnds.CollectionEnd, proofs.UnderExchange.lines_append}
 use Rattle.yq_documents.{specs.Reading.part_outline, specs.PartNumbers.part_number}
-use Rattle.yq_edit_rules.{specs.CollectionPlaces.IsCollectionEnd, specs.DocumentRows.{IsDocumentPart, after_document}}
-use Rattle.yq_edit_rules.{specs.LineRows.{Begins, AreDeep}, specs.Moved.dash_lines, proofs.ApartLaws.{even_deep, lines_apart, block_some}}
-use Rattle.yq_edit_rules.{proofs.ColumnLaws.{allowed_content, below_node, high_level, next_low}, proofs.LineLaws.{above_mark, mark_after}}
-use Rattle.yq_edit_rules.{proofs.NodeLineLaws.lines_even, proofs.PartLaws.{document_known, part_numbered}}
-use Rattle.yq_edit_rules.proofs.PlacedLaws.{same_parts, whole_lines}
 
 -- ---- a row whose last line is deep
 
@@ -69,10 +70,6 @@ low_first : (n column : ℕ) (back : List Row) → n ≤ 3 * column + 3 → (m :
 low_first n column [] high m less next = refl
 low_first n column (b ∷ bs) high m less next = let low = next_low m (b ∷ bs) b bs refl next in lt-ltb b.column (suc column) (omega (arith, high, less, low))
 
-pub following_rows : (front back : List Row) (limit : Limit) (gap rest : List ℕ) → AreRows limit (front ++ back) gap rest → AreRows (asked_after limit front) back gap rest
-following_rows [] back limit gap rest h = h
-following_rows (r ∷ front) back limit gap rest h = following_rows front back (limit_after r) gap rest h.1
-
 -- What may be at the end of a collection.
 pub record EndAllows (c : Cut) (k : ℕ) (p : Part) (x : CollectionEnd) (front back : List Row) : Type 0 where
   pub rows : AreRows unlimited (front ++ back) p.end (after_document k c)
@@ -102,7 +99,7 @@ end_allows t c k p steps x h e =
     let all : AreRows unlimited (e.front ++ e.back) p.end rest =
     subst (λ (rs : List Row). AreRows unlimited rs p.end rest) e.rows_are
     (subst (λ (y : Part). AreRows unlimited y.rows y.end rest) (part_numbered c k p h.there).0 (part_in c (part_number k c) true known.cut.parts).rows) in
-    let after : AreRows (asked_after unlimited e.front) e.back p.end rest = following_rows e.front e.back unlimited p.end rest all in
+    let after : AreRows (asked_after unlimited e.front) e.back p.end rest = rows_after unlimited e.front e.back p.end rest all in
     let next : allows_first (record { column = Some (suc x.column) }) e.back ≡ true = low_first n x.column e.back lev.1 e.h.above deep.0 (subst (Begins e.h.above) (sym parts.2) apart.1) in
     record {
       rows = all;

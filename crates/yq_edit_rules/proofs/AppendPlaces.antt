@@ -36,26 +36,23 @@ abbrev pub put_segments : CollectionEnd → List ℕ → List Segment
 put_segments x new = keep x.before ∷ (put [] new ∷ (keep x.after ∷ []))
 
 module _ (doc : ℕ) (steps : List Step) (c : Cut) (x : CollectionEnd) (read : read_at (cut_text c) ≡ Some c) (at : IsAppendPlace doc steps c x) where
-  abbrev t : List ℕ
-  t = cut_text c
-
   abbrev rest : List ℕ
   rest = after_document doc c
 
   abbrev pub p : Part
   p = at.part
 
-  pub there : IsDocumentPart t c doc p
+  pub there : IsDocumentPart (cut_text c) c doc p
   there = record { read = read; there = at.there }
 
   pub e : IsCollectionEnd c doc p steps x
   e = at.end
 
   pub allows_there : EndAllows c doc p x e.front e.back
-  allows_there = end_allows t c doc p steps x there e
+  allows_there = end_allows (cut_text c) c doc p steps x there e
 
   -- the old text
-  pub old_is : x.before ++ x.after ≡ t
+  pub old_is : x.before ++ x.after ≡ (cut_text c)
   old_is = search (rules, append_assoc, rows_then, rows_text-append)
 
   pub kept_pieces : IsPiece x.before × IsPiece x.after

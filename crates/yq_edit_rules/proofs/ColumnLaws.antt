@@ -87,7 +87,7 @@ next_stays limit (r ∷ rs) (b ∷ bs) end rest l ls h e next =
     search (rules, lt-ltb, ltb-true)
 
 -- the indentation of a block scalar
-indent_least : (least : ℕ) (digit : Option ℕ) (f : TextIndent) (raw : RawLines) → IsDigit digit → IsTextIndent least digit f raw → least ≤ f.columns
+pub indent_least : (least : ℕ) (digit : Option ℕ) (f : TextIndent) (raw : RawLines) → IsDigit digit → IsTextIndent least digit f raw → least ≤ f.columns
 indent_least least (Some d) f raw small h = let same = ap (λ (x : TextIndent). x.columns) h in let one = small.0 in omega (arith, same, one)
 indent_least least None f [] small h = let same = ap (λ (x : TextIndent). x.columns) h in omega (arith, same)
 indent_least least None f (l ∷ raw) small h =

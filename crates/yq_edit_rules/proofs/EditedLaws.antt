@@ -10,19 +10,19 @@ use Rattle.yq_outline.{proofs.Decides.{flatten-group, even_from}, proofs.Finding
 use Rattle.yq_outline.{proofs.PlaceLaws.{at, exchanged}, proofs.Plug.allows_from, proofs.Values.{same_rank, same_entry}}
 use Rattle.yq_outline.{proofs.NameLaws.{each_front, each_back}, proofs.NodeLaws.anchored_none}
 use Rattle.yq_row_table.specs.Rows.{Part, Cut}
-use Rattle.yq_documents.{specs.Documents.{document_parts, lead_of}, specs.Reading.{is_document, part_outline, read_at, root_of}}
-use Rattle.yq_documents.{proofs.DocumentLaws.document_is, proofs.ReadLaws.text_takes, specs.TreeEdits.headed}
+use Rattle.yq_documents.{proofs.PartRows.each, specs.Documents.{document_parts, lead_of}}
+use Rattle.yq_documents.{specs.Reading.{is_document, part_outline, read_at, root_of}, proofs.DocumentLaws.document_is}
+use Rattle.yq_documents.{proofs.ReadLaws.text_takes, specs.TreeEdits.headed}
 use Rattle.yq_places.proofs.RowPathLaws.{document_fine}
 use Rattle.yq_edit_rules.{specs.Changed.{IsChanged, put_document, first_comment}, specs.Conditions.{last_anchor, BeginsEntry}}
 use Rattle.yq_edit_rules.specs.Edited.{IsPut, OldIsEven, OldIsSound, LinesAreThere, LineExchanged, LinesExchanged, LinesAppended}
 use Rattle.yq_edit_rules.{specs.Edited.{LinesRemoved, LineRelabelled, LeadIsAbove, RootHasLead}, specs.SoundRoots.IsSoundRoot}
-use Rattle.yq_edit_rules.specs.Siblings.{HasEntries, NodeLines, put_lines, AreSomewhere}
+use Rattle.yq_edit_rules.specs.Siblings.{HasEntries, IsEntryAt, NodeLines, put_lines, AreSomewhere}
 use Rattle.yq_edit_rules.proofs.AnchorLaws.{any_free, anchors_stay, after_anew, both_anew, collection_anew, lines_among}
 use Rattle.yq_edit_rules.proofs.ChangedLaws.{document_changed, lead_is_first}
 use Rattle.yq_edit_rules.proofs.CollectionLaws.{Splits, some_at, level_mark, appended, removed, relabelled}
 use Rattle.yq_edit_rules.proofs.NodeLineLaws.{lines_found, lines_even, lines_replaced}
-use Rattle.yq_edit_rules.{proofs.SiblingLaws.{entry_out, entries, even_right, next, rest_entries}, proofs.PartLaws.all_at}
-use Rattle.yq_edit_rules.proofs.PlacedLaws.{around}
+use Rattle.yq_edit_rules.{proofs.SiblingLaws.{entry_out, entries, even_right, next, rest_entries}, proofs.PlacedLaws.around}
 use Rattle.yq_outline.proofs.Allowing as allowing
 
 -- What is known of a part that is a document.
@@ -36,7 +36,7 @@ pub known : (t : List ℕ) (c : Cut) (k : ℕ) (p q : Part) → IsPut t c k p q 
 unfolding read_at
 known t c k p q h =
     let old = text_takes t c (guard_then _ h.read).1 in
-    let doc : is_document p ≡ true = all_at (document_parts c) k p old.1 h.there in
+    let doc : is_document p ≡ true = each (document_parts c) old.1 k p h.there in
     let is = document_is p doc in
     record {
       even = even_from _ _ (document_fine p doc);
@@ -135,6 +135,25 @@ lines_appended t c k p q steps h m l v put there fits each lines sound =
 after_split : (s : Step) (o : Outline) (f : FoundLine) → Splits s o f → HasEntries o → IsEven (level_or 0 o) o → BeginsEntry (flatten f.after) × allowing.IsEntry f.line.mark
 after_split s o f w block even = search (rules, rest_entries, entries, even_right, collection_anew, next)
 
+-- the anchors of a block collection with other lines in the place of those of an item or entry
+each_exchanged : (n : ℕ) (o : Outline) (steps : List Step) (h : NodeLines) (s : Step) (f : FoundLine) (d : List Line) → IsEven n o →
+    IsEntryAt steps s o h f → HaveOneAnchorEach (put_lines h (with_lines f (f.line ∷ flatten f.under))) →
+    (HaveOneAnchorEach (f.line ∷ flatten f.under) → HaveOneAnchorEach d) → (allowing.IsEntry f.line.mark → BeginsEntry d) →
+    HaveOneAnchorEach (put_lines h (with_lines f d))
+each_exchanged n o steps h s f d even entry was each begins =
+    let among = lines_among n o steps h even entry.place_is in
+    let r = some_at s h.lines f entry.found in
+    let x : List Line = flatten r.front in
+    let y : List Line = flatten f.after in
+    let e : List Line = f.line ∷ flatten f.under in
+    let a : List Line = lines_before h.place in
+    let z : List Line = lines_after h.place in
+    let place : (ls : List Line) → put_lines h (with_lines f ls) ≡ (a ++ x) ++ (ls ++ (y ++ z)) = λ ls. ap (put_lines h) (r.lines ls) ∙ around a x ls y z in
+    let old : HaveOneAnchorEach ((a ++ x) ++ (e ++ (y ++ z))) = subst HaveOneAnchorEach (place e) was in
+    let anew = after_split s h.lines f r entry.block (lines_even n o steps h even entry.place_is entry.block).1 in
+    subst HaveOneAnchorEach (sym (place d)) (anchors_stay (a ++ x) e d (y ++ z) old (each (each_front e (y ++ z) (each_back (a ++ x) (e ++ (y ++ z)) old)))
+    (any_free (last_anchor (a ++ x)) d (begins anew.1)) (both_anew y z anew.0 among.0))
+
 pub lines_removed : LinesRemoved
 lines_removed t c k p q steps h s f put entry left lines sound =
     let w = known t c k p q put in
@@ -142,19 +161,8 @@ lines_removed t c k p q steps h s f put entry left lines sound =
     let n : ℕ = level_or 0 o in
     let g : Node → Node = changed_at steps (within (remove_child s)) in
     let law = removed n o steps h s f w.even entry left in
-    let among = lines_among n o steps h w.even entry.place_is in
-    let r = some_at s h.lines f entry.found in
-    let deep = lines_even n o steps h w.even entry.place_is entry.block in
-    let x : List Line = flatten r.front in
-    let y : List Line = flatten f.after in
-    let e : List Line = f.line ∷ flatten f.under in
-    let a : List Line = lines_before h.place in
-    let z : List Line = lines_after h.place in
-    let place : (ls : List Line) → put_lines h (with_lines f ls) ≡ (a ++ x) ++ (ls ++ (y ++ z)) = λ ls. ap (put_lines h) (r.lines ls) ∙ around a x ls y z in
-    let was : lines_of_rows p.rows ≡ (a ++ x) ++ (e ++ (y ++ z)) = sym w.lines ∙ (law.0 ∙ place e) in
     let one : HaveOneAnchorEach (put_lines h (with_lines f [])) =
-    subst HaveOneAnchorEach (sym (place [])) (anchors_stay (a ++ x) e [] (y ++ z) (subst HaveOneAnchorEach was w.each) tt (any_free (last_anchor (a ++ x)) [] tt)
-    (both_anew y z (after_split s h.lines f r entry.block deep.1).0 among.0)) in
+    each_exchanged n o steps h s f [] w.even entry (subst HaveOneAnchorEach (sym w.lines ∙ law.0) w.each) (λ old. tt) (λ old. tt) in
     finish t c k p q g put (subst (λ ls. AreSomewhere ls (g (root_of p))) (sym lines) law.1) (subst HaveOneAnchorEach (sym lines) one) sound
 
 pub line_relabelled : LineRelabelled
@@ -164,23 +172,10 @@ line_relabelled t c k p q steps h s f g l put entry new_line lines sound =
     let n : ℕ = level_or 0 o in
     let i : Node → Node = changed_at steps (within (relabel_child s g)) in
     let law = relabelled n o steps h s f g l w.even entry new_line in
-    let among = lines_among n o steps h w.even entry.place_is in
-    let r = some_at s h.lines f entry.found in
-    let deep = lines_even n o steps h w.even entry.place_is entry.block in
-    let x : List Line = flatten r.front in
-    let y : List Line = flatten f.after in
-    let e : List Line = f.line ∷ flatten f.under in
-    let d : List Line = l ∷ flatten f.under in
-    let a : List Line = lines_before h.place in
-    let z : List Line = lines_after h.place in
-    let place : (ls : List Line) → put_lines h (with_lines f ls) ≡ (a ++ x) ++ (ls ++ (y ++ z)) = λ ls. ap (put_lines h) (r.lines ls) ∙ around a x ls y z in
-    let was : HaveOneAnchorEach ((a ++ x) ++ (e ++ (y ++ z))) = subst HaveOneAnchorEach (sym w.lines ∙ (law.0 ∙ place e)) w.each in
-    let olds : HaveOneAnchorEach e = each_front e (y ++ z) (each_back (a ++ x) (e ++ (y ++ z)) was) in
-    let news : HaveOneAnchorEach d = (subst (λ b. IsFree b (flatten f.under)) (sym new_line.anchor_is) olds.0, olds.1) in
-    let around_it = after_split s h.lines f r entry.block deep.1 in
-    let mark = entry_out l.mark (same_entry f.line.mark l.mark around_it.1 (same_rank f.line l (sym new_line.level_is))) in
-    let one : HaveOneAnchorEach (put_lines h (with_lines f d)) =
-    subst HaveOneAnchorEach (sym (place d)) (anchors_stay (a ++ x) e d (y ++ z) was news (any_free (last_anchor (a ++ x)) d mark) (both_anew y z around_it.0 among.0)) in
+    let one : HaveOneAnchorEach (put_lines h (with_lines f (l ∷ flatten f.under))) =
+    each_exchanged n o steps h s f (l ∷ flatten f.under) w.even entry (subst HaveOneAnchorEach (sym w.lines ∙ law.0) w.each)
+    (λ old. (subst (λ b. IsFree b (flatten f.under)) (sym new_line.anchor_is) old.0, old.1))
+    (λ was. entry_out l.mark (same_entry f.line.mark l.mark was (same_rank f.line l (sym new_line.level_is)))) in
     finish t c k p q i put (subst (λ ls. AreSomewhere ls (i (root_of p))) (sym lines) law.1) (subst HaveOneAnchorEach (sym lines) one) sound
 
 -- a block collection under a lead

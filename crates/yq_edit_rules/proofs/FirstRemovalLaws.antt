@@ -110,13 +110,10 @@ module _ (c : Cut) (k : ℕ) (y : Step) (ys ss : List Step) (s : Step) (x : Text
   are : AreRows unlimited p.rows p.end rest
   are = part_rows t c k p old known.cut
 
-  abbrev z : List ℕ
-  z = p.end ++ rest
-
   abbrev next : List ℕ
-  next = rows_text (fr.next ∷ fr.back) z
+  next = rows_text (fr.next ∷ fr.back) (p.end ++ rest)
 
-  ft : FirstText a.start z q fr.front (fr.next ∷ fr.back) e.piece
+  ft : FirstText a.start (p.end ++ rest) q fr.front (fr.next ∷ fr.back) e.piece
   ft =
       first_text p a.start rest w.h w.f q fr e.later e.number w.number e.row_line_is (lines_counted p m ss s w.h w.f known.even w.entry e.number w.number) fine are y ys e.piece e.line
       (ap (λ (o : Option PrintedDocument). o >>= piece_in Entry (y ∷ ys)) (sym a.printed) ∙ e.is)
@@ -241,7 +238,7 @@ module _ (c : Cut) (k : ℕ) (y : Step) (ys ss : List Step) (s : Step) (x : Text
   moved none less =
       let b : Row = fr.next in
       let new : Row = moved_up r ns b in
-      let u : List ℕ = rows_text fr.back z in
+      let u : List ℕ = rows_text fr.back (p.end ++ rest) in
       let following = rows_after unlimited fr.front (r ∷ (fr.gone ++ (b ∷ fr.back))) p.end rest (subst (λ (rs : List Row). AreRows unlimited rs p.end rest) fr.rows_are are) in
       let own = rows_after (limit_after r) fr.gone (b ∷ fr.back) p.end rest following.1 in
       let g : NoGap b u = no_gap (asked_after (limit_after r) fr.gone) b u own.0 none in

@@ -12,7 +12,8 @@ use Rattle.yq_edit_rules.{specs.FlowRows.{text_after_node, FlowAt}, proofs.FlowP
 use Rattle.yq_edit_rules.{proofs.FlowRowLaws.flow_is_there, proofs.PartLaws.document_known, proofs.TextPieceLaws.text_is_piece}
 
 -- a collection is that of the item or entry to which the steps lead
-coll_entry : (ss : List Step) (x : EntryPieces) (w : CollPieces) → coll_along ss x.node x.rest ≡ Some w → (y : EntryPieces) × (entry_pieces_at ss x ≡ Some y) × (coll_in y.node y.rest ≡ Some w)
+pub coll_entry : (ss : List Step) (x : EntryPieces) (w : CollPieces) → coll_along ss x.node x.rest ≡ Some w → (y : EntryPieces)
+    × (entry_pieces_at ss x ≡ Some y) × (coll_in y.node y.rest ≡ Some w)
 coll_entry [] x w e = (x, refl, e)
 coll_entry (s ∷ ss) x w e =
     let z = then_some (path_inside s x.node x.rest) e in

@@ -9,10 +9,11 @@ use Rattle.yq_places.{specs.CommentPlaces.{LineEnd, end_in_line, text_to_line_en
 use Rattle.yq_places.{specs.RowPieces.space_before, specs.Placements.{RowsOfEntry, before_entry, after_entry, held, rows_of_entry}}
 use Rattle.yq_places.{proofs.CommentEndLaws.row_text_parts, proofs.CommentPieceLaws.Ended, proofs.LineEndLaws.{line_tail, tail_is_end}}
 use Rattle.yq_places.proofs.RunSpans.{rows_then}
-use Rattle.yq_edit_rules.{proofs.HeldLaws.{no_break, front_is, held_there}, specs.PlacementLaws.{HeldSpells, HoldsPieces, HasItsRows}}
-use Rattle.yq_edit_rules.{specs.TextPieces.IsPiece, proofs.PlacementMarks.{entry_there, row_there, rows_ended_there}}
-use Rattle.yq_edit_rules.{proofs.PlacementRows.rows_located, proofs.TextPieceLaws.{line_cut, piece_back, text_is_piece}}
-use Rattle.yq_edit_rules.{proofs.BreakLaws.{IsLfOrCrLf, break_is, last_is}, proofs.CommentRowLaws.{entry_row, cut_spelled}}
+use Rattle.yq_edit_rules.{proofs.OneLines.left_none, proofs.HeldLaws.{no_break, front_is, held_there}}
+use Rattle.yq_edit_rules.{specs.PlacementLaws.{HeldSpells, HoldsPieces, HasItsRows}, specs.TextPieces.IsPiece}
+use Rattle.yq_edit_rules.{proofs.PlacementMarks.{entry_there, row_there, rows_ended_there}, proofs.PlacementRows.rows_located}
+use Rattle.yq_edit_rules.{proofs.TextPieceLaws.{line_cut, piece_back, text_is_piece}, proofs.BreakLaws.{IsLfOrCrLf, break_is, last_is}}
+use Rattle.yq_edit_rules.proofs.CommentRowLaws.{entry_row, cut_spelled}
 use Rattle.yq_edit_rules.proofs.HeldCuts.{EndsIn, anchor_cut, anchor_ends, break_is_piece, dashes_end, following_ends, last_of, less_piece}
 use Rattle.yq_edit_rules.{proofs.HeldCuts.{low_last, mark_ends, space_white}, proofs.TailPieces.{HasTailPieces, pieces, white_piece}}
 
@@ -30,10 +31,6 @@ pub suffix_lf : (a b : List ℕ) → IsLf (a ++ b) → is_empty b ≡ false → 
 suffix_lf [] b h some = h
 suffix_lf (x ∷ a) b h some = suffix_lf a b (go h.0 h.1) some
   where
-    left_none : (p q : List ℕ) → p ++ q ≡ [] → q ≡ []
-    left_none [] q e = e
-    left_none (y ∷ p) q e = absurd (let no : y ∷ (p ++ q) ≡ [] = e in cc)
-
     go : (f : List ℕ) → x ∷ (a ++ b) ≡ f ++ 10 ∷ [] → IsLf (a ++ b)
     go [] e = absurd (false≢true (sym some ∙ ap is_empty (left_none a b (let rest : a ++ b ≡ [] = cc in rest))))
     go (y ∷ f) e = (f, let rest : a ++ b ≡ f ++ 10 ∷ [] = cc in rest)

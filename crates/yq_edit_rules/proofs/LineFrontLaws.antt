@@ -12,7 +12,7 @@ use Rattle.yq_row_table.{specs.Gap.{IsWhite, IsGap}, specs.Grammar.{IsContent, I
 use Rattle.yq_row_table.specs.Rows.{Content, Nothing, Inline, Block, following_gap, after_indent, content_text, dashes_text, mark_text}
 use Rattle.yq_row_table.{specs.Rows.parent_indent, specs.View.{anchor_cut, content_cut}}
 use Rattle.yq_row_table.{proofs.CharacterLaws.{all_text, all_join, pairs_back}, proofs.NothingLaws.some_after}
-use Rattle.yq_row_table.{proofs.PlaceLaws.row_front-append, proofs.RowAgain.row_starts, proofs.seams.NodeSeams.plain_text}
+use Rattle.yq_row_table.{proofs.PlaceLaws.row_front-append, proofs.RowAgain.{row_starts, white_spaces}, proofs.seams.NodeSeams.plain_text}
 use Rattle.yq_row_table.{proofs.seams.ScalarSeams.ends_return, proofs.seams.TailLaws.content_joined}
 use Rattle.yq_places.proofs.CommentPieceLaws.{Ended, gap_end}
 use Rattle.yq_edit_rules.{specs.LineFronts.{CleanCut, LineEndsClean}, proofs.TextPieceLaws.piece_back}
@@ -34,10 +34,6 @@ clean_byte b t h k = search rules
 pub clean_white : (w : List ℕ) → IsWhite w → ends_return w ≡ false
 clean_white [] h = refl
 clean_white (b ∷ w) h = clean_byte b w (at_byte is_white b 13 h.0 refl) (clean_white w h.1)
-
-clean_spaces : (n : ℕ) → ends_return (replicate n 32) ≡ false
-clean_spaces zero = refl
-clean_spaces (suc n) = clean_byte 32 (replicate n 32) refl (clean_spaces n)
 
 last_byte : (p : List ℕ) (q : ℕ) → ends_return (p ++ q ∷ []) ≡ is_return q
 last_byte p q = ends_more p (q ∷ []) refl
@@ -107,7 +103,9 @@ content_clean n (Block space anchor block) rest h pairs feed = search (rules, en
 
 dashes_clean : (ns t : List ℕ) → ends_return t ≡ false → ends_return (dashes_text ns t) ≡ false
 dashes_clean [] t h = h
-dashes_clean (n ∷ ns) t h = clean_byte 45 (replicate n 32 ++ dashes_text ns t) refl (clean_joined (replicate n 32) (dashes_text ns t) (clean_spaces n) (dashes_clean ns t h))
+dashes_clean (n ∷ ns) t h =
+    clean_byte 45 (replicate n 32 ++ dashes_text ns t) refl
+    (clean_joined (replicate n 32) (dashes_text ns t) (clean_white (replicate n 32) (white_spaces n)) (dashes_clean ns t h))
 
 mark_clean : (m : rows.RowMark) (c : Content) (rest : List ℕ) → IsMark m c rest → ends_return (mark_text m []) ≡ false
 mark_clean m c rest h1 = search (rules, ends_return, ends_more, append-nil, some_after, last_byte)
@@ -126,7 +124,8 @@ line_ends_clean limit r rest h pairs feed =
     let some : is_empty (following_gap r rest) ≡ false = some_after (replicate r.column 32) (after_indent r rest) (row_starts limit r rest h).some in
     clean_joined (row_front r) (written r.content)
     (clean_joined r.gap (replicate r.column 32 ++ dashes_text r.dashes (mark_text r.mark [])) (gap_clean r.gap (following_gap r rest) h.gap some)
-    (clean_joined (replicate r.column 32) (dashes_text r.dashes (mark_text r.mark [])) (clean_spaces r.column) (dashes_clean r.dashes (mark_text r.mark []) (mark_clean r.mark r.content rest h.mark))))
+    (clean_joined (replicate r.column 32) (dashes_text r.dashes (mark_text r.mark [])) (clean_white (replicate r.column 32) (white_spaces r.column))
+    (dashes_clean r.dashes (mark_text r.mark []) (mark_clean r.mark r.content rest h.mark))))
     (content_clean (parent_indent r) r.content rest h.content text feed)
 
 -- ---- a text cut where no CR comes before an LF

@@ -3,7 +3,7 @@ use Rattle.std.proofs.Common.{◌≡◌, ℕ, suc, ◌+◌, ◌-◌, eqb, ltb, L
 use Rattle.std.{proofs.Common.{length-append, rules}, proofs.Math.Seq.{take-append_seam, drop-append_seam}}
 use Rattle.std.{proofs.lemmas.Bool.{eqb-true, le-ltb, cond-false}, proofs.lemmas.Option.cond_some}
 use Rattle.yq_core.{specs.Paths.Step, proofs.Bools.bind_some}
-use Rattle.yq_outline.{specs.Ends.{deeper_count, line_at_steps, lines_end}, specs.Group.level_or}
+use Rattle.yq_outline.{proofs.LineEnds.following_end, specs.Ends.{deeper_count, line_at_steps, lines_end}, specs.Group.level_or}
 use Rattle.yq_outline.{specs.Outline.{Line, level, flatten, IsEven, row}, specs.Places.{lines_before, lines_after, FoundLine}}
 use Rattle.yq_outline.{proofs.Decides.flatten-group, specs.Lines.lines_of_rows, proofs.RowLaws.lines_count}
 use Rattle.yq_row_table.specs.Rows.{Row, Part}
@@ -25,11 +25,6 @@ row_more n r rs =
 pub count_rows : (a b : List Row) → row_count (length (lines_of_rows a)) (a ++ b) ≡ length a
 count_rows [] b = refl
 count_rows (r ∷ a) b = search (rules, arith, lines_count, length-append, row_more, count_rows a b)
-
--- where the lines under a line end
-end_at : (b : List Line) (l : Line) (rest : List Line) → lines_end (length b) (b ++ (l ∷ rest)) ≡ suc (length b) + deeper_count (level l) rest
-end_at [] l rest = let same : suc (deeper_count (level l) rest) ≡ suc 0 + deeper_count (level l) rest = omega arith in same
-end_at (x ∷ b) l rest = let again = end_at b l rest in omega (arith, ap suc again)
 
 begins_none : (n : ℕ) (ls : List Line) → Begins n ls → deeper_count n ls ≡ 0
 begins_none n [] h = refl
@@ -58,7 +53,7 @@ lines_counted p n steps s h f even at k number =
     let count : deeper_count (level f.line) (flatten f.under ++ following_lines h f) ≡ length (flatten f.under) + deeper_count (level f.line) (following_lines h f) =
     count_under (level f.line) here.3.0 f.under (following_lines h f) (omega (arith, here.0, here.3.1)) here.3.2 in
     let end : lines_end k (lines_of_rows p.rows) ≡ suc (length b) + deeper_count (level f.line) (flatten f.under ++ following_lines h f) =
-    (λ i. lines_end (sym size i) (lines_are p n steps s h f even at i)) ∙ end_at b f.line (flatten f.under ++ following_lines h f) in
+    (λ i. lines_end (sym size i) (lines_are p n steps s h f even at i)) ∙ following_end b (flatten f.under ++ following_lines h f) f.line in
     omega (arith, size, count, end, begins_none (level f.line) (following_lines h f) next)
 
 pub own_rows_are_there : OwnRowsAreThere

@@ -1,7 +1,7 @@
 -- Rows of one document exchanged in a cut.
 use Rattle.std.proofs.Common.{rules, ◌≡◌, ℕ, zero, suc, ◌+◌, ◌≤◌, List, [], ◌∷◌, ◌++◌, length, take, drop, Bool, true, false, not, ◌||◌}
-use Rattle.std.{proofs.Common.{Some, refl, sym, ap, ◌∙◌, subst, arith}, proofs.lemmas.Bool.{and_parts, false≢true, or_right}}
-use Rattle.std.{proofs.Math.Seq.{take-append_seam, drop-append_seam}, proofs.lemmas.Option.same_Some, specs.List.{slice_get, list_all}}
+use Rattle.std.{proofs.Common.{Some, refl, sym, ap, ◌∙◌, subst, arith}, proofs.lemmas.Bool.{false≢true, or_right}}
+use Rattle.std.{proofs.Math.Seq.{take-append_seam, drop-append_seam}, specs.List.slice_get}
 use Rattle.yq_core.{proofs.Bools.guard_then, specs.Characters.is_text}
 use Rattle.yq_row_table.specs.Grammar.{unlimited, AreRows, IsCut, no_rows, begins_document}
 use Rattle.yq_row_table.{proofs.splices.PartPlaces.{part_in, part_after}, proofs.splices.SpliceLaws.spliced}
@@ -9,6 +9,7 @@ use Rattle.yq_row_table.specs.Rows.{Row, rows_text, Part, Cut, last, marked, cut
 use Rattle.yq_row_table.specs.Splices.{with_first_gap, end_gap, after_first, splice_part, splice, nth_part, after_part, is_started}
 use Rattle.yq_row_table.{specs.Splices.marker_before, specs.SpliceFits.{is_after, SpliceFits}, proofs.splices.SpliceCases.open_part}
 use Rattle.yq_text.specs.Limit.{text_limit}
+use Rattle.yq_documents.proofs.PartRows.{each}
 use Rattle.yq_documents.specs.Documents.{HaveFitKeys, HasShortRoot, begins_bare, document_parts, has_begin, parts_from}
 use Rattle.yq_documents.{specs.Reading.{is_document, read_at}, proofs.DocumentLaws.document_is, proofs.ReadLaws.text_takes}
 use Rattle.yq_documents.{specs.PartNumbers.{number_from, part_number}, proofs.PartNumberLaws.part_there}
@@ -48,16 +49,11 @@ rows_put c k p front gone back new gap there rows =
     ∙ (λ i. put_document k (record { rows = take_front p front (gone ++ back) rows i ++ (new ++ with_first_gap gap (drop_gone p front gone back rows i)); end = end_gap gap (drop_gone p front gone back rows i) p.end }) c)
 
 -- a document that is read
-pub all_at : (ps : List Part) (k : ℕ) (p : Part) → list_all is_document ps ≡ true → slice_get ps k ≡ Some p → is_document p ≡ true
-all_at [] k p e h = absurd (cc)
-all_at (x ∷ ps) zero p e h = ap is_document (sym (same_Some _ _ h)) ∙ (and_parts (is_document x) (list_all is_document ps) e).0
-all_at (x ∷ ps) (suc k) p e h = all_at ps k p (and_parts (is_document x) (list_all is_document ps) e).1 h
-
 pub document_known : DocumentKnown
 unfolding read_at
 document_known t c k p h =
     let old = text_takes t c (guard_then _ h.read).1 in
-    let doc : is_document p ≡ true = all_at (document_parts c) k p old.1 h.there in
+    let doc : is_document p ≡ true = each (document_parts c) old.1 k p h.there in
     record { cut = old.0; document = document_is p doc; even = even_from _ _ (document_fine p doc) }
 
 -- A new part with rows for a document, where its text may be read and has that cut.

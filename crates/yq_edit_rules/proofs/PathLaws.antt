@@ -1,8 +1,8 @@
 -- The row to which a path leads.
 use Rattle.std.proofs.Common.{◌≡◌, ℕ, suc, ◌+◌, List, [], ◌∷◌, ◌++◌, length, Option, Some, None, option_map, option_and_then, refl, sym, ap}
 use Rattle.std.{proofs.Common.{◌∙◌, subst, arith, length-append, rules}, proofs.lemmas.Option.{none-some, same_Some}}
-use mathlib.Core.List.{cons≢nil, head-eq_of_cons-eq, tail-eq_of_cons-eq}
-use Rattle.yq_core.{specs.Answers.◌>>=◌, specs.Paths.Step, specs.Tree.Node}
+use mathlib.Core.List.{cons≢nil}
+use Rattle.yq_core.{specs.Paths.Step, specs.Tree.Node, proofs.Bools.bind_some}
 use Rattle.yq_row_table.specs.Rows.{Row}
 use Rattle.yq_outline.{specs.Group.level_or, specs.Lines.lines_of_rows}
 use Rattle.yq_outline.specs.Outline.{LineMark, Bare, Key, Dash, Outline, IsEven, end, row}
@@ -10,19 +10,20 @@ use Rattle.yq_outline.specs.Places.{here, lines_before, FoundLine, find_row, pla
 use Rattle.yq_outline.{specs.Ends.{found_line, line_at_steps}, proofs.Values.If}
 use Rattle.yq_documents.{specs.Reading.part_outline, specs.LinesInRows.{RowLine, row_line}}
 use Rattle.yq_places.{proofs.FlowViewLaws.before_under, proofs.FoundLaws.before_inside}
-use Rattle.yq_edit_rules.specs.Siblings.{IsEntry, HasEntries, NodeLines, lines_at, lines_below, under_line}
+use Rattle.yq_edit_rules.{proofs.PlacedLaws.same_front, specs.Siblings.{IsEntry, HasEntries, NodeLines, lines_at, lines_below, under_line}}
 use Rattle.yq_edit_rules.proofs.NodeLineLaws.{Under, lines_found}
 use Rattle.yq_edit_rules.specs.PathRows.{IsEntryLine, PathIsEntry, PathLineCommented, PathHeadCommented}
 use Rattle.yq_edit_rules.{proofs.ApartLaws.{Stood, row_stood}, proofs.HeadLaws.head_commented, proofs.LineLaws.row_line_splits}
 use Rattle.yq_edit_rules.{proofs.PartLaws.document_known, proofs.CommentPutLaws.line_commented}
 
 -- the line to which steps lead; the root has none
-abbrev found_at : List Step → Outline → Option (FoundLine × List Step)
+abbrev pub found_at : List Step → Outline → Option (FoundLine × List Step)
 found_at [] o = None
 found_at (s ∷ ss) o = find s ss o
 
 -- a step into what is under a line that was found
-step_found : (t v : Step) (vs : List Step) (o : Outline) (f g : FoundLine) (rest : List Step) → HasEntries o → find_row t o ≡ Some f → f.line.head ≡ None → find v vs f.under ≡ Some (g, rest) →
+pub step_found : (t v : Step) (vs : List Step) (o : Outline) (f g : FoundLine) (rest : List Step) → HasEntries o → find_row t o ≡ Some f →
+    f.line.head ≡ None → find v vs f.under ≡ Some (g, rest) →
     find t (v ∷ vs) o ≡ Some (place_inside f g, rest)
 step_found t v vs o f g rest h1 h2 h3 h4 = search (rules, option_and_then)
 
@@ -131,33 +132,22 @@ line_found steps rows = search rules
 pub path_is_entry : PathIsEntry
 path_is_entry p m steps s n even e = line_at steps s (part_outline p) (found_at (steps ++ (s ∷ [])) (part_outline p)) n (path_sits steps s m (part_outline p) even) (sym (line_found (steps ++ (s ∷ [])) p.rows) ∙ e)
 
--- the row line of a path
-pub row_line_found : (rows : List Row) (o : Option ℕ) (x : RowLine) → (o >>= λ n. row_line n rows) ≡ Some x → (n : ℕ) × (o ≡ Some n) × (row_line n rows ≡ Some x)
-row_line_found rows None x e = absurd (none-some _ e)
-row_line_found rows (Some n) x e = (n, refl, e)
-
-same_rows : (front other : List Row) (a b : List Row) → front ++ a ≡ other ++ b → length front ≡ length other → front ≡ other
-same_rows [] [] a b e n = refl
-same_rows [] (y ∷ other) a b e n = absurd (omega (arith, n))
-same_rows (x ∷ front) [] a b e n = absurd (omega (arith, n))
-same_rows (x ∷ front) (y ∷ other) a b e n = let r = same_rows front other a b (tail-eq_of_cons-eq e) (omega (arith, n)) in λ i. head-eq_of_cons-eq e i ∷ r i
-
 pub row_line_number : (rows front back : List Row) (n : ℕ) (x : RowLine) → row_line n rows ≡ Some x → rows ≡ front ++ (x.row ∷ back) → length front ≡ x.before → n ≡ length (lines_of_rows front) + x.line
 row_line_number rows front back n x e is before =
     let w = row_line_splits n rows x e in
-    let same : w.front ≡ front = same_rows w.front front (x.row ∷ w.back) (x.row ∷ back) (sym w.rows_are ∙ is) (w.before ∙ sym before) in
+    let same : w.front ≡ front = (same_front w.front front (x.row ∷ w.back) (x.row ∷ back) (sym w.rows_are ∙ is) (w.before ∙ sym before)).0 in
     w.lines ∙ ap (λ (rs : List Row). length (lines_of_rows rs) + x.line) same
 
 pub path_line_commented : PathLineCommented
 path_line_commented t c k p steps s x front back tail old row_line_is last takes before text =
-    let l = row_line_found p.rows (line_at_steps (steps ++ (s ∷ [])) (lines_of_rows p.rows)) x row_line_is in
+    let l = bind_some (line_at_steps (steps ++ (s ∷ [])) (lines_of_rows p.rows)) row_line_is in
     let w = path_is_entry p (level_or 0 (part_outline p)) steps s l.0 (document_known t c k p old).even l.1 in
     let number = row_line_number p.rows front back l.0 x l.2 takes.rows_are before in
     line_commented t c k p steps s w.h w.f front back x.row tail old w.entry takes (ap (λ (n : ℕ). length (lines_of_rows front) + n) (sym last) ∙ (sym number ∙ w.number)) text
 
 pub path_head_commented : PathHeadCommented
 path_head_commented t c k p steps s x front back run old row_line_is first takes before text =
-    let l = row_line_found p.rows (line_at_steps (steps ++ (s ∷ [])) (lines_of_rows p.rows)) x row_line_is in
+    let l = bind_some (line_at_steps (steps ++ (s ∷ [])) (lines_of_rows p.rows)) row_line_is in
     let w = path_is_entry p (level_or 0 (part_outline p)) steps s l.0 (document_known t c k p old).even l.1 in
     let number = row_line_number p.rows front back l.0 x l.2 takes.rows_are before in
     let count = w.number in

@@ -2,7 +2,7 @@
 use Rattle.std.proofs.Common.{◌≡◌, ℕ, ◌+◌, true, false, List, [], ◌∷◌, ◌++◌, length, Option, Some, None, refl, sym, ap, ◌∙◌, subst, rules}
 use Rattle.std.proofs.lemmas.Bool.{false≢true}
 use Rattle.yq_core.{specs.Block.{BlockText, style_indicator}, specs.Text.separates, specs.Paths.{Step, changed_at, relabel_child, within}}
-use Rattle.yq_core.{specs.declared.block_header.BlockStyle.BlockStyle, proofs.AlikePieces.name_by}
+use Rattle.yq_core.{specs.declared.block_header.BlockStyle.BlockStyle, proofs.AlikePieces.name_by, proofs.Bools.bind_some}
 use Rattle.yq_outline.{specs.Comments.line_comment, specs.Ends.line_at_steps, specs.Group.level_or, specs.Lines.lines_of_rows}
 use Rattle.yq_row_table.{specs.Exchange.{asked_after, with_content}, specs.Gap.IsWhite}
 use Rattle.yq_row_table.specs.Grammar.{unlimited, IsAnchor, IsRow, is_entry, ends_part}
@@ -15,8 +15,7 @@ use Rattle.yq_places.{specs.RowPaths.IsReadable, proofs.HeadSpanLaws.free_first}
 use Rattle.yq_edit_rules.{proofs.InlineReplaceLaws.own_rows, specs.Appends.inserted, specs.Changed.{IsChanged, put_document}}
 use Rattle.yq_edit_rules.specs.DocumentRows.{IsDocumentPart, after_document}
 use Rattle.yq_edit_rules.{specs.PathTails.{with_line_tail, IsLineTail, tailed, PathTailPut}, specs.RowComments.{TakesRow, with_header_tail}}
-use Rattle.yq_edit_rules.proofs.PartLaws.{document_known}
-use Rattle.yq_edit_rules.proofs.PathLaws.{path_is_entry, path_line_commented, row_line_found, row_line_number}
+use Rattle.yq_edit_rules.{proofs.PartLaws.document_known, proofs.PathLaws.{path_is_entry, path_line_commented, row_line_number}}
 use Rattle.yq_edit_rules.proofs.RowCommentLaws.{block_commented}
 use Rattle.yq_row_table.specs.Rows as rows
 
@@ -68,7 +67,7 @@ module _ (t : List ℕ) (c : Cut) (k : ℕ) (p : Part) (steps : List Step) (s : 
       Rattle.yq_core.specs.Block.is_tail tail ≡ true →
       Commented c k p steps s front back tail (with_content (with_header_tail tail space anchor block) x.row)
   in_header space anchor block is h text =
-      let l = row_line_found p.rows (line_at_steps (steps ++ (s ∷ [])) (lines_of_rows p.rows)) x row_line_is in
+      let l = bind_some (line_at_steps (steps ++ (s ∷ [])) (lines_of_rows p.rows)) row_line_is in
       let w = path_is_entry p (level_or 0 (part_outline p)) steps s l.0 (document_known t c k p old).even l.1 in
       let number = row_line_number p.rows front back l.0 x l.2 there before in
       let all = own_rows t c k p front x.row back old there in

@@ -16,7 +16,7 @@ use Rattle.yq_edit_rules.{proofs.NodeLineLaws.{Under, lines_found, put_under}, p
 use Rattle.yq_outline.proofs.Allowing as allowing
 
 -- parts of lines
-same_front : (a b z w : List Line) → a ++ z ≡ b ++ w → length a ≡ length b → (a ≡ b) × (z ≡ w)
+pub same_front : {A : Type 0} (a b z w : List A) → a ++ z ≡ b ++ w → length a ≡ length b → (a ≡ b) × (z ≡ w)
 same_front [] [] z w e n = (refl, e)
 same_front [] (k ∷ b) z w e n = absurd (omega (arith, n))
 same_front (l ∷ a) [] z w e n = absurd (omega (arith, n))

@@ -1,9 +1,9 @@
 -- Another root for a document, also where it had none written.
-use Rattle.std.proofs.Common.{◌≡◌, ℕ, ◌+◌, ◌≤◌, List, [], ◌++◌, length, true, false, refl, sym, ap, ◌∙◌, subst, append-nil, ⊎_elim, rules}
+use Rattle.std.proofs.Common.{◌≡◌, ℕ, ◌+◌, ◌≤◌, List, [], ◌++◌, length, true, refl, sym, ap, ◌∙◌, subst, append-nil, ⊎_elim, rules}
 use Rattle.std.proofs.lemmas.Bool.{cases_Bool}
 use Rattle.yq_core.specs.Characters.{is_text}
 use Rattle.yq_text.specs.Limit.{text_limit}
-use Rattle.yq_row_table.{specs.Grammar.{IsCut, no_rows}, specs.Rows.{Row, rows_text, Part, Cut, cut_text}}
+use Rattle.yq_row_table.{specs.Grammar.{IsCut, no_rows}, specs.Rows.{rows_text, Part, Cut, cut_text}}
 use Rattle.yq_row_table.{specs.SpliceFits.{SpliceFits, is_after}, specs.Splices.{after_part, is_started, marker_before, nth_part}}
 use Rattle.yq_row_table.{proofs.splices.PartPlaces.part_after, proofs.splices.SpliceLaws.spliced}
 use Rattle.yq_documents.{specs.Documents.{HaveFitKeys, HasShortRoot}, specs.PartNumbers.part_number}
@@ -29,11 +29,9 @@ document_rooted t c k p new gap old takes text =
     (ap (λ (x : Cut). is_text (cut_text x)) same ∙ text.characters) (subst (λ (x : Cut). length (cut_text x) ≤ text_limit) (sym same) text.size))
 
 -- the new part, with these rows
-some_all : (new : List Row) → no_rows new ≡ false → no_rows (new ++ []) ≡ false
-some_all new e = ap no_rows (append-nil new) ∙ e
-
 pub root_rows_replaced : RootRowsReplaced
 root_rows_replaced t c k p v new gap m u old takes fit lines may text =
     let there : new ++ [] ≡ new = append-nil new in
-    let put = is_put t c k p (rooted new gap p) old (some_all new takes.some) text (document_rooted t c k p new gap old takes text) (subst HaveFitKeys (sym there) takes.keys) (subst HasShortRoot (sym there) takes.short) in
+    let put = is_put t c k p (rooted new gap p) old (ap no_rows there ∙ takes.some) text (document_rooted t c k p new gap old takes text)
+    (subst HaveFitKeys (sym there) takes.keys) (subst HasShortRoot (sym there) takes.short) in
     root_replaced t c k p (rooted new gap p) v m u put fit (ap lines_of_rows there ∙ lines) may

@@ -183,10 +183,7 @@ module _ (c : Cut) (k n : ℕ) (p q : Part) (there : slice_get (document_parts c
 
   -- a later document
   module _ (m : ℕ) (d : PlacedPart) (placed : placed_document m c ≡ Some d) (later : k < m) where
-    abbrev now : PlacedPart
-    now = record { before = before_part (part_number m c) new; part = d.part; after = d.after }
-
-    placed_there : placed_document m new ≡ Some now
+    placed_there : placed_document m new ≡ Some (record { before = before_part (part_number m c) new; part = d.part; after = d.after })
     placed_there = search (rules, placed, document_put, nth_other, first_stays, keeps, number_stays, part_there, past_other, numbers_rise, later)
 
     document_stays : StaysPlaced d m new

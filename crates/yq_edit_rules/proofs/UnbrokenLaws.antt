@@ -1,19 +1,19 @@
 -- A block collection whose last line has no break ends its text: the line gets a break, and rows come after it.
+use Rattle.yq_edit_rules.{proofs.FirstReplaceLaws.rows_after, specs.CollectionPlaces.IsCollectionEnd, specs.DocumentRows.after_document}
+use Rattle.yq_edit_rules.{specs.Ends.closed_with, specs.Rooms.is_block_root, proofs.AppendPlaceLaws.{EndAllows, last_limit}}
+use Rattle.yq_edit_rules.proofs.EndedRowLaws.{row_there, rows_then}
 use Rattle.std.proofs.Common.{◌≡◌, inl, inr, ℕ, true, false, List, [], ◌∷◌, ◌++◌, refl, sym, ap, ◌∙◌, subst, append_assoc, append-nil}
 use Rattle.std.{proofs.Common.rules, proofs.lemmas.Bool.false≢true}
 use Rattle.yq_core.{specs.Paths.Step, specs.Text.{is_empty, is_line}}
 use Rattle.yq_outline.{specs.Comments.head_comment, specs.Lines.{lines_from, lines_of_rows}}
 use Rattle.yq_row_table.{specs.Appending.closed_by, specs.Exchange.{asked_after, row_front}}
-use Rattle.yq_row_table.specs.Grammar.{Limit, unlimited, limit_after, allows, AreRows, no_rows}
+use Rattle.yq_row_table.specs.Grammar.{Limit, unlimited, limit_after, allows, AreRows}
 use Rattle.yq_row_table.specs.Rows.{Content, content_text, Row, parent_indent, print_row, rows_text, Part, part_text, Cut}
 use Rattle.yq_row_table.{specs.Seams.{is_block, tail_after, with_tail}, specs.Splices.first_gap, proofs.PlaceLaws.row_front-append}
 use Rattle.yq_row_table.{proofs.seams.FrontSeams.rows_some, proofs.seams.SeamLaws.rows_text-append}
 use Rattle.yq_places.{specs.CollectionEnds.{CollectionEnd, is_broken}, specs.PrintedLines.end_break}
 use Rattle.yq_places.proofs.ContentEndLaws.{Ends, content_ends}
 use Rattle.yq_documents.{specs.Documents.lead_of, specs.Ready.begins_no_node}
-use Rattle.yq_edit_rules.{specs.CollectionPlaces.IsCollectionEnd, specs.DocumentRows.after_document, specs.Ends.closed_with}
-use Rattle.yq_edit_rules.{specs.Rooms.is_block_root, proofs.AppendPlaceLaws.{EndAllows, last_limit, following_rows}}
-use Rattle.yq_edit_rules.proofs.EndedRowLaws.{row_there, rows_then}
 
 -- ---- nothing is after
 
@@ -47,7 +47,7 @@ ends_text c k p steps x e h broken =
     let bare : is_broken e.last.content ≡ false = sym e.broken ∙ broken in
     let ends : Ends (is_broken e.last.content) (end_break e.last.content) (rows_text e.back (p.end ++ rest)) = content_ends (parent_indent e.last) e.last.content (rows_text e.back (p.end ++ rest)) row.1.content in
     let none : rows_text e.back (p.end ++ rest) ≡ [] = ends_none (end_break e.last.content) (rows_text e.back (p.end ++ rest)) (subst (λ b. Ends b (end_break e.last.content) (rows_text e.back (p.end ++ rest))) bare ends) in
-    let parts = none_following (asked_after unlimited e.front) e.back p.end rest (following_rows e.front e.back unlimited p.end rest h.rows) none in
+    let parts = none_following (asked_after unlimited e.front) e.back p.end rest (rows_after unlimited e.front e.back p.end rest h.rows) none in
     search (rules, false≢true, append-nil, last_limit, e.front_is)
 
 -- ---- the text
@@ -75,7 +75,8 @@ row_begins r x y a b = go r.dashes
     go [] = refl
     go (n ∷ ns) = refl
 
-begins_same : (others : List Row) (r : Row) (x y : Content) (a b : List Row) → begins_no_node (lines_of_rows (others ++ (record r { content = x } ∷ a))) ≡ begins_no_node (lines_of_rows (others ++ (record r { content = y } ∷ b)))
+pub begins_same : (others : List Row) (r : Row) (x y : Content) (a b : List Row) →
+    begins_no_node (lines_of_rows (others ++ (record r { content = x } ∷ a))) ≡ begins_no_node (lines_of_rows (others ++ (record r { content = y } ∷ b)))
 begins_same [] r x y a b = row_begins r x y a b
 begins_same (q ∷ others) r x y a b = row_begins q q.content q.content (others ++ (record r { content = x } ∷ a)) (others ++ (record r { content = y } ∷ b))
 
@@ -88,7 +89,3 @@ gap_same (q ∷ others) r s a b f g e = refl
 
 pub closed_lead : (p : Part) (others new : List Row) (last : Row) (break : List ℕ) → p.rows ≡ others ++ (last ∷ []) → lead_of (closed_with others last break new p) ≡ lead_of p
 closed_lead p others new last break e = search (rules, gap_same)
-
-pub some_closed : (others new : List Row) (last : Row) (break : List ℕ) → no_rows (others ++ (closed_by break last ∷ (new ++ []))) ≡ false
-some_closed [] new last break = refl
-some_closed (q ∷ others) new last break = refl

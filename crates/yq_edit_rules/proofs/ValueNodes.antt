@@ -1,14 +1,13 @@
 -- The inline nodes of values: scalars in a style of one line, and collections in flow style.
-use Rattle.yq_edit_rules.{proofs.CommentPieceLaws.nothing, specs.InlineRows.IsValueNode, specs.TextPieces.IsPiece}
+use Rattle.yq_edit_rules.{proofs.CommentPieceLaws.{byte_then, nothing}, specs.InlineRows.IsValueNode, specs.TextPieces.IsPiece}
 use Rattle.yq_edit_rules.{proofs.TextPieceLaws.pieces_joined, proofs.FlowWritten.flow_fits}
 use Rattle.std.proofs.Common.{◌≡◌, ℕ, ◌≤◌, not, cond, List, [], ◌∷◌, ◌++◌, Option, Some, Bool, true, false, refl, sym, ap, ◌∙◌, subst}
-use Rattle.std.{proofs.Common.{append-nil, rules}, proofs.lemmas.Bool.{false≢true, not-true, and_parts}, specs.Str.{chars, IsUtf8}}
-use lib.Utf8.{encode}
-use Rattle.yq_core.{specs.Characters.pairs_returns, specs.Keys.depth, specs.Piece.deeper, specs.PlainText.begins_marker}
-use Rattle.yq_core.{specs.Plain.holds_break, specs.Scalar.{ScalarText, string_of}, specs.Text.{is_marker, separates}, specs.Tree.Children}
+use Rattle.std.{proofs.Common.{append-nil, rules}, proofs.lemmas.Bool.{false≢true, not-true, and_parts}, specs.Str.IsUtf8}
+use Rattle.yq_core.{specs.Keys.depth, specs.Piece.deeper, specs.PlainText.begins_marker, specs.Plain.holds_break}
+use Rattle.yq_core.{specs.Scalar.{ScalarText, string_of}, specs.Text.{is_marker, separates}, specs.Tree.Children}
 use Rattle.yq_core.{specs.Writable.{can_write, can_write_plain}, specs.Written.{written_scalar, double, IsOneLine}}
 use Rattle.yq_core.{specs.declared.kind.Kind.Kind, specs.declared.style.Style.Style, proofs.PlainSpells.{plain_is_text, writable_text}}
-use Rattle.yq_core.{proofs.WrittenText.{double_is_line, line_is_text}, specs.Inline.depth_limit}
+use Rattle.yq_core.{proofs.WrittenText.{double_is_line, is_line_ascii, line_is_text}, specs.Inline.depth_limit}
 use Rattle.yq_core.{specs.Nodes.{key_text, sep_text, node_text, flow_items_text, IsFlowNode}, specs.Trees.{scalar_node, tree_of}}
 use Rattle.yq_core.specs.NodesWritten.{scalar_text, flow_key, flow_sep, flow_of, flow_items, flow_text}
 use Rattle.yq_core.{proofs.Alikes.{no_first, no_second, no_third}, proofs.NodesPieceLaws.front_not}
@@ -53,30 +52,6 @@ scalar_is a kind t style h i can =
 
 -- ---- collections in flow style
 
-colon_piece : IsPiece (58 ∷ 32 ∷ [])
-unfolding chars pairs_returns encode
-colon_piece = record { utf8 = (58 ∷ 32 ∷ [], (refl, refl)); characters = refl }
-
-pub comma_piece : IsPiece (44 ∷ 32 ∷ [])
-unfolding chars pairs_returns encode
-comma_piece = record { utf8 = (44 ∷ 32 ∷ [], (refl, refl)); characters = refl }
-
-open_list : IsPiece (91 ∷ [])
-unfolding chars pairs_returns encode
-open_list = record { utf8 = (91 ∷ [], (refl, refl)); characters = refl }
-
-close_list : IsPiece (93 ∷ [])
-unfolding chars pairs_returns encode
-close_list = record { utf8 = (93 ∷ [], (refl, refl)); characters = refl }
-
-open_map : IsPiece (123 ∷ [])
-unfolding chars pairs_returns encode
-open_map = record { utf8 = (123 ∷ [], (refl, refl)); characters = refl }
-
-close_map : IsPiece (125 ∷ [])
-unfolding chars pairs_returns encode
-close_map = record { utf8 = (125 ∷ [], (refl, refl)); characters = refl }
-
 written_piece : (s : ScalarText) (plain : Bool) → can_write_plain s true ≡ plain → IsValid s → IsPiece (written_scalar (cond plain styles.Plain styles.Double) s.text)
 written_piece s true h v = record { utf8 = v.utf8; characters = plain_is_text true s.text v.utf8 (writable_text s.kind s.text true v.kind h) }
 written_piece s false h v = let line = double_is_line s.text v.utf8 in record { utf8 = (line.chars, (line.valid, line.spelled)); characters = line_is_text (double s.text) line }
@@ -92,12 +67,12 @@ key_scalar k u = written_piece (string_of k) (can_write_plain (string_of k) true
 pub key_piece : (keyed : Bool) (label : tree.Label) (t : List ℕ) → IsLabel keyed label → IsPiece t → IsPiece (key_text (flow_key label.key) t)
 key_piece true label t h p =
     subst (λ (l : tree.Label). IsPiece (key_text (flow_key l.key) t)) (sym h.1)
-    (pieces_joined (scalar_text (string_of h.0) places.FlowKey) (58 ∷ 32 ∷ t) (key_scalar h.0 h.2) (pieces_joined (58 ∷ 32 ∷ []) t colon_piece p))
+    (pieces_joined (scalar_text (string_of h.0) places.FlowKey) (58 ∷ 32 ∷ t) (key_scalar h.0 h.2) (byte_then 58 (32 ∷ t) refl (byte_then 32 t refl p)))
 key_piece false label t h p = subst (λ (l : tree.Label). IsPiece (key_text (flow_key l.key) t)) (sym h) p
 
 sep_piece : (cs : Children) (t : List ℕ) → IsPiece t → IsPiece (sep_text (flow_sep cs) t)
 sep_piece tree.none t p = p
-sep_piece (tree.child label n cs) t p = pieces_joined (44 ∷ 32 ∷ []) t comma_piece p
+sep_piece (tree.child label n cs) t p = byte_then 44 (32 ∷ t) refl (byte_then 32 t refl p)
 
 mutual
   unfolding flow_of flow_items node_text flow_items_text
@@ -105,11 +80,12 @@ mutual
   node_piece : (v : tree.Node) (rest : List ℕ) → IsValueTree v → IsPiece rest → IsPiece (node_text (flow_of v) rest)
   node_piece (tree.alias n) rest h p = absurd h
   node_piece (tree.scalar a kind t) rest h p = pieces_joined (scalar_text (record { kind = kind; text = t }) places.Flow) rest (scalar_piece (record { kind = kind; text = t }) h.1) p
-  node_piece (tree.list a cs) rest h p = pieces_joined (91 ∷ []) (flow_items_text 93 (flow_items cs) rest) open_list (items_piece cs 93 false rest close_list h.1 p)
-  node_piece (tree.map a cs) rest h p = pieces_joined (123 ∷ []) (flow_items_text 125 (flow_items cs) rest) open_map (items_piece cs 125 true rest close_map h.1 p)
+  node_piece (tree.list a cs) rest h p = byte_then 91 (flow_items_text 93 (flow_items cs) rest) refl (items_piece cs 93 false rest refl h.1 p)
+  node_piece (tree.map a cs) rest h p = byte_then 123 (flow_items_text 125 (flow_items cs) rest) refl (items_piece cs 125 true rest refl h.1 p)
 
-  items_piece : (cs : Children) (k : ℕ) (keyed : Bool) (rest : List ℕ) → IsPiece (k ∷ []) → AreValueTrees keyed cs → IsPiece rest → IsPiece (flow_items_text k (flow_items cs) rest)
-  items_piece tree.none k keyed rest close h p = pieces_joined (k ∷ []) rest close p
+  items_piece : (cs : Children) (k : ℕ) (keyed : Bool) (rest : List ℕ) → is_line_ascii k ≡ true → AreValueTrees keyed cs → IsPiece rest →
+      IsPiece (flow_items_text k (flow_items cs) rest)
+  items_piece tree.none k keyed rest close h p = byte_then k rest close p
   items_piece (tree.child label n cs) k keyed rest close h p =
       key_piece keyed label (node_text (flow_of n) (sep_text (flow_sep cs) (flow_items_text k (flow_items cs) rest))) h.0
       (node_piece n (sep_text (flow_sep cs) (flow_items_text k (flow_items cs) rest)) h.1 (sep_piece cs (flow_items_text k (flow_items cs) rest) (items_piece cs k keyed rest close h.2 p)))
