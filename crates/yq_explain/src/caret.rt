@@ -42,7 +42,7 @@ pub fn push_name(out: &mut String, name: &str) -> Result<(), AllocError> {
     Ok(())
 }
 
-/// Adds what is before a place on its line, cut in front where the whole line is long. In how many columns it is.
+/// Adds what is before a place on its line, without its beginning where the whole line is long. In how many columns it is.
 fn push_before(out: &mut String, before: &str, after: &str) -> Result<usize, AllocError> {
     let count = before.chars().count();
     let is_long = count.saturating_add(after.chars().count()) > COLUMNS;

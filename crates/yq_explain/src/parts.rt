@@ -25,7 +25,7 @@ fn is_value_char(c: char) -> bool {
     is_word_char(c) || matches!(c, '.' | '-' | '/' | '@' | '~')
 }
 
-/// How many bytes the mark in front has: one character, or two where these are equal.
+/// How many bytes the first mark has: one character, or two where these are equal.
 fn mark_len(text: &str) -> usize {
     let mut chars = text.chars();
     match (chars.next(), chars.next()) {
@@ -66,7 +66,7 @@ pub fn last_char(text: &str) -> Option<char> {
     text.trim_end().chars().last()
 }
 
-/// The first character of a text, less white space in front.
+/// The first character of a text that is no white space.
 pub fn first_char(text: &str) -> Option<char> {
     text.trim_start().chars().next()
 }

@@ -5,7 +5,7 @@ use std::alloc::{AllocError, Global};
 use yq_core::fault_place::fault_at;
 use yq_core::{ReadFault, spaces_len};
 
-/// The text in front of bytes, which go on where it ends if they are no text.
+/// The text with which bytes begin: all of them, or those before what is no text.
 fn text_in(bytes: &[u8]) -> &str {
     match std::str::from_utf8(bytes) {
         Ok(text) => text,

@@ -1,15 +1,12 @@
 use Rattle.std.{proofs.Common.{◌≡◌, true, false, refl, sym, ap, ◌∙◌, subst, true≢false}, proofs.lemmas.Bool.false≢true}
-use Rattle.std.{proofs.lemmas.Option.none-some, specs.String.string_bytes}
+use Rattle.std.specs.String.{string_bytes}
 use Rattle.yq_history.{specs.Effects.{listing_effect, move_effect, squash_effect}, specs.Report.{Report, report_by}}
 use Rattle.yq_history.{specs.Steps.{listing_cause, move_cause, move_next, squash_cause, squash_next}, proofs.EffectLaws.on_ok}
 use Rattle.yq_args.specs.declared.command.Command.TheVariants.{Eval}
-use Rattle.yq_commands.{specs.CommandEffects.expression_cause, specs.Editing.program_in}
-use Rattle.yq_commands.{specs.Prints.{prints, reads_journal, prints_change}, specs.Expecting.expects_change}
-use Rattle.yq_commands.{proofs.ExpectingLaws.none_expected, specs.CommandDone.CarriesOut}
+use Rattle.yq_commands.{specs.Editing.program_in, proofs.ExpectingLaws.none_expected, specs.CommandDone.CarriesOut}
 use Rattle.yq_commands.proofs.ExecuteLaws.{evaluate_arrives, evaluate_shows, pair_arrives, pair_names, pair_works, empty_shows}
 use Rattle.yq_commands.proofs.ExecuteLaws.{update_edits, update_expects, update_shows, update_works, listing_lists, listing_shows}
-use Rattle.yq_commands.{proofs.ExecuteLaws.update_lists, specs.CommandSteps.{update_cause, update_next}, specs.Calls.CallsOf}
-use Rattle.yq_commands.{specs.Help.Helps, proofs.CommandCalls.pair_calls, proofs.OutcomeLaws.{all_left, memory_left}}
+use Rattle.yq_commands.{proofs.ExecuteLaws.update_lists, specs.CommandSteps.{update_cause, update_next}, proofs.OutcomeLaws.all_left}
 use Rattle.yq_journal.specs.declared.moves.Move.TheVariants as move
 use Rattle.yq_run.proofs.executing.execute.Goals as goal
 
