@@ -90,7 +90,7 @@ fn at_each<'a, 't>(
     ensures changes { JudgesEachOf effect.now documents.now (places_of places.now) result }
     ensures valid { GivesValid result }
 {
-    let mut changes = Vec::new(alloc);
+    let mut changes = Vec::with_capacity(alloc, places.len())?;
     let mut cut = CutText::of(documents);
     'places: for place in places {
         push_effect(alloc, &mut cut, effect, place, &mut changes)?;

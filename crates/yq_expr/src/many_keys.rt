@@ -102,6 +102,9 @@ pub(crate) fn check_depth<'a, 't>(
     ensures { IfErr result (λ e. (root : TreeNode) (room : Room) → MatchFails e
         (and_then (spec.all_allowed root) (effect_at doc room effect.entry (place_of place.now)))) }
 {
+    if let Missing::Nothing = place.missing {
+        return Ok(());
+    }
     let missing = missing_steps(alloc, place.missing)?;
     if !are_many_keys(&missing) {
         return Ok(());

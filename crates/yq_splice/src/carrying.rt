@@ -63,6 +63,7 @@ pub(crate) fn carry_all(
 {
     let mut session = session;
     let mut splices = splices;
+    splices.reserve(ops.len())?;
     let mut rest = ops;
     'operations: while let [op, after @ ..] = rest {
         if after.is_empty() {

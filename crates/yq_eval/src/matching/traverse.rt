@@ -134,7 +134,7 @@ pub(crate) fn step_each<'a, 't>(
 ) -> Result<Vec<FoundPlace<'a, 't>>, ExprError>
     ensures { JudgesPlaces result (spec.for_each (step_along step.now) (places_of places.now)) }
 {
-    let mut next = Vec::new(alloc);
+    let mut next = Vec::with_capacity(alloc, places.len())?;
     'places: for place in places {
         push_step(alloc, bump, step, place, &mut next)?;
     }

@@ -8,7 +8,7 @@ use Rattle.yq_expr.proofs.at_places.at_each.Goals as goal
 
 pub returns-in_err-push_effect-clause-changes : goal.returns-in_err-push_effect-clause-changes
 returns-in_err-push_effect-clause-changes c = λ root named within.
-    let p = err_from_is_err_and c.from_residual.result c.from_residual.ensures.1 in
+    let p = err_from_is_err_and c.from_residual-in_err-push_effect.result c.from_residual-in_err-push_effect.ensures.1 in
     let here = reached place_of c.args.places.now c.places.place-index c.place-item.result c.places-test.true c.place-item.is in
     let f : FoundPlace → Judgement (List Changed) = λ q. and_then (all_allowed root) (effect_of c.args.effect.now c.args.documents.now q) in
     failed _ _ _ _ (p.1 ∙ ap Err p.2)

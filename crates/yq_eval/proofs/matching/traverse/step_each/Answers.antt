@@ -6,7 +6,7 @@ use Rattle.yq_eval.proofs.matching.traverse.step_each.Goals as goal
 
 pub returns-in_err-push_step : goal.returns-in_err-push_step
 returns-in_err-push_step c =
-    let p = err_from_is_err_and c.from_residual.result c.from_residual.ensures.1 in
+    let p = err_from_is_err_and c.from_residual-in_err-push_step.result c.from_residual-in_err-push_step.ensures.1 in
     failed _ _ _ _ (p.1 ∙ ap Err p.2)
     (each_fails place_of (spec.step_on (program_step c.args.step.now)) (places_of c.places.next.items) c.args.places.now c.places.place-index
     c.place-item.result _ _ c.places-test.true c.place-item.is c.in_err-push_step.ensures c.places.invariant)
