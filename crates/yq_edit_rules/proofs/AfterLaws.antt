@@ -8,9 +8,8 @@ use Rattle.yq_documents.{specs.Documents.Document, specs.Reading.part_document, 
 use Rattle.yq_edit_rules.{specs.After.EndIsChange, specs.Edited.first_above}
 
 pub end_is_change : EndIsChange
-end_is_change g [] s n = refl
-end_is_change g (t ∷ []) s n = refl
 end_is_change g (t ∷ (u ∷ path)) s n = ap (λ (h : Node → Node). within (change_child t h) n) (λ i m. end_is_change g (u ∷ path) s m i)
+end_is_change g _ s n = refl
 
 -- document k of a changed list
 pub nth_is : (k : ℕ) (p q : Part) (f : Document → Document) (ps : List Part) → slice_get ps k ≡ Some p → map part_document (change_nth k (λ x. q) ps) ≡ change_nth k f (map part_document ps) →

@@ -36,9 +36,8 @@ after_anew n m (below l p a) h = both_anew (lines_after p) (flatten a) (after_an
 after_anew n m (beside l u p) h = after_anew n m p h.4
 
 last_is : (xs : List Line) (l : Line) → last_anchor (xs ++ (l ∷ [])) ≡ l.anchor
-last_is [] l = refl
-last_is (k ∷ []) l = refl
 last_is (k ∷ (m ∷ xs)) l = last_is (m ∷ xs) l
+last_is _ l = refl
 
 pub lines_among : LinesAmong
 lines_among n o [] h even e = subst (λ (x : NodeLines). BeginsEntry (lines_after x.place) × (last_anchor (lines_before x.place) ≡ x.anchor)) (same_Some _ _ e) (tt, refl)

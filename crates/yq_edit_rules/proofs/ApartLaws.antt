@@ -41,10 +41,9 @@ even_begins n end e = tt
 even_begins n (row l u a) e = let same = e.0 in omega (arith, same)
 
 pub apart_skip : (a b z : List Line) → (b ≡ [] → ⊥) → AreApartLines b z → AreApartLines (a ++ b) z
-apart_skip [] b z some h = h
 apart_skip (x ∷ []) [] z some h = absurd (some refl)
-apart_skip (x ∷ []) (k ∷ b) z some h = h
 apart_skip (x ∷ (y ∷ a)) b z some h = apart_skip (y ∷ a) b z some h
+apart_skip _ _ z some h = h
 
 pub apart_deep : (n : ℕ) (b z : List Line) → AreDeep n b → Begins n z → AreApartLines b z
 apart_deep n [] z d h = tt

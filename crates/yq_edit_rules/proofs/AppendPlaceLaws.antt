@@ -27,9 +27,8 @@ last_line (l ∷ []) = Some l
 last_line (l ∷ (k ∷ ls)) = last_line (k ∷ ls)
 
 last_of : (xs : List Line) (y : Line) (ys : List Line) → last_line (xs ++ (y ∷ ys)) ≡ last_line (y ∷ ys)
-last_of [] y ys = refl
-last_of (x ∷ []) y ys = refl
 last_of (x ∷ (z ∷ xs)) y ys = last_of (z ∷ xs) y ys
+last_of _ y ys = refl
 
 deep_last : (n : ℕ) (ls : List Line) (l : Line) → AreDeep n ls → last_line ls ≡ Some l → n ≤ level l
 deep_last n [] l h e = absurd (cc)

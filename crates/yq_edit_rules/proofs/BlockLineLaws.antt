@@ -7,7 +7,7 @@ use Rattle.yq_flow_edits.specs.Valued.{IsLabel, IsValueTree, AreValueTrees}
 use Rattle.yq_outline.{proofs.RowLaws.no_comments, specs.Comments.{head_comment, line_comment}}
 use Rattle.yq_outline.specs.Grammar.{IsNodeOutline, mapping, sequence, AreEntryLines, no_more, entry, IsUnder, headed, deeper_lines}
 use Rattle.yq_outline.specs.Lines.{mark_line, dash_line, lines_of_rows}
-use Rattle.yq_outline.{specs.Outline.{LineMark, Bare, Key, Dash, Line, rank, level, anchored, label}, proofs.NodeLaws.anchored_none}
+use Rattle.yq_outline.{specs.Outline.{LineMark, Bare, Key, Line, rank, level, anchored, label}, proofs.NodeLaws.anchored_none}
 use Rattle.yq_row_table.specs.Rows.{Nothing, Inline, Row}
 use Rattle.yq_places.proofs.UnderExchange.{lines_append}
 use Rattle.yq_edit_rules.specs.BlockRows.{rows_on_dash, block_key, children_rows, column_below, end_of_line_before, entry_rows, indent_step}
@@ -108,9 +108,8 @@ end_uncommented : (l : Layout) (end : List ℕ) (cs : Children) → line_comment
 end_uncommented l end cs h1 = search (rules, break_uncommented)
 
 is_key : (m : LineMark) (c column : ℕ) → 3 * c + rank m ≡ 3 * column + 2 → (k : List ℕ) × (m ≡ Key k)
-is_key Bare c column h = absurd (omega (arith, h))
 is_key (Key k) c column h = (k, refl)
-is_key Dash c column h = absurd (omega (arith, h))
+is_key _ c column h = absurd (omega (arith, h))
 
 as_map : {n : ℕ} {ls : List Line} {cs : Children} (column : ℕ) → n ≡ 3 * column + 2 → IsFilled (tree.map None cs) → AreEntryLines n ls cs → IsNodeOutline n ls (tree.map None cs)
 unfolding level

@@ -1,6 +1,8 @@
 -- Anchors and aliases of a document in which a node is changed.
-use Rattle.std.proofs.Common.{◌≡◌, ◌⊎◌, ℕ, List, [], ◌∷◌, ◌++◌, Option, Some, None, option_and_then, Bool, true, false, cond, refl, sym, ap}
-use Rattle.std.{proofs.Common.{◌∙◌, subst, inl, inr, ⊎_elim, append_assoc, append-nil, rules}, proofs.lemmas.Option.{none-some, same_Some}}
+use Rattle.std.proofs.lemmas.Grind.{common_steps}
+use Rattle.std.proofs.Common.{arith, ◌≡◌, ◌⊎◌, ℕ, List, [], ◌∷◌, ◌++◌, Option, Some, None, option_and_then, Bool, true, false, cond, refl}
+use Rattle.std.proofs.Common.{sym, ap, ◌∙◌, subst, inl, inr, ⊎_elim, append_assoc, append-nil, rules}
+use Rattle.std.proofs.lemmas.Option.{none-some, same_Some}
 use mathlib.Core.List.{cons≢nil}
 use Rattle.yq_core.specs.Paths.{Step, is_here, further, child_at, node_at, change_child, remove_child, within, changed_at}
 use Rattle.yq_core.specs.Tree.{Node, alias, scalar, list, map, Children, none, child, children_of}
@@ -68,14 +70,7 @@ around_child s none m e = absurd (none-some _ e)
 around_child s (child l n cs) m e = go (is_here s l) refl e (around_child (further s) cs m)
   where
     go : (b : Bool) → is_here s l ≡ b → cond b (Some n) (child_at (further s) cs) ≡ Some m → (child_at (further s) cs ≡ Some m → AroundChild (further s) cs m) → AroundChild s (child l n cs) m
-    go true h e ih =
-        record {
-          front = [];
-          back = names_in cs;
-          old = ap (λ x. names_of x ++ names_in cs) (same_Some _ _ e);
-          new = λ f. rw h (ap (λ x. names_of (f x) ++ names_in cs) (same_Some _ _ e));
-          gone = rw h refl;
-        }
+    go true h e ih = grind (arith, common_steps, same_Some)
     go false h e ih =
         let r = ih e in
         record {

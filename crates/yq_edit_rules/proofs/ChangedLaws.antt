@@ -13,11 +13,10 @@ use Rattle.yq_edit_rules.specs.Changed.{first_comment, LeadIsFirst}
 -- parts
 from_put : (is : Bool) (k : ℕ) (p q : Part) (c : Cut) → slice_get (parts_from is c) k ≡ Some p → parts_from is (put_part (number_from is k c) q c) ≡ change_nth k (λ x. q) (parts_from is c)
 from_put true zero p q (last x) e = refl
-from_put true (suc k) p q (last x) e = absurd (cc)
-from_put false k p q (last x) e = absurd (cc)
 from_put true zero p q (marked x marker c) e = refl
 from_put true (suc k) p q (marked x marker c) e = ap (λ ps. x ∷ ps) (from_put (begins_document marker) k p q c e)
 from_put false k p q (marked x marker c) e = from_put (begins_document marker) k p q c e
+from_put _ _ p q (last x) e = absurd (cc)
 
 pub nth_changed : (k : ℕ) (p q : Part) (ps : List Part) → slice_get ps k ≡ Some p → slice_get (change_nth k (λ x. q) ps) k ≡ Some q
 nth_changed k p q [] e = absurd (cc)

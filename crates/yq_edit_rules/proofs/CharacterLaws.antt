@@ -69,9 +69,8 @@ unfolding inline.node_text inline.flow_items_text
 head_sound (tree.alias name) h = absurd h
 head_sound (tree.scalar a kind t) h = let w = scalar_spelled (record { kind = kind; text = t }) h.1 in subst IsUtf8Text (sym (append-nil _)) (w.utf8, w.text)
 head_sound (tree.list a tree.none) h = list_sound
-head_sound (tree.list a (tree.child label n cs)) h = tt
 head_sound (tree.map a tree.none) h = map_sound
-head_sound (tree.map a (tree.child label n cs)) h = tt
+head_sound _ h = tt
 
 -- an entry or item
 key_sound : (k : List ℕ) → IsUtf8 k → IsUtf8Text (block_key k)

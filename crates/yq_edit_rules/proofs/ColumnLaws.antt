@@ -101,15 +101,13 @@ last_apart : (r : Row) (zs : List Line) → AreApartLines (row_lines r) zs → B
 last_apart r zs h = skip (dash_lines (head_comment r.gap) r.column r.dashes) (subst (λ (ls : List Line). AreApartLines ls zs) (mark_after (head_comment r.gap) r.column r.dashes r.mark r.content) h)
   where
     skip : (a : List Line) → AreApartLines (a ++ (last_line r ∷ [])) zs → Begins (level (last_line r)) zs
-    skip [] h = h
-    skip (x ∷ []) h = h
     skip (x ∷ (y ∷ a)) h = skip (y ∷ a) h
+    skip _ h = h
 
 pub apart_later : (a b z : List Line) → (b ≡ [] → ⊥) → AreApartLines (a ++ b) z → AreApartLines b z
-apart_later [] b z some h = h
 apart_later (x ∷ []) [] z some h = absurd (some refl)
-apart_later (x ∷ []) (k ∷ b) z some h = h
 apart_later (x ∷ (y ∷ a)) b z some h = apart_later (y ∷ a) b z some h
+apart_later _ _ z some h = h
 
 rows_lines : (q : Row) (rs : List Row) → lines_of_rows (q ∷ rs) ≡ [] → ⊥
 rows_lines q rs e = go q.dashes e

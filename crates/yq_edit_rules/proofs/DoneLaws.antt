@@ -26,9 +26,8 @@ nth_put (suc k) x y (z ∷ xs) h = nth_put k x y xs h
 nth_stays : {A : Type 0} (k i : ℕ) (f : A → A) (xs : List A) → (i ≡ k → ⊥) → slice_get (change_nth k f xs) i ≡ slice_get xs i
 nth_stays k i f [] h = refl
 nth_stays zero zero f (x ∷ xs) h = absurd (h refl)
-nth_stays zero (suc i) f (x ∷ xs) h = refl
-nth_stays (suc k) zero f (x ∷ xs) h = refl
 nth_stays (suc k) (suc i) f (x ∷ xs) h = nth_stays k i f xs (λ e. h (ap suc e))
+nth_stays _ _ f _ h = refl
 
 pub nth_map : {A B : Type 0} (k : ℕ) (x : A) (f : A → B) (xs : List A) → slice_get xs k ≡ Some x → slice_get (map f xs) k ≡ Some (f x)
 nth_map k x f [] h = absurd (cc)

@@ -55,18 +55,16 @@ lines_break [] = []
 lines_break (l ∷ ls) = run_break l ls
 
 break_after : (xs : List PrintedLine) (y : PrintedLine) (ys : List PrintedLine) → lines_break (xs ++ (y ∷ ys)) ≡ lines_break (y ∷ ys)
-break_after [] y ys = refl
-break_after (x ∷ []) y ys = refl
 break_after (x ∷ (z ∷ xs)) y ys = break_after (z ∷ xs) y ys
+break_after _ y ys = refl
 
 break_last : (xs ys : List PrintedLine) → (ys ≡ [] → ⊥) → lines_break (xs ++ ys) ≡ lines_break ys
 break_last xs [] some = absurd (some refl)
 break_last xs (y ∷ ys) some = break_after xs y ys
 
 from_break : (gap spaces : List ℕ) (column : ℕ) (ns : List ℕ) (m : rows.RowMark) (c : Content) → lines_break (printed_from gap spaces column ns m c) ≡ end_break c
-from_break gap spaces column [] m c = refl
-from_break gap spaces column (n ∷ []) m c = refl
 from_break gap spaces column (n ∷ (k ∷ ns)) m c = from_break [] [] _ (k ∷ ns) m c
+from_break gap spaces column _ m c = refl
 
 from_some : (gap spaces : List ℕ) (column : ℕ) (ns : List ℕ) (m : rows.RowMark) (c : Content) (z : List PrintedLine) → printed_from gap spaces column ns m c ++ z ≡ [] → ⊥
 from_some gap spaces column [] m c z e = cc

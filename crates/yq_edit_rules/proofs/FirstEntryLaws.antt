@@ -4,9 +4,8 @@ use Rattle.std.{proofs.Common.{arith, append_assoc, length-append, rules}, proof
 use mathlib.Core.List.{head-eq_of_cons-eq, tail-eq_of_cons-eq}
 use Rattle.yq_core.specs.Paths.{Step}
 use Rattle.yq_outline.{specs.Comments.head_comment, specs.Group.level_or, specs.Outline.{Line, level, Outline, row, flatten, IsEven}}
-use Rattle.yq_outline.specs.Places.{Context, here, below, beside, plug, lines_before, lines_after, FoundLine, find_row}
-use Rattle.yq_outline.{proofs.PlaceLaws.at, proofs.Values.rank_small, specs.Lines.{dash_line, lines_from, row_lines, lines_of_rows}}
-use Rattle.yq_outline.proofs.RowLaws.{no_comments}
+use Rattle.yq_outline.{specs.Places.{Context, here, plug, lines_before, lines_after, FoundLine, find_row}, proofs.PlaceLaws.at}
+use Rattle.yq_outline.{proofs.Values.rank_small, specs.Lines.{dash_line, lines_from, row_lines, lines_of_rows}, proofs.RowLaws.no_comments}
 use Rattle.yq_row_table.{specs.Grammar.{AreDashes, is_entry}, specs.Rows.{Content, Row, after_columns, Part}}
 use Rattle.yq_documents.{specs.Reading.part_outline, specs.LinesInRows.{RowLine, row_line}}
 use Rattle.yq_places.proofs.UnderExchange.{lines_append}
@@ -27,9 +26,8 @@ dashes_first above column (n ∷ []) es m c h = refl
 dashes_first above column (n ∷ (k ∷ ns)) es m c h = ap (λ ls. dash_line above column ∷ ls) (dashes_first [] (suc (column + n)) (k ∷ ns) es m c (omega arith))
 
 apart_last : (a : List Line) (l : Line) (z : List Line) → AreApartLines (a ++ (l ∷ [])) z → Begins (level l) z
-apart_last [] l z h = h
-apart_last (x ∷ []) l z h = h
 apart_last (x ∷ (y ∷ a)) l z h = apart_last (y ∷ a) l z h
+apart_last _ l z h = h
 
 -- what comes after a dash is deeper
 apart_dashes : (a : List Line) (above : List (List ℕ)) (column : ℕ) (ns es : List ℕ) (m : rows.RowMark) (c : Content) (rest : List Line) → 0 < length ns →
@@ -59,8 +57,7 @@ same_column l k e = omega (arith, e, rank_small l.mark, rank_small k.mark)
 
 plug_first : (p : Context) (o : Outline) → lines_before p ≡ [] → plug p o ≡ o
 plug_first here o e = refl
-plug_first (below l p after) o e = absurd (cc)
-plug_first (beside l u p) o e = absurd (cc)
+plug_first _ o e = absurd (cc)
 
 -- The line after an item or entry, where that is the next one's.
 record NextLine (f : FoundLine) : Type 0 where

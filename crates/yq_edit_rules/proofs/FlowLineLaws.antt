@@ -87,8 +87,6 @@ root_line n l u a f rest even e = go l.mark refl e
         option_map {U = FoundLine × List Step} (λ g. (g, []))
         (Rattle.std.proofs.Common.cond (has_no_mark m) (Some (record { place = here; line = l; under = u; after = a })) None) ≡ Some (f, rest) →
         Cases [] (row l u a) f rest
-    go (Key k) is e = absurd (none-some _ e)
-    go Dash is e = absurd (none-some _ e)
     go Bare is e = inr (subst (λ (x : FoundLine × List Step). OnLine [] (row l u a) x.0 x.1) (same_Some _ _ e) (record {
       lines = record { place = here; above = 0; anchor = None; lines = row l u a };
       is = refl;
@@ -99,6 +97,7 @@ root_line n l u a f rest even e = go l.mark refl e
       bare = is;
       whole = refl;
     }))
+    go _ is e = absurd (none-some _ e)
 
 under_line_is : (n : ℕ) (o : Outline) (s : Step) (ss : List Step) (g : FoundLine) (f : FoundLine) (rest : List Step) → IsEven n o → find s ss o ≡ Some (g, []) → g.line.head ≡ None → (u : Outline) → g.under ≡ u →
     option_map {U = FoundLine × List Step} (λ y. (place_inside g y, [])) (bare_line u) ≡ Some (f, rest) → Cases (s ∷ ss) o f rest

@@ -77,10 +77,8 @@ node_holds _ _ rest w g is e = absurd (none-some _ e)
 anchor_head : (node : FlowNode) (h : tree.Node) → node_head node ≡ Some h → tree_of node ≡ outlines.anchored (node_anchor node) h
 unfolding tree_of
 anchor_head empty h e = absurd (none-some _ e)
-anchor_head (alias n) h e = same_Some _ _ e ∙ none_anchored h
-anchor_head (scalar p) h e = same_Some _ _ e ∙ none_anchored h
-anchor_head (coll k g is) h e = same_Some _ _ e ∙ none_anchored h
 anchor_head (anchored n g node) h e = named_is n (tree_of node) ∙ (ap (outlines.anchored (Some n)) (anchor_head node h e) ∙ twice (Some n) (node_anchor node) h)
+anchor_head _ h e = same_Some _ _ e ∙ none_anchored h
 
 -- the row
 row_is : (t : List ℕ) (c : Cut) (k : ℕ) (p : Part) (i : InlineRow) → Rattle.yq_edit_rules.specs.DocumentRows.IsDocumentPart t c k p → p.rows ≡ i.front ++ (i.row ∷ i.back) →

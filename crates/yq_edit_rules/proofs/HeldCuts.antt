@@ -91,8 +91,7 @@ dashes_end b (n ∷ ns) t e = following_ends b (45 ∷ replicate n 32) (dashes_t
 
 pub low_last : (m : rows.RowMark) → (last_of m < 128) × (is_return (last_of m) ≡ false)
 low_last rows.Bare = (omega arith, refl)
-low_last rows.Dash = (omega arith, refl)
-low_last (rows.Key key colon) = (omega arith, refl)
+low_last _ = (omega arith, refl)
 
 -- a text cut after such a byte
 pub last_cut : (b : ℕ) (x t : List ℕ) → b < 128 → is_return b ≡ false → IsPiece ((x ++ b ∷ []) ++ t) → IsPiece (x ++ b ∷ []) × IsPiece t
@@ -129,9 +128,8 @@ break_is_piece b (inr (inr e)) = subst IsPiece (sym e) (break_piece CrLf)
 less_clean : (t : List ℕ) → last_break t ≡ 10 ∷ [] → ends_return (less_break t) ≡ false
 unfolding less_break
 less_clean [] e = refl
-less_clean (b ∷ []) e = search (rules, ends_return)
-less_clean (b ∷ (d ∷ [])) e = search (rules, ends_return)
 less_clean (b ∷ (d ∷ (f ∷ t))) e = search (rules, ends_return, less_clean (d ∷ (f ∷ t)))
+less_clean _ e = search (rules, ends_return)
 
 -- a piece less its last break is one
 pub less_piece : (t : List ℕ) → IsPiece t → IsPiece (less_break t)

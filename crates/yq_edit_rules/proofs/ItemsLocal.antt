@@ -18,9 +18,8 @@ last_nothing (i ∷ []) = omega arith
 last_nothing (i ∷ (j ∷ is)) = last_nothing (j ∷ is)
 
 in_last : (is : List Item) (i : Item) (trail : List ℕ) → length trail ≤ length (item_text i) → InLast trail (is ++ (i ∷ []))
-in_last [] i trail h = h
-in_last (j ∷ []) i trail h = h
 in_last (j ∷ (k ∷ is)) i trail h = in_last (k ∷ is) i trail h
+in_last _ i trail h = h
 
 pub rows_last : (rs : List Row) (i : Item) (trail : List ℕ) → length trail ≤ length (item_text i) → InLast trail (rows_items rs (i ∷ []))
 rows_last rs i trail h = subst (InLast trail) (sym (rows_before rs [] (i ∷ []))) (in_last (rows_items rs []) i trail h)

@@ -16,9 +16,8 @@ use Rattle.yq_core.specs.Nodes as inline
 
 step_least : (ls : List Line) → 1 ≤ first_step (is_kind false) ls
 unfolding level
-step_least [] = omega arith
-step_least (l ∷ []) = omega arith
 step_least (l ∷ (m ∷ ls)) = search (rules, and_parts, ltb-true, false≢true, step_least (m ∷ ls))
+step_least _ = omega arith
 
 pub steps_least : (o : Option Part) → 1 ≤ (steps_of_part o).mapping
 steps_least None = omega arith
@@ -37,12 +36,11 @@ module _ (l k : Layout) where
 
   -- by how many columns a collection is deeper than its key
   pub indent_like : (v : Node) → SameSteps (λ dashes. is_filled_as dashes v) → is_filled v ≡ true → indent_step l v ≡ indent_step k v
-  indent_like (alias name) h filled = refl
-  indent_like (scalar a kind text) h filled = refl
   indent_like (list a none) h filled = absurd (false≢true filled)
   indent_like (list a (child label n cs)) h filled = h true refl
   indent_like (map a none) h filled = absurd (false≢true filled)
   indent_like (map a (child label n cs)) h filled = h false refl
+  indent_like _ h filled = refl
 
   columns_like : (column : ℕ) (key : Option (List ℕ)) (v : Node) → SameSteps (λ dashes. is_some key && is_filled_as dashes v) → is_filled v ≡ true →
       column_below l column key v ≡ column_below k column key v

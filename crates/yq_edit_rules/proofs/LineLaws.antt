@@ -15,9 +15,8 @@ above_mark above (n ∷ ns) = []
 
 pub mark_after : (above : List (List ℕ)) (column : ℕ) (ns : List ℕ) (m : rows.RowMark) (c : Content) →
     lines_from above column ns m c ≡ dash_lines above column ns ++ (mark_line (above_mark above ns) (after_columns column ns) m c ∷ [])
-mark_after above column [] m c = refl
-mark_after above column (n ∷ []) m c = refl
 mark_after above column (n ∷ (k ∷ ns)) m c = ap (λ (ls : List Line). dash_line above column ∷ ls) (mark_after [] (suc (column + n)) (k ∷ ns) m c)
+mark_after above column _ m c = refl
 
 pub dashes_count : (above : List (List ℕ)) (column : ℕ) (ns : List ℕ) → length (dash_lines above column ns) ≡ length ns
 dashes_count above column [] = refl

@@ -75,11 +75,10 @@ fits marker started front gone back new gap p rest rows h after begun = search (
 -- a document is open in its part
 started_is : (is started : Bool) (k : ℕ) (c : Cut) (p : Part) → slice_get (parts_from is c) k ≡ Some p → (is ≡ true → started ≡ true) → is_started started (number_from is k c) c ≡ true
 started_is true started zero (last x) p e h = h refl
-started_is true started (suc k) (last x) p e h = absurd (cc)
-started_is false started k (last x) p e h = absurd (cc)
 started_is true started zero (marked x marker c) p e h = h refl
 started_is true started (suc k) (marked x marker c) p e h = started_is (begins_document marker) (begins_document marker) k c p e (λ i. i)
 started_is false started k (marked x marker c) p e h = started_is (begins_document marker) (begins_document marker) k c p e (λ i. i)
+started_is _ started _ (last x) p e h = absurd (cc)
 
 pub document_started : (c : Cut) (k : ℕ) (p : Part) → slice_get (document_parts c) k ≡ Some p → is_started true (part_number k c) c ≡ true
 document_started c k p e = started_is (begins_bare c || not (has_begin c)) true k c p e (λ i. refl)

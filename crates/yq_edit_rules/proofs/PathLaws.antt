@@ -4,8 +4,7 @@ use Rattle.std.{proofs.Common.{◌∙◌, subst, arith, length-append, rules}, p
 use mathlib.Core.List.{cons≢nil}
 use Rattle.yq_core.{specs.Paths.Step, specs.Tree.Node, proofs.Bools.bind_some}
 use Rattle.yq_row_table.specs.Rows.{Row}
-use Rattle.yq_outline.{specs.Group.level_or, specs.Lines.lines_of_rows}
-use Rattle.yq_outline.specs.Outline.{LineMark, Bare, Key, Dash, Outline, IsEven, end, row}
+use Rattle.yq_outline.{specs.Group.level_or, specs.Lines.lines_of_rows, specs.Outline.{LineMark, Bare, Outline, IsEven, end, row}}
 use Rattle.yq_outline.specs.Places.{here, lines_before, FoundLine, find_row, place_inside, bare_or, in_head, find}
 use Rattle.yq_outline.{specs.Ends.{found_line, line_at_steps}, proofs.Values.If}
 use Rattle.yq_documents.{specs.Reading.part_outline, specs.LinesInRows.{RowLine, row_line}}
@@ -76,8 +75,7 @@ path_sits [] s n (row l u a) even = go l.mark refl (find_row s (row l u a)) refl
     go : (m : LineMark) → l.mark ≡ m → (r : Option FoundLine) → find_row s (row l u a) ≡ r →
         If (bare_or m (Some (record { place = here; line = l; under = u; after = a }, s ∷ [])) (option_map (λ f. (f, [])) r)) (Sits [] s (row l u a))
     go Bare e r is = λ none. absurd (cons≢nil none)
-    go (Key k) e r is = found (subst IsEntry (sym e) tt) r is
-    go Dash e r is = found (subst IsEntry (sym e) tt) r is
+    go _ e r is = found (subst IsEntry (sym e) tt) r is
 path_sits (t ∷ ts) s n o even = split (ts ++ (s ∷ [])) refl o even (λ m u e. path_sits ts s m u e)
   where
     Below : Type 0
@@ -119,8 +117,7 @@ path_sits (t ∷ ts) s n o even = split (ts ++ (s ∷ [])) refl o even (λ m u e
             If (bare_or m (Some (record { place = here; line = l; under = u; after = a }, t ∷ (v ∷ vs)))
             (option_and_then (λ f. in_head f.line.head (Some (f, v ∷ vs)) (option_map (λ x. (place_inside f x.0, x.1)) (find v vs f.under))) r)) (Sits (t ∷ ts) s (row l u a))
         go Bare m r is = λ end. absurd (cons≢nil end)
-        go (Key k) m r is = row_is (subst IsEntry (sym m) tt) r is (subst (λ (x : Option FoundLine). If x (Stood n)) is (row_stood t n (row l u a) even))
-        go Dash m r is = row_is (subst IsEntry (sym m) tt) r is (subst (λ (x : Option FoundLine). If x (Stood n)) is (row_stood t n (row l u a) even))
+        go _ m r is = row_is (subst IsEntry (sym m) tt) r is (subst (λ (x : Option FoundLine). If x (Stood n)) is (row_stood t n (row l u a) even))
 
 -- the line by its number
 line_at : (steps : List Step) (s : Step) (o : Outline) (r : Option (FoundLine × List Step)) (n : ℕ) → If r (Sits steps s o) → option_and_then (λ x. found_line x.0 x.1) r ≡ Some n → IsEntryLine steps s o n

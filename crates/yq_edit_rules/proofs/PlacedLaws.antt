@@ -4,7 +4,7 @@ use Rattle.std.{proofs.Common.{◌∙◌, subst, arith, append_assoc, append-nil
 use mathlib.Core.List.{head-eq_of_cons-eq, tail-eq_of_cons-eq}
 use Rattle.yq_core.{specs.Paths.{Step, further}, specs.Tree.Node}
 use Rattle.yq_outline.{specs.Laws.with_lines, specs.Lines.lines_of_rows}
-use Rattle.yq_outline.specs.Outline.{LineMark, Bare, Key, Dash, Line, Outline, end, row, flatten, IsEven}
+use Rattle.yq_outline.specs.Outline.{LineMark, Bare, Line, Outline, end, row, flatten, IsEven}
 use Rattle.yq_outline.specs.Places.{here, lines_before, lines_after, FoundLine, find_row, place_inside, bare_or, in_head, find}
 use Rattle.yq_outline.{proofs.Allowing.IsCollection, proofs.Decides.flatten-group, proofs.Finding.{IsFoundIn, path_whole}}
 use Rattle.yq_outline.{proofs.PlaceLaws.{at, placed}, proofs.Values.If}
@@ -18,9 +18,8 @@ use Rattle.yq_outline.proofs.Allowing as allowing
 -- parts of lines
 pub same_front : {A : Type 0} (a b z w : List A) → a ++ z ≡ b ++ w → length a ≡ length b → (a ≡ b) × (z ≡ w)
 same_front [] [] z w e n = (refl, e)
-same_front [] (k ∷ b) z w e n = absurd (omega (arith, n))
-same_front (l ∷ a) [] z w e n = absurd (omega (arith, n))
 same_front (l ∷ a) (k ∷ b) z w e n = let r = same_front a b z w (tail-eq_of_cons-eq e) (omega (arith, n)) in ((λ i. head-eq_of_cons-eq e i ∷ r.0 i), r.1)
+same_front _ _ z w e n = absurd (omega (arith, n))
 
 pub same_parts : SameParts
 same_parts a x z b y w e n m = let p = same_front a b (x ++ z) (y ++ w) e n in let q = same_front x y z w p.1 m in (p.0, q.0, q.1)
@@ -86,8 +85,7 @@ path_entry n s [] (row k v a) e = go k.mark refl (find_row s (row k v a)) (λ c.
     go : (m : LineMark) → k.mark ≡ m → (r : Option FoundLine) → (IsCollection (row k v a) → If r (λ f. allowing.IsEntry f.line.mark × ((m : ℕ) × IsEven m f.under))) →
         If (bare_or m (Some (record { place = here; line = k; under = v; after = a }, s ∷ [])) (option_map (λ f. (f, [])) r)) Ending
     go Bare e r h = tt
-    go (Key j) e r h = found r (h (subst allowing.IsEntry (sym e) tt))
-    go Dash e r h = found r (h (subst allowing.IsEntry (sym e) tt))
+    go _ e r h = found r (h (subst allowing.IsEntry (sym e) tt))
 path_entry n s (t ∷ ts) (row k v a) e = go (λ m u f. path_entry m t ts u f) k.mark refl (find_row s (row k v a)) (λ c. row_entry n s (row k v a) c e)
   where
     deep : (f : FoundLine) (h : Option Node) (q : Option (FoundLine × List Step)) → If q Ending → If (in_head h (Some (f, t ∷ ts)) (option_map (λ x. (place_inside f x.0, x.1)) q)) Ending
@@ -103,8 +101,7 @@ path_entry n s (t ∷ ts) (row k v a) e = go (λ m u f. path_entry m t ts u f) k
         If (bare_or m (Some (record { place = here; line = k; under = v; after = a }, s ∷ (t ∷ ts)))
         (option_and_then (λ f. in_head f.line.head (Some (f, t ∷ ts)) (option_map (λ x. (place_inside f x.0, x.1)) (find t ts f.under))) r)) Ending
     go ih Bare e r h = tt
-    go ih (Key j) e r h = found ih r (h (subst allowing.IsEntry (sym e) tt))
-    go ih Dash e r h = found ih r (h (subst allowing.IsEntry (sym e) tt))
+    go ih _ e r h = found ih r (h (subst allowing.IsEntry (sym e) tt))
 
 pub found_is_entry : FoundIsEntry
 found_is_entry n p s ss f even found = entry_out f.line.mark (at Ending (find s ss (part_outline p)) (f, []) found (path_entry n s ss (part_outline p) even))

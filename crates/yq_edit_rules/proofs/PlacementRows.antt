@@ -1,6 +1,7 @@
 -- The rows of an item or entry that are found are those of the line to which steps lead, with the lines under it.
+use Rattle.std.proofs.lemmas.Grind.{common_steps}
 use Rattle.std.proofs.Common.{◌≡◌, ◌≤◌, true, ℕ, zero, suc, ◌+◌, List, [], ◌∷◌, ◌++◌, take, drop, length, map, Option, Some, option_map}
-use Rattle.std.{proofs.Common.{refl, sym, ap, ◌∙◌, subst, arith, length-append, rules}, proofs.lemmas.List.take-append-drop}
+use Rattle.std.{proofs.Common.{sym, ap, ◌∙◌, subst, arith, length-append, rules}, proofs.lemmas.List.take-append-drop}
 use Rattle.std.{proofs.lemmas.Option.{none-some, same_Some}, specs.List.slice_get, specs.Str.is_utf8}
 use Rattle.yq_core.{specs.Answers.◌>>=◌, specs.Paths.Step, proofs.Bools.{bind_some, guard_then}}
 use Rattle.yq_outline.{specs.Comments.head_comment, specs.Ends.{IsEndOf, lines_end, line_at_steps}, specs.Group.{group, is_fine}}
@@ -8,7 +9,7 @@ use Rattle.yq_outline.{specs.Outline.{Line, flatten, level}, specs.Places.{Found
 use Rattle.yq_outline.{specs.Lines.{lines_of_rows, row_lines}, specs.RowWalk.{deeper_rows, line_level}}
 use Rattle.yq_outline.{proofs.WalkEnds.{ends_at, lines_upto}, proofs.WalkLevels.{RowsAgree, IsLineOf, RowAgrees, level_is, line_in}}
 use Rattle.yq_outline.proofs.WalkRows.{rows_agree}
-use Rattle.yq_row_table.{specs.Rows.{Row, Cut, cut_text, part_text}, specs.View.slices, specs.Grammar.unlimited}
+use Rattle.yq_row_table.{specs.Rows.{Row, Cut, cut_text}, specs.View.slices, specs.Grammar.unlimited}
 use Rattle.yq_row_table.proofs.splices.ContentPlaces.{count_front, rows_around}
 use Rattle.yq_documents.{specs.Documents.document_parts, specs.Reading.read_at, specs.LinesInRows.{RowLine, row_line, row_line_of}}
 use Rattle.yq_documents.{proofs.PartRows.each, proofs.ReadLaws.text_takes}
@@ -91,18 +92,7 @@ module _ (n : ℕ) (s : Step) (ss : List Step) (c : Cut) (read : read_at (cut_te
       omega (arith, agrees, end, upto, number, row_count x.row, length-append (row_lines x.row) (lines_of_rows (take under (drop (suc x.before) d.part.rows))))
 
   there : HasItsRows n s ss c (entry_rows_at d x)
-  there = record {
-    part = d.part;
-    old = old;
-    found = found.0;
-    is = found.1;
-    rows_are = rows_are ∙ ap (λ (ys : List Row). take x.before d.part.rows ++ (x.row ∷ ys)) (sym (take-append-drop under (drop (suc x.before) d.part.rows)));
-    end_is = refl;
-    following_is = sym is_located.after;
-    number = number;
-    count = counted;
-    put = λ q. is_located.put q ∙ ap (λ t. d.before ++ part_text q t) (sym is_located.after);
-  }
+  there = grind (arith, common_steps, old, found, rows_are, take-append-drop, end_is, is_located, number, counted)
 
 pub rows_located : RowsAreFound
 rows_located n s ss c e read is =

@@ -1,4 +1,5 @@
 -- An item or entry taken out of a text.
+use Rattle.std.proofs.lemmas.Grind.{common_steps}
 use Rattle.std.proofs.Common.{◌≡◌, ℕ, ◌-◌, ◌<◌, ◌≤◌, true, List, [], ◌∷◌, ◌++◌, length, take, Some, option_and_then, refl, sym, ap, ◌∙◌}
 use Rattle.std.{proofs.Common.{subst, arith, length-append, rules}, proofs.Math.Seq.take-append_seam}
 use Rattle.std.{proofs.lemmas.Bool.{false≢true, ltb-true}, proofs.lemmas.Option.{none-some, same_Some}}
@@ -8,8 +9,8 @@ use Rattle.yq_core.{specs.Paths.{Step, node_at, remove_child}, specs.Tree.{Node,
 use Rattle.yq_core.{proofs.Bools.{bind_some, guard_then}, specs.Anchors.names_of}
 use Rattle.yq_outline.{specs.Counts.count, specs.Group.{group, level_or}, specs.Laws.with_lines}
 use Rattle.yq_outline.specs.Outline.{Line, level, Outline, end, row, flatten, IsEven, children, value}
-use Rattle.yq_outline.specs.Places.{plug, lines_before, lines_after, FoundLine, find_row, find, content_under}
-use Rattle.yq_outline.{proofs.Finding.{IsFoundIn, children-collection, path_node, path_whole, row_child}, proofs.PlaceLaws.at}
+use Rattle.yq_outline.specs.Places.{plug, FoundLine, find_row, content_under}
+use Rattle.yq_outline.{proofs.Finding.{children-collection, path_node, path_whole, row_child}, proofs.PlaceLaws.at}
 use Rattle.yq_outline.{proofs.ChildLaws.anchored_children, specs.Lines.lines_of_rows}
 use Rattle.yq_row_table.{specs.Grammar.no_rows, specs.Rows.{Row, rows_text, Part, part_text, Cut, cut_text}}
 use Rattle.yq_row_table.specs.Splices.{first_gap, after_first}
@@ -108,15 +109,7 @@ root_entries (t ∷ ts) o h e b = let w = lines_found t ts o h e in found_entrie
 -- the lines that are left begin with an entry
 left_first : (ss : List Step) (s : Step) (o : Outline) (h : NodeLines) (f : FoundLine) → IsEntryAt ss s o h f → HasEntries (plug f.place f.after) → FirstEntry (put_lines h (with_lines f []))
 left_first [] s o h f at left = search (rules, same_Some, some_at, flatten-append, first_flatten)
-left_first (t ∷ ts) s o h f at left = found (lines_found t ts o h at.place_is)
-  where
-    found : Under t ts o h → FirstEntry (put_lines h (with_lines f []))
-    found w =
-        let g : FoundLine = w.found in
-        let whole : plug g.place (row g.line g.under g.after) ≡ o = Rattle.yq_outline.proofs.PlaceLaws.at (IsFoundIn o) (find t ts o) (g, []) w.is (path_whole t ts o) in
-        let ls : List Line = (g.line ∷ with_lines f []) ++ (flatten g.after ++ lines_after g.place) in
-        let first : FirstEntry (lines_before g.place ++ ls) = search (rules, found_entries) in
-        subst (λ (x : NodeLines). FirstEntry (put_lines x (with_lines f []))) w.place_is (subst FirstEntry (sym (put_under g (with_lines f []))) first)
+left_first (t ∷ ts) s o h f at left = grind (arith, common_steps, lines_found, path_whole, found_entries, put_under)
 
 pub keeps : (p q : Part) → FirstEntry (lines_of_rows q.rows) → KeepsRows p q
 keeps p q h empty = search (rules, false≢true)

@@ -98,20 +98,18 @@ numbers_rise false k m (marked p marker c) less = omega (arith, numbers_rise (be
 
 past_other : (i j : ℕ) (q : Part) (c : Cut) → i ≤ j → after_part j (put_part i q c) ≡ after_part j c
 past_other i j q (last p) less = refl
-past_other zero zero q (marked p marker c) less = refl
-past_other zero (suc j) q (marked p marker c) less = refl
 past_other (suc i) zero q (marked p marker c) less = absurd (omega (arith, less))
 past_other (suc i) (suc j) q (marked p marker c) less = past_other i j q c (omega (arith, less))
+past_other _ _ q _ less = refl
 
 past_put : (i : ℕ) (q : Part) (c : Cut) → after_part i (put_part i q c) ≡ after_part i c
 past_put i q c = past_other i i q c (omega arith)
 
 nth_other : (k m : ℕ) (q : Part) (ps : List Part) → k < m → slice_get (change_nth k (λ x. q) ps) m ≡ slice_get ps m
 nth_other k m q [] less = refl
-nth_other zero zero q (x ∷ ps) less = absurd (omega (arith, less))
 nth_other zero (suc m) q (x ∷ ps) less = refl
-nth_other (suc k) zero q (x ∷ ps) less = absurd (omega (arith, less))
 nth_other (suc k) (suc m) q (x ∷ ps) less = nth_other k m q ps (omega (arith, less))
+nth_other _ zero q (x ∷ ps) less = absurd (omega (arith, less))
 
 -- document k with this part, between the texts that are around it
 abbrev pub around : ℕ → Part → Cut → PlacedPart

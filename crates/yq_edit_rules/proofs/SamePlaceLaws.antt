@@ -2,7 +2,7 @@
 use Rattle.std.proofs.Common.{◌≡◌, ℕ, zero, suc, List, [], ◌∷◌, Option, Some, refl, sym, ap, ◌∙◌, subst, rules}
 use Rattle.std.{proofs.lemmas.Option.same_Some, specs.List.slice_get, specs.Prelude.option_and_then}
 use Rattle.yq_core.specs.Paths.{Step, further, child_at, change_child, changed_at, node_at}
-use Rattle.yq_core.specs.Tree.{Node, alias, scalar, list, map, Children, none, child}
+use Rattle.yq_core.specs.Tree.{Node, list, map, Children, none, child}
 use Rattle.yq_row_table.{specs.Rows.{Part, Cut, last, marked}, specs.Splices.nth_part}
 use Rattle.yq_documents.{specs.Documents.document_parts, specs.PartNumbers.part_number, proofs.PartNumberLaws.part_there}
 use Rattle.yq_documents.specs.TreeEdits.{change_nth}
@@ -31,7 +31,6 @@ child_own s g at (child label m cs) n h e = search (rules, child_own (further s)
 -- a node at a path
 pub change_own : (ss : List Step) (f : Node → Node) (root n : Node) → node_at ss root ≡ Some n → f n ≡ n → changed_at ss f root ≡ root
 change_own [] f root n e h = subst (λ m. f m ≡ m) (sym (same_Some _ _ e)) h
-change_own (s ∷ ss) f (alias name) n e h = refl
-change_own (s ∷ ss) f (scalar a kind t) n e h = refl
 change_own (s ∷ ss) f (list a cs) n e h = ap (list a) (child_own s (changed_at ss f) (node_at ss) cs n (λ m at. change_own ss f m n at h) e)
 change_own (s ∷ ss) f (map a cs) n e h = ap (map a) (child_own s (changed_at ss f) (node_at ss) cs n (λ m at. change_own ss f m n at h) e)
+change_own (s ∷ ss) f _ n e h = refl

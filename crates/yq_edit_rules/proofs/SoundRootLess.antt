@@ -4,7 +4,7 @@ use Rattle.std.proofs.Common.{subst, arith, append_assoc, not, bytes_eq}
 use Rattle.std.{proofs.lemmas.Bool.{and_parts, and_from, or_parts, or_from, not-true}, proofs.lemmas.Option.none-some, specs.List.list_any}
 use Rattle.yq_core.specs.Keys.{AreDistinct, keys_of, HasUniqueKeys, EachHasUniqueKeys, depth, deepest, are_distinct}
 use Rattle.yq_core.specs.Paths.{Step, is_here, further, child_at, relabel_child, remove_child, within}
-use Rattle.yq_core.specs.Tree.{Label, Node, alias, scalar, list, map, Children, none, child, children_of}
+use Rattle.yq_core.specs.Tree.{Label, Node, list, map, Children, none, child, children_of}
 use Rattle.yq_core.{specs.Anchors.{Name, anchor_names, names_of, names_in}, specs.Text.with_first}
 use Rattle.yq_core.proofs.DistinctKeys.{distinct_is, is_distinct}
 use Rattle.yq_edit_rules.{specs.SoundRoots.{RemoveKeeps, RelabelKeeps}, proofs.BoundLaws.{AroundChild, anchor_front, around_child}}
@@ -35,10 +35,9 @@ deepest_less s none = omega arith
 deepest_less s (child l n cs) = search (rules, arith, max_right, max_least, max_left, deepest_less (further s) cs)
 
 remove_unique : (s : Step) (n : Node) → HasUniqueKeys n → HasUniqueKeys (within (remove_child s) n)
-remove_unique s (alias name) h = h
-remove_unique s (scalar a i t) h = h
 remove_unique s (list a cs) h = each_less s cs h
 remove_unique s (map a cs) h = (distinct_is (keys_of (remove_child s cs)) (distinct_less s cs (is_distinct (keys_of cs) h.0)), each_less s cs h.1)
+remove_unique s _ h = h
 
 -- the names around an item or entry of a node, which is taken out
 record WithoutIn (s : Step) (n x : Node) : Type 0 where
@@ -60,10 +59,9 @@ with_names a s cs x n new old w =
     }
 
 without_in : (s : Step) (n x : Node) → child_at s (children_of n) ≡ Some x → WithoutIn s n x
-without_in s (alias name) x e = absurd (none-some _ e)
-without_in s (scalar a i t) x e = absurd (none-some _ e)
 without_in s (list a cs) x e = with_names a s cs x (list a cs) (λ g. refl) refl (around_child s cs x e)
 without_in s (map a cs) x e = with_names a s cs x (map a cs) (λ g. refl) refl (around_child s cs x e)
+without_in s _ x e = absurd (none-some _ e)
 
 pub remove_keeps : RemoveKeeps
 remove_keeps steps root old x s h there is spared =
@@ -81,10 +79,9 @@ labels_stay s g (child l n cs) key = search (rules, labels_stay (further s) g cs
 
 relabel_node : (s : Step) (g : Label → Label) (n : Node) → ((l : Label) → (g l).key ≡ l.key) →
     (names_of (within (relabel_child s g) n) ≡ names_of n) × (depth (within (relabel_child s g) n) ≡ depth n) × (HasUniqueKeys n → HasUniqueKeys (within (relabel_child s g) n))
-relabel_node s g (alias name) key = (refl, refl, λ h. h)
-relabel_node s g (scalar a i t) key = (refl, refl, λ h. h)
 relabel_node s g (list a cs) key = let r = labels_stay s g cs key in (ap (anchor_names a) r.1, ap suc r.2, r.3)
 relabel_node s g (map a cs) key = let r = labels_stay s g cs key in (ap (anchor_names a) r.1, ap suc r.2, λ h. (subst AreDistinct (sym r.0) h.0, r.3 h.1))
+relabel_node s g _ key = (refl, refl, λ h. h)
 
 pub relabel_keeps : RelabelKeeps
 relabel_keeps steps root old s g h there key =

@@ -1,9 +1,10 @@
 -- Unique keys and depth of a tree in which a node is changed.
+use Rattle.std.proofs.lemmas.Grind.{common_steps}
 use Rattle.std.proofs.Common.{rules, ◌≡◌, ℕ, ◌+◌, ◌-◌, ◌≤◌, max, [], ◌∷◌, length, Option, Some, None, option_and_then, Bool, true, false}
 use Rattle.std.{proofs.Common.{cond, refl, sym, subst, arith}, proofs.lemmas.Option.{none-some, same_Some}}
 use Rattle.yq_core.specs.Keys.{keys_of, HasUniqueKeys, EachHasUniqueKeys, depth, deepest}
 use Rattle.yq_core.specs.Paths.{Step, is_here, further, child_at, node_at, change_child, within, changed_at}
-use Rattle.yq_core.specs.Tree.{Node, alias, scalar, list, map, Children, none, child, children_of}
+use Rattle.yq_core.specs.Tree.{Node, list, map, Children, none, child, children_of}
 use Rattle.yq_edit_rules.specs.Conditions.{UniqueChanged, DepthChanged}
 
 keys_stay : (s : Step) (f : Node → Node) (cs : Children) → keys_of (change_child s f cs) ≡ keys_of cs
@@ -44,18 +45,7 @@ max_right a b = omega arith
 
 deepest_changed : (d : ℕ) (s : Step) (f : Node → Node) (cs : Children) (k : Node) → child_at s cs ≡ Some k → (depth k ≤ d → depth (f k) ≤ d) → deepest cs ≤ d → deepest (change_child s f cs) ≤ d
 deepest_changed d s f none k e new h = h
-deepest_changed d s f (child l n cs) k e new h = go (is_here s l) e (λ c. deepest_changed d (further s) f cs k c new right)
-  where
-    left : depth n ≤ d
-    left = omega (arith, h, max_left (depth n) (deepest cs))
-
-    right : deepest cs ≤ d
-    right = omega (arith, h, max_right (depth n) (deepest cs))
-
-    go : (b : Bool) → cond b (Some n) (child_at (further s) cs) ≡ Some k → (child_at (further s) cs ≡ Some k → deepest (change_child (further s) f cs) ≤ d) →
-        deepest (cond b (child l (f n) cs) (child l n (change_child (further s) f cs))) ≤ d
-    go true e ih = max_least _ _ d (subst (λ x. depth (f x) ≤ d) (sym (same_Some _ _ e)) (new (subst (λ x. depth x ≤ d) (same_Some _ _ e) left))) right
-    go false e ih = max_least _ _ d left (ih e)
+deepest_changed d s f (child l n cs) k e new h = grind (arith, common_steps, max_left, max_right, max_least, same_Some, deepest_changed d (further s) f cs k)
 
 pub depth_changed : DepthChanged
 depth_changed d [] n old f e h new = search (rules, arith, same_Some)
@@ -63,10 +53,9 @@ depth_changed d (s ∷ ss) n old f e h new =
     let less : length ss + depth (f old) ≤ d - 1 = omega (arith, new) in go (child_at s (children_of n)) refl e (λ k u w. depth_changed (d - 1) ss k old f u w less)
   where
     kinds : (n k : Node) → child_at s (children_of n) ≡ Some k → (depth k ≤ d - 1 → depth (changed_at ss f k) ≤ d - 1) → depth n ≤ d → depth (within (change_child s (changed_at ss f)) n) ≤ d
-    kinds (alias name) k is r h = h
-    kinds (scalar a i t) k is r h = h
     kinds (list a cs) k is r h = let x = deepest_changed (d - 1) s (changed_at ss f) cs k is r (omega (arith, h)) in omega (arith, x, h)
     kinds (map a cs) k is r h = let x = deepest_changed (d - 1) s (changed_at ss f) cs k is r (omega (arith, h)) in omega (arith, x, h)
+    kinds _ k is r h = h
 
     go : (r : Option Node) → child_at s (children_of n) ≡ r → option_and_then (node_at ss) r ≡ Some old → ((k : Node) → node_at ss k ≡ Some old → depth k ≤ d - 1 → depth (changed_at ss f k) ≤ d - 1) →
         depth (within (change_child s (changed_at ss f)) n) ≤ d
