@@ -10,7 +10,7 @@ ghost use Rattle.yq_lookup.specs.Knowledge.{AreKnownInRows, IsKnowledge, IsWay};
 ghost use Rattle.yq_lookup.specs.KnownDocuments.{AreKnownDocuments, HasDocumentRows, KnowDocuments};
 
 use crate::knowledge::{Knowledge, StepSearches};
-use crate::known_document::{KnownDocuments, find_document};
+use crate::known_document::{KnownDocuments, find_document, is_last};
 use crate::line_above::{LineAbove, line_in_part};
 use std::alloc::Global;
 use std::marker::Model;
@@ -184,7 +184,7 @@ impl<'d, 't> CutText<'d, 't> {
     fn documents_to(&self, doc: usize) -> KnownDocuments
         ensures { AreKnownDocuments (rows_view (cut_of self.now)).bounds result }
     {
-        if self.rows_known(doc).is_some() {
+        if self.rows_known(doc).is_some() || is_last(self.documents, doc) {
             return self.documents;
         }
         find_document(self.rows, self.documents, doc)

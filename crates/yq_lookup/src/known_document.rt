@@ -36,6 +36,15 @@ impl KnownDocuments {
     }
 }
 
+/// Whether document `doc` is the last one that is known.
+#[inline(always)]
+pub(crate) fn is_last(known: KnownDocuments, doc: usize) -> bool {
+    match known.last {
+        Some(last) => last.doc == doc,
+        None => false,
+    }
+}
+
 /// Of documents that are known the last one that isn't after document `doc`, and the one before it.
 fn known_upto(known: KnownDocuments, doc: usize) -> KnownDocuments
     ensures order { IfSome result.last (λ k. k.doc ≤ doc) }
@@ -96,12 +105,6 @@ pub(crate) fn find_document(rows: &Rows<'_>, known: KnownDocuments, doc: usize) 
     ensures within { IfSome result.last (λ k. k.part < length rows.now.bounds) }
     ensures known { AreKnownDocuments rows.now.bounds result }
 {
-    if let Some(last) = known.last
-        && last.doc == doc
-        && last.part < rows.parts()
-    {
-        return known;
-    }
     let from = known_upto(known, doc);
     let start = search_start(rows, from.last);
     let mut count = start.count;
@@ -132,6 +135,12 @@ pub(crate) fn part_from(rows: &Rows<'_>, known: KnownDocuments, doc: usize) -> O
     ensures value { (c : Cut) → rows.now ≡ rows_view c → result ≡ numbers.document_part doc c }
     ensures within { IfSome result (λ k. k < length rows.now.bounds) }
 {
+    if let Some(last) = known.last
+        && last.doc == doc
+        && last.part < rows.parts()
+    {
+        return Some(last.part);
+    }
     let found = find_document(rows, known, doc).last?;
     Some(found.part)
 }

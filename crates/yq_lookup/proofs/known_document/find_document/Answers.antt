@@ -1,16 +1,10 @@
-use Rattle.std.{proofs.Common.{◌+◌, cond, drop, option_map, sym, ap, ◌∙◌, subst, arith}, specs.Prelude.IfSome}
+use Rattle.std.{proofs.Common.{◌+◌, cond, drop, sym, ap, ◌∙◌, subst, arith}, specs.Prelude.IfSome}
 use Rattle.yq_row_table.{specs.Grammar.begins_document, specs.View.bound_view}
 use Rattle.yq_documents.specs.PartReading.{number_in}
 use Rattle.yq_lookup.proofs.known_document.find_document.Goals.{then-is_document+else-count-doc, else-is_document}
-use Rattle.yq_lookup.{specs.KnownDocuments.{IsKnownDocument, part_by_number}, specs.declared.known_document.KnownDocument.KnownDocument}
+use Rattle.yq_lookup.specs.KnownDocuments.{IsKnownDocument, part_by_number}
 use Rattle.yq_lookup.proofs.KnownDocumentLaws.{goes_on_next, goes_on_none, known_here}
 use Rattle.yq_lookup.proofs.known_document.find_document.Goals as goal
-
-pub returns-clause-part : goal.returns-clause-part
-returns-clause-part c =
-    let bs = c.args.rows.now.bounds in
-    let known = subst (λ o. IfSome o (IsKnownDocument bs)) c.in-Some.is c.requires.0 in
-    ap (option_map (λ (k : KnownDocument). k.part)) c.in-Some.is ∙ (sym known ∙ ap (λ n. part_by_number n bs) c.if-last-doc.true)
 
 pub parts-init : goal.parts-init
 parts-init c = record {
@@ -51,5 +45,5 @@ parts-preserved c =
           }
     ]
 
-pub returns-2-clause-part : goal.returns-2-clause-part
-returns-2-clause-part c = goes_on_none c.args.rows.now.bounds c.parts.part c.parts.count c.args.doc c.parts.is_document (omega (arith, c.parts-test.false, c.parts-part-end.ensures)) c.parts.invariant.order c.parts.invariant.goes_on
+pub returns-clause-part : goal.returns-clause-part
+returns-clause-part c = goes_on_none c.args.rows.now.bounds c.parts.part c.parts.count c.args.doc c.parts.is_document (omega (arith, c.parts-test.false, c.parts-part-end.ensures)) c.parts.invariant.order c.parts.invariant.goes_on
