@@ -1,5 +1,5 @@
 -- What no text can hold isn't carried out: the text would be too large.
-use Rattle.std.proofs.Common.{◌≡◌, ℕ, ◌≤◌, List, [], ◌∷◌, ◌++◌, Option, Some, None, refl, ap, ◌∙◌, subst, arith}
+use Rattle.std.proofs.Common.{◌≡◌, ℕ, ◌≤◌, List, [], ◌∷◌, Option, Some, None, refl, ap, ◌∙◌, subst, arith}
 use Rattle.yq_documents.{specs.Documents.{Document, ReadsDocuments}, specs.Reading.{cut_of, documents, read_at}}
 use Rattle.yq_documents.{proofs.ReadLaws.{cut_is, parts_read}, proofs.ReadyLaws.read_ready}
 use Rattle.yq_outline.proofs.ShapeLaws.{shaped_by_lines, shaped_is_tree}

@@ -22,7 +22,7 @@ returns-then-is_empty c =
     subst (Edits c.close_by.result) (ap (edit_after c.operations.splices.items) last ∙ c.operations.invariant.whole) c.close_by.ensures
 
 pub operations-init : goal.operations-init
-operations-init c = record { whole = refl; serves = c.requires }
+operations-init c = record { whole = rw c.reserve.ensures.items refl; serves = c.requires }
 
 pub apply_valid-requires-clause-operand : goal.apply_valid-requires-clause-operand
 apply_valid-requires-clause-operand c =
@@ -33,7 +33,7 @@ apply_valid-requires-clause-fits c = first_fits c.operations.rest.now c.op-item.
 
 pub returns-in_err-next : goal.returns-in_err-next
 returns-in_err-next c =
-    let p = err_from_is_err_and c.from_residual.result c.from_residual.ensures.1 in
+    let p = err_from_is_err_and c.from_residual-in_err-next.result c.from_residual-in_err-next.ensures.1 in
     rw (p.1, p.2)
     (subst (EditFails c.in_err-next.field-0.0) c.operations.invariant.whole
     (first_fails c.operations.rest.now c.op-item.result c.operations.session.text c.operations.splices.items c.in_err-next.field-0.0 c.in-len1-up.len_at_least c.op-item.is c.in_err-next.ensures.err))
