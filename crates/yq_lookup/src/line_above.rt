@@ -31,7 +31,7 @@ fn is_at(line: Option<Position>, at: Position) -> bool {
 }
 
 /// Whether the line that is kept is that one.
-fn is_kept(kept: &Option<LineAbove>, at: Position) -> bool {
+fn is_kept_at(kept: &Option<LineAbove>, at: Position) -> bool {
     match kept {
         Some(there) => is_at(Some(there.at), at),
         None => false,
@@ -47,7 +47,7 @@ fn is_as_deep(kept: &Option<LineAbove>, line: KnownLine<'_>) -> bool {
 }
 
 /// Whether the row after that of a line begins in front of so many bytes.
-fn ends_before(rows: &Rows<'_>, at: Position, front: usize) -> bool
+fn next_row_before(rows: &Rows<'_>, at: Position, front: usize) -> bool
     ensures within { IsTrue result → at.row + 1 < length rows.now.rows }
     ensures before { IsTrue result → row_start (at.row + 1) rows.now < front }
 {
@@ -70,7 +70,7 @@ fn line_before(
     if kept.document.first != document.first || kept.document.end != document.end {
         return None;
     }
-    if !ends_before(rows, kept.at, front) {
+    if !next_row_before(rows, kept.at, front) {
         return None;
     }
     Some(kept)
@@ -166,7 +166,7 @@ impl CutText<'_, '_> {
         requires { IsLineAbove (rows_view (cut_of self.old)) line }
         ensures { self.new ≡ self.old }
     {
-        if is_kept(&self.above, line.at) {
+        if is_kept_at(&self.above, line.at) {
             return;
         }
         if let Ok(kept) = LineAbove::of(alloc, line) {
@@ -202,7 +202,7 @@ impl CutText<'_, '_> {
             self.parent = Some(line.at);
             return;
         }
-        if !is_kept(&self.above, line.at) && ends_before(self.rows, line.at, front) {
+        if !is_kept_at(&self.above, line.at) && next_row_before(self.rows, line.at, front) {
             self.keep_line(alloc, line);
         }
     }

@@ -35,7 +35,7 @@ fn value_after<'a, 't>(
 }
 
 /// The node at a place, or none where a step is missing.
-fn value_at<'a, 't>(place: &FoundPlace<'a, 't>) -> Option<Node<'a, 't>>
+fn node_there<'a, 't>(place: &FoundPlace<'a, 't>) -> Option<Node<'a, 't>>
     ensures { found_or_null result ≡ value_of (place_of place.now) }
 {
     match place.found() {
@@ -52,7 +52,7 @@ pub(crate) fn value_along<'a, 't>(
 ) -> Option<Option<Node<'a, 't>>>
     ensures { KnowsValueAlong result (map program_step steps.now) (value_of (place_of place.now)) }
 {
-    let mut value = value_at(place);
+    let mut value = node_there(place);
     'steps: for step in steps {
         let Some(next) = value_after(&value, step) else {
             return None;

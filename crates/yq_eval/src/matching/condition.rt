@@ -115,7 +115,7 @@ fn found_is<'a, 't>(
 }
 
 /// The same without places, where no step leads to all items or values and nothing refuses.
-fn is_known<'a, 't>(
+fn along_is<'a, 't>(
     steps: &'a [PathStep],
     scalar: &Scalar,
     place: &FoundPlace<'a, 't>,
@@ -143,7 +143,7 @@ fn value_is<'a, 't>(
     if let [] = steps {
         return place_is(alloc, place, scalar);
     }
-    if let Some(same) = is_known(steps, scalar, place) {
+    if let Some(same) = along_is(steps, scalar, place) {
         return Ok(same);
     }
     let bump = Bump::new(alloc);

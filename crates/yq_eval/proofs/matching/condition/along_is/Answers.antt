@@ -3,7 +3,7 @@ use Rattle.yq_eval.{specs.PlaceView.place_of, specs.ValuesAlong.found_or_null, p
 use Rattle.yq_nodes.{specs.Nodes.node_of, specs.declared.nodes.node.Node.Node}
 use Rattle.yq_outline.specs.Outline.{null_node}
 use Rattle.yq_semantics.{specs.Judgement.gives, specs.View.program_step}
-use Rattle.yq_eval.proofs.matching.condition.is_known.Goals as goal
+use Rattle.yq_eval.proofs.matching.condition.along_is.Goals as goal
 
 pub returns-in-Some-value : goal.returns-in-Some-value
 returns-in-Some-value c =

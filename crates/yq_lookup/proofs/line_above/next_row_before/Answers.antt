@@ -1,5 +1,5 @@
 use Rattle.std.{proofs.Common.arith, proofs.lemmas.Bool.ltb-true}
-use Rattle.yq_lookup.proofs.line_above.ends_before.Goals as goal
+use Rattle.yq_lookup.proofs.line_above.next_row_before.Goals as goal
 
 pub returns-then-at-last-clause-within : goal.returns-then-at-last-clause-within
 returns-then-at-last-clause-within c = λ less. omega (arith, c.if-at-last.true, c.saturating_sub-last.ensures, c.len.ensures)
