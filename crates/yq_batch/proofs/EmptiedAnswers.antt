@@ -9,7 +9,7 @@ use Rattle.yq_core.proofs.Bools.{bind_some}
 use Rattle.yq_outline.{specs.Ends.line_at_steps, specs.Lines.lines_of_rows}
 use Rattle.yq_row_table.{specs.Exchange.row_front, specs.Rows.{Cut, Part, Row, cut_text, rows_text}, specs.View.slices}
 use Rattle.yq_documents.{specs.Documents.document_parts, specs.LinesInRows.{RowLine, document_row, row_line_of}}
-use Rattle.yq_documents.specs.Reading.{cut_of, documents, read_at}
+use Rattle.yq_documents.{specs.Reading.{cut_of, documents, read_at}, specs.declared.path.Span.Span}
 use Rattle.yq_places.{specs.CommentPlaces.end_in_line, specs.PlacedRows.{PlacedPart, placed_document}, specs.PrintedLines.less_break}
 use Rattle.yq_places.{specs.RowPieces.anchor_before, specs.Placements.{Held, RowsOfEntry, entry_rows_at, held, last_step}}
 use Rattle.yq_places.{specs.RemovalPlaces.{OwnRows, Removal, own_rows, removal_place, rows_out}, specs.RemovalReading.{mark_counts, marks}}
@@ -26,7 +26,6 @@ use Rattle.yq_batch.specs.RowRemovals.{IsRowRemovalRun, RemovesRows, RemovesRows
 use Rattle.yq_batch.{specs.declared.changed_rows.ChangedRows.ChangedRows, specs.declared.removals.RemovalRun.RemovalRun}
 use Rattle.yq_batch.{proofs.EmptiedTexts.emptied_is, proofs.RowFronts.equal_parts, proofs.RowRemovalAnswers.CanTake}
 use Rattle.yq_batch.{proofs.RowRunEmpties.{front_kept, goes_on}, proofs.RunEdits.fits_now}
-use Rattle.yq_batch.specs.declared.emptied_rows.EmptiedPlace.{EmptiedPlace}
 use Rattle.yq_failure.specs.declared.failure.Failure.TheVariants as failure
 use Rattle.yq_places.specs.declared.places.rows_of_entry.RowsOfEntry as declared
 use Rattle.yq_batch.proofs.EmptiedTexts as texts
@@ -292,20 +291,21 @@ can_empty_at t n (u ∷ us) s m w hd z y before start finish read place counts u
     let short_x : length (rows_out d.0 x.0).before + length (rows_out d.0 x.0).gone ≤ before.keep = subst (λ (v : Removal). length v.before + length v.gone ≤ before.keep) out short in
     emptied_there c n u us s z before r read_c d.0 d.1 x.0 own short_x q.0 q.1 last next stops fitting m.2 w hd upto q.2 size (omega (arith, stop_is, first_is, upto.row_is, beside)) head white comment broken start finish below room
 
-pub can_empty : (t : List ℕ) (n : ℕ) (steps above : List Step) (s : Step) (z : ChangedRows) (before : RemovalRun) (x : EmptiedPlace) (written : List ℕ) →
+pub can_empty : (t : List ℕ) (n : ℕ) (steps above : List Step) (s : Step) (z : ChangedRows) (before : RemovalRun) (x : ℕ × Span) (written : List ℕ) →
     read_at t ≡ Some (cut_of t) → Some (above, s) ≡ last_step steps → IsSoleItem n steps above (cut_of t) z before.keep x →
     RemovesRows (cut_of t) n z before → IsFitting (remove n steps) (buffer_text before.text) → written ≡ emptied_text s →
-    CanTake (remove n steps) (cut_of t) n before (record { least = Some 0; first = x.row; stop = x.row }) x.start x.end written
+    CanTake (remove n steps) (cut_of t) n before (record { least = Some 0; first = x.0; stop = x.0 }) x.1.start x.1.end written
 can_empty t n steps above s z before x written read is h r fitting written_is =
-    subst (λ (l : List ℕ). CanTake (remove n steps) (cut_of t) n before (record { least = Some 0; first = x.row; stop = x.row }) x.start x.end l) (sym written_is) can
+    subst (λ (l : List ℕ). CanTake (remove n steps) (cut_of t) n before (record { least = Some 0; first = x.0; stop = x.0 }) x.1.start x.1.end l) (sym written_is) can
   where
     same : steps ≡ above ++ (s ∷ [])
     same = last_is steps above s (sym is)
 
-    can : CanTake (remove n steps) (cut_of t) n before (record { least = Some 0; first = x.row; stop = x.row }) x.start x.end (emptied_text s)
+    can : CanTake (remove n steps) (cut_of t) n before (record { least = Some 0; first = x.0; stop = x.0 }) x.1.start x.1.end (emptied_text s)
     can =
-        subst (λ (i : ℕ). CanTake (remove n steps) (cut_of t) n before (record { least = Some 0; first = i; stop = i }) x.start x.end (emptied_text s)) (sym h.row)
-        (subst (λ (ss : List Step). Some h.removal ≡ removal_place n ss (cut_of t) → Some h.marks ≡ mark_counts n ss (cut_of t) → IsFitting (remove n ss) (buffer_text before.text) → Emptied t n ss s h.entry before x.start x.end) (sym same)
+        subst (λ (i : ℕ). CanTake (remove n steps) (cut_of t) n before (record { least = Some 0; first = i; stop = i }) x.1.start x.1.end (emptied_text s)) (sym h.row)
+        (subst (λ (ss : List Step). Some h.removal ≡ removal_place n ss (cut_of t) → Some h.marks ≡ mark_counts n ss (cut_of t) →
+        IsFitting (remove n ss) (buffer_text before.text) → Emptied t n ss s h.entry before x.1.start x.1.end) (sym same)
         (λ place counts fitting.
-        can_empty_at t n above s h.marks h.entry h.held z h.removal before x.start x.end read place counts h.upto r fitting h.short h.next h.ends h.head h.white h.comment h.broken h.place h.room)
+        can_empty_at t n above s h.marks h.entry h.held z h.removal before x.1.start x.1.end read place counts h.upto r fitting h.short h.next h.ends h.head h.white h.comment h.broken h.place h.room)
         h.removal_is h.marks_are fitting)

@@ -1,7 +1,7 @@
 -- Runs of values, items and entries that are put into the collections of one head, as the code makes them.
 use Rattle.std.proofs.Common.{◌≡◌, ℕ, Bool, true, false, List, [], ◌∷◌, ◌++◌, drop, map, Option, Some, None, option_map, sym, ap, ◌∙◌}
 use Rattle.std.{proofs.Common.{subst, string_bytes}, proofs.lemmas.Bool.false≢true, proofs.lemmas.Option.{none-some, same_Some}}
-use Rattle.std.{specs.Prelude.{IfSome, String}, specs.declared.alloc.Global.Global}
+use Rattle.std.{specs.Borrow.Bor, specs.Prelude.{IfSome, String}, specs.declared.alloc.Global.Global}
 use Rattle.yq_core.{specs.Paths.Step, specs.Entries.tree_step}
 use Rattle.yq_row_table.specs.Rows.{Cut, cut_text}
 use Rattle.yq_places.specs.FlowNodes.{flow_collection}
@@ -9,10 +9,11 @@ use Rattle.yq_semantics.{specs.Operations.{Operation, append}, specs.Judgement.E
 use Rattle.yq_edit_laws.{specs.PartPuts.more_edit, specs.Answers.EditFails, specs.Carried.carried, specs.Theorems.IsFitting}
 use Rattle.yq_batch.specs.Runs.{AddsAt, ChangesAt, ChangesBy, HasPut, IsAfterBy, IsAfterRun, IsInText, PutFails, RunsOn, cut_with, stem_of}
 use Rattle.yq_batch.specs.FilledRuns.{FillsFirst, FillsOn, FillsSo, IsFilledCollection, IsSameFilled, IsKnownFilled, filled_text}
-use Rattle.yq_batch.{specs.declared.adding.Filled.Filled, specs.declared.adding.FilledRun.FilledRun}
-use Rattle.yq_batch.{specs.declared.change.HeadChange.HeadChange, specs.declared.head.HeadInText.HeadInText}
-use Rattle.yq_batch.{specs.declared.run.PutRun.PutRun, proofs.FilledLaws.{again_goes_on, again_large, again_there}}
-use Rattle.yq_batch.{proofs.MoreAnswers.{known_at, more_fails, more_on}, proofs.RunAnswers.{fill_on, kept_on, put_fails, put_on, run_fails}}
+use Rattle.yq_batch.{specs.declared.adding.FilledRun.FilledRun, specs.declared.change.HeadChange.HeadChange}
+use Rattle.yq_batch.{specs.declared.head.HeadInText.HeadInText, specs.declared.run.PutRun.PutRun}
+use Rattle.yq_batch.{proofs.FilledLaws.{again_goes_on, again_large, again_there}, proofs.MoreAnswers.{known_at, more_fails, more_on}}
+use Rattle.yq_batch.proofs.RunAnswers.{fill_on, kept_on, put_fails, put_on, run_fails}
+use Rattle.yq_core.specs.declared.path.Step as declared
 
 -- a change comes after what was put
 module _ (x : HeadInText) (op : Operation) (before : FilledRun) (y : HeadChange) (there : IsInText x) (so : FillsSo x before) (h : ChangesAt op x y)
@@ -30,18 +31,20 @@ module _ (x : HeadInText) (op : Operation) (before : FilledRun) (y : HeadChange)
 
   module _ (u : List ℕ) (all : u ≡ cut_text (cut_with x)) (s : String Global) (some : y.written ≡ Some s) (new : List ℕ) (new_is : new ≡ y.lead.now ++ string_bytes s) where
     -- a text comes there
-    pub change_on : (known : Option Filled) → IfSome known (λ k. (y.place.more ≡ true) × FillsFirst y.lead.now (map tree_step y.steps.now) k) → (after : PutRun) → HasPut u y.place.start y.place.end new before.run after →
+    pub change_on : (known : Option (Bor (List declared.Step))) → IfSome known (λ k. (y.place.more ≡ true) × FillsFirst y.lead.now (map tree_step y.steps.now) k) → (after : PutRun) → HasPut u y.place.start y.place.end new before.run after →
         FillsOn op x before (record { run = after; filled = known })
     change_on known fills after put = go y.place.more h is_after.1 known fills
       where
         has_put : HasPut u y.place.start y.place.end (y.lead.now ++ string_bytes s) before.run after
         has_put = subst (λ (l : List ℕ). HasPut u y.place.start y.place.end l before.run after) new_is put
 
-        first : (b : Bool) (known : Option Filled) → IfSome known (λ k. (b ≡ true) × FillsFirst y.lead.now (map tree_step y.steps.now) k) → IfSome known (FillsFirst y.lead.now (map tree_step y.steps.now))
+        first : (b : Bool) (known : Option (Bor (List declared.Step))) → IfSome known (λ k. (b ≡ true) × FillsFirst y.lead.now (map tree_step y.steps.now) k) → IfSome known (FillsFirst y.lead.now (map tree_step y.steps.now))
         first b None fills = tt
         first b (Some k) fills = fills.1
 
-        go : (b : Bool) → ChangesBy b op x y → After b → (known : Option Filled) → IfSome known (λ k. (b ≡ true) × FillsFirst y.lead.now (map tree_step y.steps.now) k) → FillsOn op x before (record { run = after; filled = known })
+        go : (b : Bool) → ChangesBy b op x y → After b → (known : Option (Bor (List declared.Step))) →
+            IfSome known (λ k. (b ≡ true) × FillsFirst y.lead.now (map tree_step y.steps.now) k) →
+            FillsOn op x before (record { run = after; filled = known })
         go true h later known fills =
             let r = more_on x u all op before.run y so.run h is_after.0 later fitting s some known (first true known fills) after has_put in
             record { on = r.0; filled = r.1 }
@@ -81,7 +84,7 @@ module _ (x : HeadInText) (u : List ℕ) (all : u ≡ cut_text (cut_with x)) (op
   written_is : string_bytes s ≡ (more_edit h.key h.value h.collection).written
   written_is = same_Some _ _ (sym (ap (option_map string_bytes) some) ∙ h.written)
 
-  same_left : map tree_step is.0.steps.now ≡ h.left
+  same_left : map tree_step is.0.now ≡ h.left
   same_left = is.2 ∙ sym h.left_is
 
   filled : IsFilledCollection h.collection so.run.cut x.doc (stem_of x ++ h.left) (drop done (cut_text (cut_with x)))

@@ -12,9 +12,8 @@ use Rattle.yq_edit_rules.specs.Operands.{HasOperand}
 use Rattle.yq_edit_laws.{specs.NearParts.head_with, specs.PartPuts.{AreMore, IsEditPlace, more_edit, place_after}, specs.Answers.EditFails}
 use Rattle.yq_edit_laws.{specs.Carried.carried, specs.Theorems.IsFitting}
 use Rattle.yq_batch.specs.Runs.{AddsAt, HasPut, IsInText, PutFails, Runs, RunsOn, change_place, cut_with, now_text, stem_of}
-use Rattle.yq_batch.{specs.declared.adding.Filled.Filled, specs.declared.change.HeadChange.HeadChange}
-use Rattle.yq_batch.{specs.declared.head.HeadInText.HeadInText, specs.declared.run.PutRun.PutRun}
-use Rattle.yq_batch.specs.FilledRuns.{FillsFirst, IsFilledCollection, IsKnownFilled}
+use Rattle.yq_batch.{specs.declared.change.HeadChange.HeadChange, specs.declared.head.HeadInText.HeadInText}
+use Rattle.yq_batch.{specs.declared.run.PutRun.PutRun, specs.FilledRuns.{FillsFirst, IsFilledCollection, IsKnownFilled}}
 use Rattle.yq_batch.{proofs.MoreRuns.{more_goes_on, more_large, more_put_there}, proofs.RunAnswers.{fill_on, run_fails}}
 use Rattle.yq_core.specs.declared.path.Step as declared
 
@@ -53,7 +52,7 @@ no_lead true e = refl
 no_lead false e = absurd (cons≢nil e)
 
 -- what is known of a collection that has got one
-pub known_at : (c cut : Cut) (n : ℕ) (stem left : List Step) (done : ℕ) (w : CollPieces) → flow_collection n (stem ++ left) c ≡ Some w → (k : Filled) → map tree_step k.steps.now ≡ left →
+pub known_at : (c cut : Cut) (n : ℕ) (stem left : List Step) (done : ℕ) (w : CollPieces) → flow_collection n (stem ++ left) c ≡ Some w → (k : Bor (List declared.Step)) → map tree_step k.now ≡ left →
     IsFilledCollection w cut n (stem ++ left) (drop done (cut_text c)) → IsKnownFilled c cut n stem done (Some k)
 known_at c cut n stem left done w found k same filled v is =
     subst (λ (ss : List Step). IsFilledCollection v cut n (stem ++ ss) (drop done (cut_text c))) (sym same)
@@ -77,12 +76,12 @@ module _ (x : HeadInText) (u : List ℕ) (all : u ≡ cut_text (cut_with x)) (op
   was_empty : y.lead.now ≡ [] → is_none h.collection.items ≡ true
   was_empty lead = no_lead (is_none h.collection.items) (sym (ap (λ (q : PlacedEdit). q.lead) h.placed.place_is) ∙ lead)
 
-  known_then : (known : Option Filled) → IfSome known (FillsFirst y.lead.now (map tree_step y.steps.now)) → (cut : Cut) →
+  known_then : (known : Option (Bor (List declared.Step))) → IfSome known (FillsFirst y.lead.now (map tree_step y.steps.now)) → (cut : Cut) →
       (is_none h.collection.items ≡ true → IsFilledCollection h.collection cut x.doc (stem_of x ++ h.left) (drop y.place.end (cut_text (cut_with x)))) → IsKnownFilled (cut_with x) cut x.doc (stem_of x) y.place.end known
   known_then None fills cut filled = tt
   known_then (Some k) fills cut filled = known_at (cut_with x) cut x.doc (stem_of x) h.left y.place.end h.collection h.found k (fills.1 ∙ sym h.left_is) (filled (was_empty fills.0))
 
-  pub more_on : (known : Option Filled) → IfSome known (FillsFirst y.lead.now (map tree_step y.steps.now)) → (after : PutRun) → HasPut u y.place.start y.place.end new before after →
+  pub more_on : (known : Option (Bor (List declared.Step))) → IfSome known (FillsFirst y.lead.now (map tree_step y.steps.now)) → (after : PutRun) → HasPut u y.place.start y.place.end new before after →
       (on : RunsOn op x before after) × IsKnownFilled (cut_with x) on.run.cut x.doc (stem_of x) after.done known
   more_on known fills after has_put =
       subst (λ (o : Operation). (on : RunsOn o x before after) × IsKnownFilled (cut_with x) on.run.cut x.doc (stem_of x) after.done known) (sym h.operation)

@@ -19,9 +19,8 @@ use Rattle.yq_edit_laws.{specs.NearParts.{IsUniqueNode, head_with}, proofs.FlowK
 use Rattle.yq_flow_edits.specs.declared.flow_place.EditPlace.{EditPlace}
 use Rattle.yq_batch.specs.Runs.{ChangesAt, ChangesBy, EndsAt, EndsInCollection, HasPut, IsInText, IsPutRun, PutFails, PutsAt, Runs, RunsOn}
 use Rattle.yq_batch.{specs.Runs.{change_place, cut_with, now_text, run_front, stem_of, text_with_run}, specs.FilledRuns.IsKnownFilled}
-use Rattle.yq_batch.{specs.declared.adding.Filled.Filled, specs.declared.change.HeadChange.HeadChange}
-use Rattle.yq_batch.{specs.declared.head.HeadInText.HeadInText, specs.declared.run.PutRun.PutRun}
-use Rattle.yq_batch.proofs.RunLaws.{goes_on, kept_there, large_there, put_there}
+use Rattle.yq_batch.{specs.declared.change.HeadChange.HeadChange, specs.declared.head.HeadInText.HeadInText}
+use Rattle.yq_batch.{specs.declared.run.PutRun.PutRun, proofs.RunLaws.{goes_on, kept_there, large_there, put_there}}
 use Rattle.yq_core.specs.declared.path.Step as declared
 use Rattle.yq_failure.specs.declared.failure.Failure.TheVariants as failure
 
@@ -105,7 +104,7 @@ pub edge_in : (x : HeadInText) (u : List ℕ) → u ≡ cut_text (cut_with x) �
 edge_in x u all r run = subst (λ (l : List ℕ). IsCharBoundary l r.done) (sym all) run.edge
 
 -- a run, of which this is known
-abbrev FilledOf : HeadInText → Option Filled → List ℕ → ℕ → Type 0
+abbrev FilledOf : HeadInText → Option (Bor (List declared.Step)) → List ℕ → ℕ → Type 0
 FilledOf x known out done = (on : IsPutRun (cut_with x) x.doc (stem_of x) out done) × IsKnownFilled (cut_with x) on.cut x.doc (stem_of x) done known
 
 -- an operation exchanges what is between two places of the text that was read
@@ -120,7 +119,7 @@ module _ (x : HeadInText) (u : List ℕ) (all : u ≡ cut_text (cut_with x)) (op
   cs = splice_at (length (run_front (cut_text (cut_with x)) before start)) (drop start (take finish (cut_text (cut_with x)))) new
 
   -- the run goes on, with what is known then of an empty collection that got an item or entry
-  pub fill_on : (known : Option Filled) → (length made ≤ text_limit → carried op (now_text (cut_with x) before) ≡ gives made cs) →
+  pub fill_on : (known : Option (Bor (List declared.Step))) → (length made ≤ text_limit → carried op (now_text (cut_with x) before) ≡ gives made cs) →
       (length made ≤ text_limit → FilledOf x known out finish) → (after : PutRun) → HasPut u start finish new before after →
       (on : RunsOn op x before after) × IsKnownFilled (cut_with x) on.run.cut x.doc (stem_of x) after.done known
   fill_on known there on after has_put =

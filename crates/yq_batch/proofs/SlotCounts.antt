@@ -1,7 +1,7 @@
 -- A text put at one of several places: which one, and how many bytes were replaced before others.
 use Rattle.std.proofs.Common.{◌≡◌, ℕ, ◌+◌, ◌-◌, List, [], ◌∷◌, ◌++◌, length, map, Option, Some, None, refl, sym, ap, ◌∙◌, arith}
 use Rattle.std.{proofs.Common.{append_assoc, length-append, Result, Ok, Err, IfOk}, specs.Prelude.IfSome}
-use Rattle.yq_batch.{specs.declared.slots.SlotPlace.SlotPlace, specs.declared.slots.SlotPut.SlotPut}
+use Rattle.yq_batch.specs.declared.slots.SlotPlace.{SlotPlace}
 use Rattle.yq_batch.specs.Slots.{IsPutAt, IsPutIn, SlotView, count_of, empty_slot, news_of, olds_of, put_or, put_text}
 
 olds_append : (xs ys : List SlotView) → olds_of (xs ++ ys) ≡ olds_of xs + olds_of ys
@@ -25,11 +25,11 @@ module _ (place : SlotPlace) (lead written : List ℕ) where
   pub in_one : (s s2 : SlotView) (at was : ℕ) → IsPutAt s s2 place lead written at was → IsPutIn (s ∷ []) (s2 ∷ []) place lead written at was
   in_one s s2 at was h = record { front = []; slot = s; slot2 = s2; back = []; own = at; old_is = refl; new_is = refl; put = h; at_is = refl }
 
-  pub one_put : {E : Type 0} (s s2 : SlotView) (r : Result (Option SlotPut) E) →
-      IfOk r (λ o. IfSome o (λ p. IsPutAt s s2 place lead written p.at p.was)) →
-      IfOk r (λ o. IfSome o (λ p. IsPutIn (s ∷ []) (s2 ∷ []) place lead written p.at p.was))
+  pub one_put : {E : Type 0} (s s2 : SlotView) (r : Result (Option (ℕ × ℕ)) E) →
+      IfOk r (λ o. IfSome o (λ p. IsPutAt s s2 place lead written p.0 p.1)) →
+      IfOk r (λ o. IfSome o (λ p. IsPutIn (s ∷ []) (s2 ∷ []) place lead written p.0 p.1))
   one_put s s2 (Ok None) h = tt
-  one_put s s2 (Ok (Some p)) h = in_one s s2 p.at p.was h
+  one_put s s2 (Ok (Some p)) h = in_one s s2 p.0 p.1 h
   one_put s s2 (Err e) h = tt
 
   pub in_right : (l r r2 : List SlotView) (at moved was : ℕ) → IsPutIn r r2 place lead written at was → moved + olds_of l ≡ at + news_of l → IsPutIn (l ++ r) (l ++ r2) place lead written moved was

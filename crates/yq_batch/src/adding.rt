@@ -15,18 +15,11 @@ use std::alloc::{AllocError, Global};
 use yq_core::Step;
 use yq_semantics::{ExprError, Op};
 
-/// A flow collection of a head that was empty, into which a run put the last item or entry.
-#[derive(Clone, Copy)]
-pub(crate) struct Filled<'s> {
-    /// The steps that lead to it in the head.
-    pub(crate) steps: &'s [Step],
-}
-
-/// A run, and the collection into which it put the last item or entry, if that was empty.
+/// A run, and the steps in its head to the collection into which it put the last item or entry, if that was empty.
 #[derive(Drop)]
 pub(crate) struct FilledRun<'s> {
     pub(crate) run: PutRun,
-    pub(crate) filled: Option<Filled<'s>>,
+    pub(crate) filled: Option<&'s [Step]>,
 }
 
 impl<'s> FilledRun<'s> {
@@ -49,21 +42,21 @@ impl<'s> FilledRun<'s> {
 }
 
 /// Whether an item or entry is put into the collection that is known.
-fn is_known(known: Option<Filled<'_>>, steps: &[Step], more: bool) -> bool
+fn is_known(known: Option<&[Step]>, steps: &[Step], more: bool) -> bool
     ensures { result ≡ true → (more ≡ true) × spec.IsSameFilled known.entry (map tree_step steps.now) }
 {
     match known {
-        Some(last) => more && are_same_steps(last.steps, steps),
+        Some(last) => more && are_same_steps(last, steps),
         None => false,
     }
 }
 
 /// The collection into which an item or entry is put, if nothing leads to that: the collection was empty.
-fn filled_now<'s>(lead: &str, steps: &'s [Step], more: bool) -> Option<Filled<'s>>
+fn filled_now<'s>(lead: &str, steps: &'s [Step], more: bool) -> Option<&'s [Step]>
     ensures { IfSome result (λ k. (more ≡ true) × spec.FillsFirst lead.now (map tree_step steps.now) k) }
 {
     if more && lead.is_empty() {
-        Some(Filled { steps })
+        Some(steps)
     } else {
         None
     }

@@ -38,19 +38,19 @@ impl SlotRun {
             new.entry.0.now new.entry.1.now self.old self.new) }
     {
         let (lead, written) = new;
-        let Some(put) = self.slots.put(alloc, place, lead, written)? else {
+        let Some((at, was)) = self.slots.put(alloc, place, lead, written)? else {
             return Ok(false);
         };
         let mut bytes = String::from_str(alloc, lead)?;
         bytes.push_str(written)?;
-        let Some(size) = moved(self.size, put.was, bytes.len()) else {
+        let Some(size) = moved(self.size, was, bytes.len()) else {
             return Ok(false);
         };
         if size > TEXT_LIMIT {
             return Ok(false);
         }
         let old = bytes_of(alloc, between(text, place.start, place.end))?;
-        push_splice(&mut self.splices, put.at, old, bytes.into_bytes())?;
+        push_splice(&mut self.splices, at, old, bytes.into_bytes())?;
         self.size = size;
         Ok(true)
     }

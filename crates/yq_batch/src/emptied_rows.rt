@@ -13,7 +13,7 @@ use crate::changed_rows::ChangedRows;
 use crate::removals::{RemovalRun, exchange};
 use std::alloc::Global;
 use yq_core::Step;
-use yq_documents::Path;
+use yq_documents::{Path, Span};
 use yq_edit_laws::last_step;
 use yq_lookup::{CutText, Held, Removal};
 use yq_semantics::ExprError;
@@ -50,15 +50,15 @@ fn halves_len(text: Halves<'_>) -> Option<usize>
 }
 
 /// Where the lines under a key or dash begin, with the break before them, and where they end, before their last break.
-fn place_below(held: &Held<'_>) -> Option<(usize, usize)>
-    ensures { IfSome result (λ x. empty.IsPlaceBelow (held_view held.now) x.0 x.1) }
+fn place_below(held: &Held<'_>) -> Option<Span>
+    ensures { IfSome result (λ x. empty.IsPlaceBelow (held_view held.now) x.start x.end) }
 {
     let before = halves_len(held.before)?;
     let start = before.checked_add(held.space.len())?;
     let lines = halves_len(held.lines)?;
     let broken = start.checked_add(held.line_break.len())?;
-    let finish = broken.checked_add(lines)?;
-    Some((start, finish))
+    let end = broken.checked_add(lines)?;
+    Some(Span { start, end })
 }
 
 /// Where the lines end that are taken out of a text.
@@ -70,26 +70,16 @@ fn lines_end(removal: &Removal<'_>) -> Option<usize>
     before.checked_add(gone)
 }
 
-/// Where an empty collection comes.
-#[derive(Clone, Copy)]
-pub(crate) struct EmptiedPlace {
-    /// The row of the key or dash of the collection.
-    pub(crate) row: usize,
-    /// Where what it replaces begins.
-    pub(crate) start: usize,
-    /// Where that ends.
-    pub(crate) end: usize,
-}
-
-/// Where the sole item or entry is that is left of a collection under a key or dash, and nothing comes after that on its
-/// line, if its lines are before those that were changed.
+/// Where an empty collection comes, after the row of the key or dash of the collection: in the place of the sole item or
+/// entry that is left of it, if nothing comes after that key or dash on its line, and if the item's lines are before
+/// those that were changed.
 fn sole_place(
     cut: &CutText<'_, '_>,
     path: &Path,
     above: &[Step],
     from: ChangedRows,
     keep: usize,
-) -> Option<EmptiedPlace>
+) -> Option<(usize, Span)>
     ensures { IfSome result (empty.IsLeftAlone path.now above.now (cut_of cut.now) from keep) }
 {
     let removal = cut.removal(path)?;
@@ -111,15 +101,11 @@ fn sole_place(
     if !is_bare(&found.1) {
         return None;
     }
-    let size = place.1.saturating_sub(place.0);
+    let size = place.end.saturating_sub(place.start);
     if size < 3 {
         return None;
     }
-    Some(EmptiedPlace {
-        row: found.0.row,
-        start: place.0,
-        end: place.1,
-    })
+    Some((found.0.row, place))
 }
 
 /// Carries out the removal of the sole item or entry that is left of a collection under a key or dash on the text of a
@@ -142,13 +128,13 @@ pub(crate) fn empty_rows(
     let Some((above, last)) = last_step(&path.steps) else {
         return Ok(None);
     };
-    let Some(place) = sole_place(cut, path, above, from, run.keep) else {
+    let Some((row, place)) = sole_place(cut, path, above, from, run.keep) else {
         return Ok(None);
     };
     exchange(alloc, run, place.start, place.end, emptied_text(last))?;
     Ok(Some(ChangedRows {
         least: Some(0),
-        first: place.row,
-        stop: place.row,
+        first: row,
+        stop: row,
     }))
 }

@@ -5,12 +5,12 @@ use crate::change::are_same_steps;
 use crate::written_keys::{is_key, number_of};
 use std::alloc::{AllocError, Global};
 use std::collections::BTreeMap;
-use std::ops::Range;
 use yq_core::Step;
 use yq_documents::Path;
 use yq_edit_laws::last_step;
 use yq_edit_rules::is_filled;
 use yq_lookup::CutText;
+use yq_outline::Stretch;
 use yq_row_table::Rows;
 use yq_semantics::Op;
 
@@ -127,32 +127,22 @@ fn end_as_deep(rows: &Rows<'_>, row: usize, end: usize, level: usize) -> usize
     end
 }
 
-/// Rows of a text, from one to another, among which those of a mapping's entries are the ones whose keys begin at a
-/// level.
-#[derive(Clone, Copy)]
-struct MappingRows {
-    first: usize,
-    end: usize,
-    level: usize,
-}
-
-/// The rows of the mapping to whose entry a row belongs, among those of a document.
-fn mapping_rows(rows: &Rows<'_>, row: usize, document: Range<usize>) -> Option<MappingRows>
-    ensures { IfSome result (λ r. r.end ≤ length rows.now.rows) }
+/// The rows of the mapping to whose entry a row belongs, among those of a document, and the level at which the keys of
+/// its entries begin.
+fn mapping_rows(rows: &Rows<'_>, row: usize, document: Stretch) -> Option<(Stretch, usize)>
+    ensures { IfSome result (λ x. x.0.end ≤ length rows.now.rows) }
 {
     if row >= rows.len() || document.end > rows.len() {
         return None;
     }
     let level = key_level(rows, row);
-    Some(MappingRows {
-        first: first_as_deep(rows, document.start, row, level),
-        end: end_as_deep(rows, row, document.end, level),
-        level,
-    })
+    let first = first_as_deep(rows, document.first, row, level);
+    let end = end_as_deep(rows, row, document.end, level);
+    Some((Stretch { first, end }, level))
 }
 
 /// Whether keys come in the order of rows that have them.
-fn come_in_order(rows: &Rows<'_>, mapping: MappingRows, keys: &[(&str, usize)]) -> bool
+fn come_in_order(rows: &Rows<'_>, mapping: Stretch, level: usize, keys: &[(&str, usize)]) -> bool
     requires { mapping.end ≤ length rows.now.rows }
 {
     let mut left = keys;
@@ -160,7 +150,7 @@ fn come_in_order(rows: &Rows<'_>, mapping: MappingRows, keys: &[(&str, usize)]) 
         let [key, others @ ..] = left else {
             return true;
         };
-        if key_level(rows, at) == mapping.level && is_key(rows.key(at), key.0) {
+        if key_level(rows, at) == level && is_key(rows.key(at), key.0) {
             left = others;
         }
     }
@@ -183,14 +173,15 @@ fn numbers_by_key<'o>(
 fn numbers_in_rows(
     alloc: Global,
     rows: &Rows<'_>,
-    mapping: MappingRows,
+    mapping: Stretch,
+    level: usize,
     numbers: &BTreeMap<&str, usize>,
 ) -> Result<Vec<usize>, AllocError>
     requires { mapping.end ≤ length rows.now.rows }
 {
     let mut order = Vec::new(alloc);
     'rows: for at in mapping.first..mapping.end {
-        if key_level(rows, at) == mapping.level {
+        if key_level(rows, at) == level {
             if let Some(number) = number_of(alloc, numbers, rows.key(at))? {
                 order.push(number)?;
             }
@@ -223,14 +214,14 @@ pub(crate) fn in_row_order(
         return Ok(None);
     };
     let rows = walk.rows;
-    let Some(mapping) = mapping_rows(rows, at.row, walk.document.first..walk.document.end) else {
+    let Some((mapping, level)) = mapping_rows(rows, at.row, walk.document) else {
         return Ok(None);
     };
-    if found.added.is_empty() && come_in_order(rows, mapping, &found.keys) {
+    if found.added.is_empty() && come_in_order(rows, mapping, level, &found.keys) {
         return Ok(None);
     }
     let numbers = numbers_by_key(alloc, &found.keys)?;
-    let mut order = numbers_in_rows(alloc, rows, mapping, &numbers)?;
+    let mut order = numbers_in_rows(alloc, rows, mapping, level, &numbers)?;
     order.append(&mut found.added)?;
     Ok(Some(order))
 }

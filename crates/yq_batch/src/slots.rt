@@ -28,13 +28,6 @@ pub(crate) enum Slots {
     Two(Box<Slots>, usize, usize, usize, Box<Slots>),
 }
 
-/// Where a text was put in the text as it was then, and of how many bytes of the first text it takes the place.
-#[derive(Clone, Copy)]
-pub(crate) struct SlotPut {
-    pub(crate) at: usize,
-    pub(crate) was: usize,
-}
-
 /// An offset, after as many bytes were replaced by others.
 pub(crate) fn moved(at: usize, olds: usize, news: usize) -> Option<usize>
     ensures { IfSome result (λ n. n + olds ≡ at + news) }
@@ -44,16 +37,17 @@ pub(crate) fn moved(at: usize, olds: usize, news: usize) -> Option<usize>
 }
 
 impl Slot {
-    /// Puts a text there, after a lead: a content once, an item or entry more after those that were put.
+    /// Puts a text there, after a lead: a content once, an item or entry more after those that were put. Reports where
+    /// it comes in the text as it was then, and of how many bytes of the first text it takes the place.
     fn put(
         &mut self,
         alloc: Global,
         place: SlotPlace,
         lead: &str,
         written: &str,
-    ) -> Result<Option<SlotPut>, AllocError>
+    ) -> Result<Option<(usize, usize)>, AllocError>
         ensures { IfOk result (λ o. IfSome o (λ p. spec.IsPutAt (spec.slot_view self.old)
-            (spec.slot_view self.new) place lead.now written.now p.at p.was)) }
+            (spec.slot_view self.new) place lead.now written.now p.0 p.1)) }
     {
         if self.place.start != place.start || self.place.end != place.end {
             return Ok(None);
@@ -65,10 +59,7 @@ impl Slot {
             let mut new = String::from_str(alloc, lead)?;
             new.push_str(written)?;
             self.text = Some(new);
-            return Ok(Some(SlotPut {
-                at: place.start,
-                was: place.end - place.start,
-            }));
+            return Ok(Some((place.start, place.end - place.start)));
         };
         if !place.more || lead.is_empty() {
             return Ok(None);
@@ -78,23 +69,23 @@ impl Slot {
         };
         text.push_str(lead)?;
         text.push_str(written)?;
-        Ok(Some(SlotPut { at, was: 0 }))
+        Ok(Some((at, 0)))
     }
 }
 
 impl Slots {
-    /// Puts a text at one of the places, after a lead.
+    /// The same at one of the places.
     pub(crate) fn put(
         &mut self,
         alloc: Global,
         place: SlotPlace,
         lead: &str,
         written: &str,
-    ) -> Result<Option<SlotPut>, AllocError>
+    ) -> Result<Option<(usize, usize)>, AllocError>
         requires { spec.HasCounts self.old }
         ensures counts { IfOk result (λ o. IfSome o (λ p. spec.HasCounts self.new)) }
         ensures put { IfOk result (λ o. IfSome o (λ p. spec.IsPutIn (spec.slots_of self.old)
-            (spec.slots_of self.new) place lead.now written.now p.at p.was)) }
+            (spec.slots_of self.new) place lead.now written.now p.0 p.1)) }
     {
         match self {
             Slots::One(slot) => slot.put(alloc, place, lead, written),
@@ -103,15 +94,15 @@ impl Slots {
                     let Some(put) = right.put(alloc, place, lead, written)? else {
                         return Ok(None);
                     };
-                    let Some(at) = moved(put.at, *olds, *news) else {
+                    let Some(at) = moved(put.0, *olds, *news) else {
                         return Ok(None);
                     };
-                    return Ok(Some(SlotPut { at, was: put.was }));
+                    return Ok(Some((at, put.1)));
                 }
                 let Some(put) = left.put(alloc, place, lead, written)? else {
                     return Ok(None);
                 };
-                let Some(replaced) = olds.checked_add(put.was) else {
+                let Some(replaced) = olds.checked_add(put.1) else {
                     return Ok(None);
                 };
                 let Some(longer) = news.checked_add(lead.len()) else {

@@ -16,25 +16,25 @@ exchange-requires-clause-room c =
 pub exchange-requires-clause-utf8 : goal.exchange-requires-clause-utf8
 exchange-requires-clause-utf8 c =
     (can_empty c.args.cut.now c.args.path.now.doc (steps_of c.args.path.now) (map tree_step c.in-Some.above.now) (tree_step c.in-Some.last.now)
-    c.args.from c.args.run.now c.in-Some-sole_place.place c.emptied_text.result.now
+    c.args.from c.args.run.now (c.in-Some-sole_place.row, c.in-Some-sole_place.place) c.emptied_text.result.now
     c.text-text.ensures.read (c.in-Some.ensures ∙ ap (λ ss. last_step (map tree_step ss)) c.deref.ensures.value) c.in-Some-sole_place.ensures c.requires.run c.requires.fits c.emptied_text.ensures).utf8
 
 pub exchange-requires-clause-start : goal.exchange-requires-clause-start
 exchange-requires-clause-start c =
     (can_empty c.args.cut.now c.args.path.now.doc (steps_of c.args.path.now) (map tree_step c.in-Some.above.now) (tree_step c.in-Some.last.now)
-    c.args.from c.args.run.now c.in-Some-sole_place.place c.emptied_text.result.now
+    c.args.from c.args.run.now (c.in-Some-sole_place.row, c.in-Some-sole_place.place) c.emptied_text.result.now
     c.text-text.ensures.read (c.in-Some.ensures ∙ ap (λ ss. last_step (map tree_step ss)) c.deref.ensures.value) c.in-Some-sole_place.ensures c.requires.run c.requires.fits c.emptied_text.ensures).starts
 
 pub exchange-requires-clause-end : goal.exchange-requires-clause-end
 exchange-requires-clause-end c =
     (can_empty c.args.cut.now c.args.path.now.doc (steps_of c.args.path.now) (map tree_step c.in-Some.above.now) (tree_step c.in-Some.last.now)
-    c.args.from c.args.run.now c.in-Some-sole_place.place c.emptied_text.result.now
+    c.args.from c.args.run.now (c.in-Some-sole_place.row, c.in-Some-sole_place.place) c.emptied_text.result.now
     c.text-text.ensures.read (c.in-Some.ensures ∙ ap (λ ss. last_step (map tree_step ss)) c.deref.ensures.value) c.in-Some-sole_place.ensures c.requires.run c.requires.fits c.emptied_text.ensures).finishes
 
 pub returns-clause-ok : goal.returns-clause-ok
 returns-clause-ok c =
     (can_empty c.args.cut.now c.args.path.now.doc (steps_of c.args.path.now) (map tree_step c.in-Some.above.now) (tree_step c.in-Some.last.now)
-    c.args.from c.args.run.now c.in-Some-sole_place.place c.emptied_text.result.now
+    c.args.from c.args.run.now (c.in-Some-sole_place.row, c.in-Some-sole_place.place) c.emptied_text.result.now
     c.text-text.ensures.read (c.in-Some.ensures ∙ ap (λ ss. last_step (map tree_step ss)) c.deref.ensures.value) c.in-Some-sole_place.ensures
     c.requires.run c.requires.fits c.emptied_text.ensures).on c.exchange.new.run c.in_ok-exchange.ensures.ok
 
@@ -43,5 +43,5 @@ returns-in_err-exchange-clause-err c =
     let e = c.in_err-exchange.field-0.0 in
     let p = err_from_is_err_and c.from_residual.result c.from_residual.ensures.1 in
     rw (p.1, p.2) ((can_empty c.args.cut.now c.args.path.now.doc (steps_of c.args.path.now) (map tree_step c.in-Some.above.now) (tree_step c.in-Some.last.now)
-    c.args.from c.args.run.now c.in-Some-sole_place.place c.emptied_text.result.now
+    c.args.from c.args.run.now (c.in-Some-sole_place.row, c.in-Some-sole_place.place) c.emptied_text.result.now
     c.text-text.ensures.read (c.in-Some.ensures ∙ ap (λ ss. last_step (map tree_step ss)) c.deref.ensures.value) c.in-Some-sole_place.ensures c.requires.run c.requires.fits c.emptied_text.ensures).fails e c.in_err-exchange.ensures.err)

@@ -1,28 +1,28 @@
-use Rattle.std.{proofs.Common.{Option, sym, [], ◌∷◌, ◌++◌, subst, arith, rules}, specs.Prelude.{IfOk, IfSome}}
+use Rattle.std.{proofs.Common.{ℕ, Option, sym, [], ◌∷◌, ◌++◌, subst, arith, rules}, specs.Prelude.{IfOk, IfSome}}
 use Rattle.yq_batch.{specs.Slots.{IsPutIn, HasCounts, slot_view, slots_of}, proofs.SlotCounts.{counts_put, in_right, one_put}}
-use Rattle.yq_batch.{specs.declared.slots.SlotPut.SlotPut, specs.declared.slots.Slots.Slots}
+use Rattle.yq_batch.specs.declared.slots.Slots.{Slots}
 use Rattle.yq_batch.proofs.slots.Slots.+put.Goals as goal
 
 pub returns-then-place-split-clause-put : goal.returns-then-place-split-clause-put
 returns-then-place-split-clause-put t c =
-    let own = subst (λ (o : Option SlotPut). IfSome o
+    let own = subst (λ (o : Option (ℕ × ℕ)). IfSome o
     (λ p. IsPutIn (slots_of c.deref_mut.result.now) (slots_of c.put-then-place-split.new.self) c.args.place c.args.lead.now c.args.written.now
-    p.at p.was)) c.in-Some.is c.in_ok-put-in-Two.ensures.put in
-    let h = subst (λ (s : Slots). IsPutIn (slots_of s) (slots_of c.put-then-place-split.new.self) c.args.place c.args.lead.now c.args.written.now c.in-Some.put.at c.in-Some.put.was) c.deref_mut.ensures.value own in
+    p.0 p.1)) c.in-Some.is c.in_ok-put-in-Two.ensures.put in
+    let h = subst (λ (s : Slots). IsPutIn (slots_of s) (slots_of c.put-then-place-split.new.self) c.args.place c.args.lead.now c.args.written.now c.in-Some.put.0 c.in-Some.put.1) c.deref_mut.ensures.value own in
     let known : HasCounts c.args.self.now = search rules in
     let counts = subst HasCounts c.in-Two.is known in
-    subst (λ (s : Slots). IsPutIn (slots_of s) (slots_of c.in-Two.left.value ++ slots_of c.put-then-place-split.new.self) c.args.place c.args.lead.now c.args.written.now c.in-Some-moved.at c.in-Some.put.was) (sym c.in-Two.is)
-    (in_right c.args.place c.args.lead.now c.args.written.now (slots_of c.in-Two.left.value) (slots_of c.in-Two.right.value) (slots_of c.put-then-place-split.new.self) c.in-Some.put.at c.in-Some-moved.at c.in-Some.put.was h
+    subst (λ (s : Slots). IsPutIn (slots_of s) (slots_of c.in-Two.left.value ++ slots_of c.put-then-place-split.new.self) c.args.place c.args.lead.now c.args.written.now c.in-Some-moved.at c.in-Some.put.1) (sym c.in-Two.is)
+    (in_right c.args.place c.args.lead.now c.args.written.now (slots_of c.in-Two.left.value) (slots_of c.in-Two.right.value) (slots_of c.put-then-place-split.new.self) c.in-Some.put.0 c.in-Some-moved.at c.in-Some.put.1 h
     (omega (arith, c.in-Some-moved.ensures, counts.0, counts.1)))
 
 pub returns-in-Some-checked_add-3-clause-counts : goal.returns-in-Some-checked_add-3-clause-counts
 returns-in-Some-checked_add-3-clause-counts t c =
-    let own = subst (λ (o : Option SlotPut). IfSome o
-    (λ p. IsPutIn (slots_of c.deref_mut-in-Two.result.now) (slots_of c.put-in-Two.new.self) c.args.place c.args.lead.now c.args.written.now p.at
-    p.was)) c.in-Some-2.is c.in_ok-put-in-Two-2.ensures.put in
-    let h = subst (λ (s : Slots). IsPutIn (slots_of s) (slots_of c.put-in-Two.new.self) c.args.place c.args.lead.now c.args.written.now c.in-Some-2.put.at c.in-Some-2.put.was) c.deref_mut-in-Two.ensures.value own in
-    let known = subst (λ (o : Option SlotPut). IfSome o (λ p. HasCounts c.put-in-Two.new.self)) c.in-Some-2.is c.in_ok-put-in-Two-2.ensures.counts in
-    let k = counts_put c.args.place c.args.lead.now c.args.written.now (slots_of c.in-Two.left.value) (slots_of c.put-in-Two.new.self) c.in-Some-2.put.at c.in-Some-2.put.was h in
+    let own = subst (λ (o : Option (ℕ × ℕ)). IfSome o
+    (λ p. IsPutIn (slots_of c.deref_mut-in-Two.result.now) (slots_of c.put-in-Two.new.self) c.args.place c.args.lead.now c.args.written.now p.0
+    p.1)) c.in-Some-2.is c.in_ok-put-in-Two-2.ensures.put in
+    let h = subst (λ (s : Slots). IsPutIn (slots_of s) (slots_of c.put-in-Two.new.self) c.args.place c.args.lead.now c.args.written.now c.in-Some-2.put.0 c.in-Some-2.put.1) c.deref_mut-in-Two.ensures.value own in
+    let known = subst (λ (o : Option (ℕ × ℕ)). IfSome o (λ p. HasCounts c.put-in-Two.new.self)) c.in-Some-2.is c.in_ok-put-in-Two-2.ensures.counts in
+    let k = counts_put c.args.place c.args.lead.now c.args.written.now (slots_of c.in-Two.left.value) (slots_of c.put-in-Two.new.self) c.in-Some-2.put.0 c.in-Some-2.put.1 h in
     let there : HasCounts c.args.self.now = search rules in
     let counts = subst HasCounts c.in-Two.is there in (
       omega (arith, k.0, counts.0, c.in-Some-checked_add.ensures),
@@ -33,5 +33,5 @@ returns-in-Some-checked_add-3-clause-counts t c =
 
 pub returns-in-One-clause-put : goal.returns-in-One-clause-put
 returns-in-One-clause-put t c =
-    subst (λ (x : Slots). IfOk c.put.result (λ o. IfSome o (λ p. IsPutIn (slots_of x) (slot_view c.put.new.self ∷ []) c.args.place c.args.lead.now c.args.written.now p.at p.was))) (sym c.in-One.is)
+    subst (λ (x : Slots). IfOk c.put.result (λ o. IfSome o (λ p. IsPutIn (slots_of x) (slot_view c.put.new.self ∷ []) c.args.place c.args.lead.now c.args.written.now p.0 p.1))) (sym c.in-One.is)
     (one_put c.args.place c.args.lead.now c.args.written.now (slot_view c.in-One.slot) (slot_view c.put.new.self) c.put.result c.put.ensures)
