@@ -5,6 +5,7 @@ ghost use Rattle.yq_core.{specs.PlacedReading.{placed_key, placed_text}, specs.S
 ghost use Rattle.yq_inline.specs.InlineAnswers.{GivesCore, GivesKey};
 ghost use Rattle.yq_core.specs.Scalars as scalars;
 
+use crate::borrows;
 use crate::pieces::{read_key, read_scalar};
 use std::alloc::{AllocError, Global};
 use yq_core::piece::inline_piece;
@@ -62,7 +63,7 @@ fn content_of(alloc: Global, piece: &str) -> Result<String, AllocError>
 
 /// The scalar that it means.
 #[inline(always)]
-#[tactic(auto, unfolding(yq_core::specs::Scalars::scalar_of))]
+#[tactic(auto, using(yq_core::proofs::BorrowedTexts::plain_scalar), unfolding(yq_core::specs::Scalars::scalar_of))]
 fn scalar_of(alloc: Global, piece: &str) -> Result<Scalar, AllocError>
     requires { scalars.is_quoted piece.now ≡ true → IsQuotedText piece.now }
     ensures { IfOk result (λ s. s ≡ scalars.scalar_of piece.now) }
@@ -70,6 +71,9 @@ fn scalar_of(alloc: Global, piece: &str) -> Result<Scalar, AllocError>
     if is_quoted(piece.as_bytes()) {
         let text = quoted_content(alloc, piece)?;
         return Ok(Scalar::string(text));
+    }
+    if borrows::borrows_text(piece) {
+        return Scalar::plain(alloc, piece);
     }
     let text = plain_content(alloc, piece)?;
     Scalar::from_plain(alloc, text)
