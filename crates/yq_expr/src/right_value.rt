@@ -167,10 +167,10 @@ fn scalar_there<'a>(term: &Term, place: &FoundPlace<'a, '_>) -> Option<(Kind, &'
     if !stays(stages) {
         return None;
     }
-    let node = place.found()?;
-    match node.kind() {
+    let (kind, text) = place.found()?.kind_and_text();
+    match kind {
         NodeKind::Scalar(Kind::Null) => None,
-        NodeKind::Scalar(kind) => Some((kind, node.text())),
+        NodeKind::Scalar(kind) => Some((kind, text)),
         NodeKind::Alias | NodeKind::List | NodeKind::Map => None,
     }
 }

@@ -58,9 +58,10 @@ fn node_is(node: Option<&Node<'_, '_>>, scalar: &Scalar) -> Option<bool>
     let Some(node) = node else {
         return Some(same_scalar(Kind::Null, "null", scalar));
     };
-    match node.kind() {
+    let (kind, text) = node.kind_and_text();
+    match kind {
         NodeKind::Alias => None,
-        NodeKind::Scalar(kind) => Some(same_scalar(kind, node.text(), scalar)),
+        NodeKind::Scalar(kind) => Some(same_scalar(kind, text, scalar)),
         NodeKind::List | NodeKind::Map => Some(false),
     }
 }

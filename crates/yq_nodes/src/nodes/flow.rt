@@ -38,25 +38,15 @@ pub(crate) fn inline_text<'d>(node: &'d Inline<'_>) -> &'d str
     }
 }
 
-/// What a node is of which the text lends each key and scalar.
-pub(crate) fn borrowed_kind(node: BorrowedNode<'_>) -> NodeKind
-    ensures { result ≡ spec.kind_of (placed_tree (borrowed_view node.entry)) }
+/// What a node is of which the text lends each key and scalar, and its text.
+pub(crate) fn borrowed_kind_and_text(node: BorrowedNode<'_>) -> (NodeKind, &str)
+    ensures kind { result.0 ≡ spec.kind_of (placed_tree (borrowed_view node.entry)) }
+    ensures text { result.1.now ≡ spec.text_of (placed_tree (borrowed_view node.entry)) }
 {
     match form_of(node) {
-        BorrowedForm::Scalar(kind, _) => NodeKind::Scalar(kind),
-        BorrowedForm::List(_) => NodeKind::List,
-        BorrowedForm::Map(_) => NodeKind::Map,
-    }
-}
-
-/// The text of such a node that is a scalar.
-pub(crate) fn borrowed_node_text(node: BorrowedNode<'_>) -> &str
-    ensures { result.now ≡ spec.text_of (placed_tree (borrowed_view node.entry)) }
-{
-    match form_of(node) {
-        BorrowedForm::Scalar(_, text) => text,
-        BorrowedForm::List(_) => "",
-        BorrowedForm::Map(_) => "",
+        BorrowedForm::Scalar(kind, text) => (NodeKind::Scalar(kind), text),
+        BorrowedForm::List(_) => (NodeKind::List, ""),
+        BorrowedForm::Map(_) => (NodeKind::Map, ""),
     }
 }
 

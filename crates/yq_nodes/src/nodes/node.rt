@@ -10,9 +10,7 @@ ghost use Rattle.yq_core.specs.View as inline;
 ghost use Rattle.yq_nodes.specs.Nodes as spec;
 
 use crate::nodes::body::{Body, Named};
-use crate::nodes::flow::{
-    borrowed_kind, borrowed_node_text, inline_anchor, inline_kind, inline_text,
-};
+use crate::nodes::flow::{borrowed_kind_and_text, inline_anchor, inline_kind, inline_text};
 use crate::nodes::heads::line_written;
 use crate::nodes::node_lines::{line_node, lines_node};
 use crate::nodes::under::Under;
@@ -166,7 +164,7 @@ impl<'d, 't> Node<'d, 't> {
             Body::Map(_) => NodeKind::Map,
             Body::List(_) => NodeKind::List,
             Body::Inline(node) => inline_kind(node),
-            Body::Borrowed(node) => borrowed_kind(node),
+            Body::Borrowed(node) => borrowed_kind_and_text(node).0,
             Body::Alias(_) => NodeKind::Alias,
         }
     }
@@ -182,8 +180,26 @@ impl<'d, 't> Node<'d, 't> {
             Body::Map(_) => "",
             Body::List(_) => "",
             Body::Inline(node) => inline_text(node),
-            Body::Borrowed(node) => borrowed_node_text(node),
+            Body::Borrowed(node) => borrowed_kind_and_text(node).1,
             Body::Alias(name) => name,
+        }
+    }
+
+    /// What the node is, and its text, read once.
+    #[inline(always)]
+    #[tactic(auto, using(crate::proofs::KindLaws::kind_anchored, crate::proofs::KindLaws::text_anchored))]
+    pub fn kind_and_text(&self) -> (NodeKind, &'d str)
+        ensures kind { result.0 ≡ spec.kind_of (spec.node_of self.now) }
+        ensures text { result.1.now ≡ spec.text_of (spec.node_of self.now) }
+    {
+        match self.named.body {
+            Body::Null => (NodeKind::Scalar(Kind::Null), "null"),
+            Body::Scalar(kind, text) => (NodeKind::Scalar(kind), text),
+            Body::Map(_) => (NodeKind::Map, ""),
+            Body::List(_) => (NodeKind::List, ""),
+            Body::Inline(node) => (inline_kind(node), inline_text(node)),
+            Body::Borrowed(node) => borrowed_kind_and_text(node),
+            Body::Alias(name) => (NodeKind::Alias, name),
         }
     }
 

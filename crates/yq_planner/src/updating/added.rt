@@ -102,9 +102,10 @@ pub fn added(alloc: Global, node: &Node<'_, '_>, value: &Value) -> Result<Change
     requires { values.is_null (value_node value.now) ≡ false }
     ensures { Judges change_of result (spec.added (node_of node.now) (value_node value.now)) }
 {
-    match node.kind() {
+    let (kind, text) = node.kind_and_text();
+    match kind {
         NodeKind::Alias => Err(Refusal::ThroughAlias.error()),
-        NodeKind::Scalar(kind) => to_scalar(alloc, kind, node.text(), value),
+        NodeKind::Scalar(kind) => to_scalar(alloc, kind, text, value),
         NodeKind::List => Ok(Change::Adds(to_list(alloc, value)?)),
         NodeKind::Map => to_map(alloc, node, value),
     }
