@@ -2,7 +2,7 @@
 use Rattle.std.{proofs.Common.{◌≡◌, ℕ, ◌+◌, ◌*◌, ◌%◌, eqb, Some, not, sym, ap, ◌∙◌, arith}, proofs.lemmas.Bool.{eq-eqb, ne_eqb}}
 use Rattle.std.{proofs.lemmas.Option.same_Some, specs.List.slice_get}
 use Rattle.yq_core.specs.Paths.{is_item}
-use Rattle.yq_outline.specs.Outline.{LineMark, Bare, Key, Dash, Line, key_of, level, rank}
+use Rattle.yq_outline.{specs.Outline.{LineMark, Bare, Key, Dash, Line, key_of, level, rank}, specs.Positions.has_no_mark}
 use Rattle.yq_outline.{specs.RowWalk.{HasRows, IsLine, line_level, line_number}, specs.Lines.lines_of_rows, proofs.WalkPositions.located}
 use Rattle.yq_outline.{specs.declared.line_position.Position.Position, specs.declared.line_position.Stretch.Stretch}
 use Rattle.yq_row_table.specs.View.{Slices, slices, RowsView}
@@ -15,6 +15,15 @@ item_mark column n Dash e = ap not (ne_eqb (n % 3) 2 (λ same. omega (arith, e, 
 pub item_at : (n : ℕ) (l : Line) → n ≡ level l → not (eqb (n % 3) 2) ≡ is_item (key_of l.mark)
 unfolding level
 item_at n l e = item_mark l.column n l.mark e
+
+bare_mark : (column n : ℕ) (m : LineMark) → n ≡ 3 * column + rank m → eqb (n % 3) 1 ≡ has_no_mark m
+bare_mark column n Bare e = eq-eqb (n % 3) 1 (omega (arith, e))
+bare_mark column n (Key k) e = ne_eqb (n % 3) 1 (λ same. omega (arith, e, same))
+bare_mark column n Dash e = ne_eqb (n % 3) 1 (λ same. omega (arith, e, same))
+
+pub bare_at : (n : ℕ) (l : Line) → n ≡ level l → eqb (n % 3) 1 ≡ has_no_mark l.mark
+unfolding level
+bare_at n l e = bare_mark l.column n l.mark e
 
 -- by how deep its row says it is
 pub level_of_line : (s : RowsView) (d : Stretch) (h : HasRows s d) (q : Position) (at : IsLine s d q) (l : Line) → slice_get (lines_of_rows h.rows) (line_number d h.rows q) ≡ Some l →

@@ -1,7 +1,7 @@
 -- Reading (own; a reader may skip it): what is walked, the rows of a document with what is known of them.
 use Rattle.std.specs.Prelude.{◌≡◌, ◌<◌, ◌≤◌, [], ◌∷◌, ℕ, List, map, Option, option_map, slice_get, Some, IfSome, ◌++◌}
 use Rattle.yq_core.{specs.Entries.tree_step, specs.Paths.Step}
-use Rattle.yq_outline.{specs.Ends.reached, specs.Extents.IsRowsView, specs.Lines.lines_of_rows, specs.Outline.Line}
+use Rattle.yq_outline.{specs.Ends.reached, specs.Extents.{IsRowsView, lines_before_mark}, specs.Lines.lines_of_rows, specs.Outline.Line}
 use Rattle.yq_outline.specs.Positions.{reach_from}
 use Rattle.yq_outline.specs.RowWalk.{AreKnown, Finds, HasDocument, HaveKeys, IsKnownIn, IsLine, IsPosition, LeadsTo, OfLines, line_level}
 use Rattle.yq_outline.{specs.RowWalk.{line_number, rows_end, stretch_view}, specs.declared.line_position.KnownItem.KnownItem}
@@ -45,6 +45,10 @@ pub record IsWalk (w : Walk) : Type 0 where
   pub known : AreKnown w.rows.now.rows w.known.now
   pub line : IfSome w.line (λ k. IsKnownLine w.rows.now k.now)
   pub above : IfSome w.above (IsLineAbove w.rows.now)
+
+-- So many lines of a row come before the last one.
+abbrev pub AreMarks : RowsView → ℕ → ℕ → Type 0
+AreMarks s row n = (x : Slices) → slice_get s.rows row ≡ Some x → n ≡ lines_before_mark x
 
 -- A line is so deep (8.2.3).
 abbrev pub IsLevel : RowsView → Position → ℕ → Type 0

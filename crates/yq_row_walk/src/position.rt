@@ -4,7 +4,7 @@ ghost use Rattle.yq_outline.{specs.Ends.{IsEndOf, has_no_lines, part}, specs.Ext
 ghost use Rattle.yq_outline.specs.RowWalk.{HasRows, IsLine, IsPosition, OfLines, deeper_rows};
 ghost use Rattle.yq_row_table.specs.View.{row_view, Slices};
 ghost use Rattle.yq_text.specs.Limit.{text_limit};
-ghost use Rattle.yq_row_walk.specs.Walk.{IsLevel, IsLevelAt};
+ghost use Rattle.yq_row_walk.specs.Walk.{AreMarks, IsLevel, IsLevelAt};
 ghost use Rattle.yq_outline.specs.Extents as extents;
 ghost use Rattle.yq_outline.specs.RowWalk as spec;
 
@@ -207,15 +207,21 @@ pub fn position_after(rows: &Rows<'_>, document: Stretch, position: Position) ->
     after_level(rows, document, position, level_at(rows, position)).0
 }
 
-/// The line after a line.
+/// The line after a line, by how many lines of its row come before the last one.
 #[inline(always)]
-pub fn next(rows: &Rows<'_>, document: Stretch, position: Position) -> Position
+pub(crate) fn next_by(
+    rows: &Rows<'_>,
+    document: Stretch,
+    position: Position,
+    marks: usize,
+) -> Position
     requires document { HasRows rows.now document }
     requires position { IsLine rows.now document position }
+    requires marks { AreMarks rows.now position.row marks }
     ensures number { OfLines rows.now document (λ ls n. n result ≡ n position + 1) }
     ensures position { IsPosition rows.now document result }
 {
-    if position.line < lines_before_mark(rows, position.row) {
+    if position.line < marks {
         Position {
             row: position.row,
             line: position.line + 1,
@@ -226,4 +232,20 @@ pub fn next(rows: &Rows<'_>, document: Stretch, position: Position) -> Position
             line: 0,
         }
     }
+}
+
+/// The line after a line.
+#[inline(always)]
+pub fn next(rows: &Rows<'_>, document: Stretch, position: Position) -> Position
+    requires document { HasRows rows.now document }
+    requires position { IsLine rows.now document position }
+    ensures number { OfLines rows.now document (λ ls n. n result ≡ n position + 1) }
+    ensures position { IsPosition rows.now document result }
+{
+    next_by(
+        rows,
+        document,
+        position,
+        lines_before_mark(rows, position.row),
+    )
 }

@@ -7,10 +7,11 @@ ghost use Rattle.yq_row_walk.specs.Walk.{HaveWalkKeys, IsWalk, IsWalkLine, IsWal
 ghost use Rattle.yq_outline.specs.Positions as positions;
 ghost use Rattle.yq_outline.specs.RowWalk as spec;
 
+use crate::extent::lines_before_mark;
 use crate::known_line::{if_along, walk_start};
-use crate::position::{is_deeper, level_at, next};
+use crate::position::{is_level_deeper, level_at, level_or_end, next_by};
 use crate::position_find::find_step;
-use crate::position_marks::{has_head, is_bare};
+use crate::position_marks::{has_head_by, is_bare_at};
 use crate::walk::Walk;
 use yq_core::Step;
 use yq_outline::{Next, Position, Stretch};
@@ -27,10 +28,11 @@ pub fn begins_with_node(rows: &Rows<'_>, document: Stretch, under: Position, flo
         positions.begins_with_node
         (part (lines_of_rows h.rows) (line_number document h.rows under) floor) }
 {
-    if !is_deeper(rows, document, under, floor) {
+    let level = level_or_end(rows, document, under);
+    if !is_level_deeper(rows, document, under, level, floor) {
         return false;
     }
-    is_bare(rows, document, under)
+    is_bare_at(level)
 }
 
 /// Where a step leads among the lines from one on that are deeper than a level.
@@ -59,10 +61,11 @@ fn next_from(walk: &Walk<'_, '_>, at: Position, step: &Step) -> Option<Next>
     ensures within { IfSome result (λ x. IsWalkLine walk.now (spec.next_position x)) }
     ensures found { WalkLeads walk.now (Some at) step.now result }
 {
-    if has_head(walk.rows, walk.document, at) {
+    let marks = lines_before_mark(walk.rows, at.row);
+    if has_head_by(walk.rows, walk.document, at, marks) {
         return Some(Next::Head(at));
     }
-    let under = next(walk.rows, walk.document, at);
+    let under = next_by(walk.rows, walk.document, at, marks);
     next_in(walk, under, level_at(walk.rows, at), step)
 }
 
