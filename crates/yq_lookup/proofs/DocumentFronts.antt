@@ -1,17 +1,18 @@
 -- Documents stay known in a text that keeps what is in front of their parts.
 use Rattle.std.proofs.Common.{◌≡◌, ℕ, zero, suc, ◌+◌, ◌-◌, ◌<◌, ◌≤◌, eqb, cond, Bool, true, false, ◌&&◌, ◌||◌, not, List, [], ◌∷◌, ◌++◌}
 use Rattle.std.proofs.Common.{length, take, Option, Some, None, refl, sym, ap, ◌∙◌, subst, arith, eqb-true, length-append}
-use Rattle.std.{proofs.Math.Bool.or-true, proofs.lemmas.Bool.{false_from_ne_true, false≢true, lt-ltb}, proofs.lemmas.List.take-append-le}
-use Rattle.std.{proofs.lemmas.List.Sums.sum_by-cons, proofs.lemmas.Option.same_Some, specs.List.{slice_get, sum_by}, specs.Prelude.IfSome}
+use Rattle.std.{proofs.lemmas.Bool.{ne_eqb, false_from_ne_true, false≢true, lt-ltb}, proofs.Math.Bool.or-true}
+use Rattle.std.{proofs.lemmas.List.take-append-le, proofs.lemmas.List.Sums.sum_by-cons, proofs.lemmas.Option.same_Some}
+use Rattle.std.{specs.List.{slice_get, sum_by}, specs.Prelude.IfSome}
 use Rattle.yq_row_table.specs.Grammar.{begins_document}
-use Rattle.yq_row_table.specs.Items.{Item, row_item, end_item, items_of_cut, rows_in_items, bounds_in_items, view_of_items}
-use Rattle.yq_row_table.{specs.Offsets.row_length, specs.RowStarts.{bound_length, part_end}, specs.Rows.{Cut, last, marked}}
-use Rattle.yq_row_table.specs.Touched.{TouchesOnly, item_text, before_offset}
+use Rattle.yq_row_table.specs.Items.{Item, row_item, end_item, items_of_cut, rows_items, rows_in_items, bounds_in_items, view_of_items}
+use Rattle.yq_row_table.{specs.Offsets.row_length, specs.RowStarts.{bound_length, part_end, row_start}, specs.Rows.{Cut, Row, last, marked}}
+use Rattle.yq_row_table.specs.Touched.{TouchesOnly, item_text, before_offset, in_back}
 use Rattle.yq_row_table.{specs.View.{Bound, bounds_from, slices, RowsView, rows_view}, proofs.ItemLaws.items_view_is}
 use Rattle.yq_row_table.proofs.SliceLaws.{print-length}
 use Rattle.yq_documents.{specs.PartReading.{first_rows, number_in, some_begin}, proofs.PartNumberLaws.part_later}
-use Rattle.yq_lookup.{specs.KnownDocuments.{DocumentStays, IsKnownDocument, part_by_number}, proofs.KnownDocumentLaws.found_later}
-use Rattle.yq_lookup.specs.declared.known_document.KnownDocument.{KnownDocument}
+use Rattle.yq_lookup.specs.KnownDocuments.{DocumentStays, FirstRowStays, IsKnownDocument, part_by_number}
+use Rattle.yq_lookup.{proofs.KnownDocumentLaws.found_later, specs.declared.known_document.KnownDocument.KnownDocument}
 
 -- ---- ends of parts in front
 
@@ -175,6 +176,50 @@ view_document_stays s k front b known some at less c is =
     document_stays c k front b (subst (λ (x : RowsView). IsKnownDocument x.bounds k) is known) some
     (subst (λ (x : RowsView). slice_get x.bounds (k.part - 1) ≡ Some b) is at)
     (subst (λ (x : RowsView). part_end (k.part - 1) b x + length b.marker < front) is less)
+
+-- ---- the first part, where a row of it is in front
+
+first_is_row : (xs : List Item) (b : Bound) → slice_get (bounds_in_items 0 xs) 0 ≡ Some b → 0 < b.rows → (r : Row) × (ys : List Item) × (xs ≡ row_item r ∷ ys)
+first_is_row [] b at some = absurd (cc)
+first_is_row (row_item r ∷ ys) b at some = (r, ys, refl)
+first_is_row (end_item gap marker ∷ ys) b at some = absurd (omega (arith, some, ap (λ (x : Bound). x.rows) (same_Some _ _ at)))
+
+some_rows : (rs : List Row) (gap marker : List ℕ) (xs : List Item) (r : Row) (ys : List Item) → rows_items rs (end_item gap marker ∷ xs) ≡ row_item r ∷ ys → 0 < length rs
+some_rows [] gap marker xs r ys e = absurd (cc (e))
+some_rows (q ∷ rs) gap marker xs r ys e = omega arith
+
+rows_there : (c : Cut) (r : Row) (ys : List Item) → items_of_cut c ≡ row_item r ∷ ys → first_rows (bounds_from 0 c) ≡ true
+rows_there (last p) r ys e = ap not (ne_eqb (0 + length p.rows) 0 (λ same. omega (arith, same, some_rows p.rows p.end [] [] r ys e)))
+rows_there (marked p marker c) r ys e = ap not (ne_eqb (0 + length p.rows) 0 (λ same. omega (arith, same, some_rows p.rows p.end marker (items_of_cut c) r ys e)))
+
+first_row_stays : (c : Cut) (front : ℕ) (b : Bound) → slice_get (rows_view c).bounds 0 ≡ Some b → 0 < b.rows → sum_by row_length (take 1 (rows_view c).rows) < front → FirstRowStays front c
+first_row_stays c front b at some less new back touched =
+    let there : slice_get (bounds_in_items 0 (items_of_cut c)) 0 ≡ Some b = ap (λ (s : RowsView). slice_get s.bounds 0) (items_view_is c) ∙ at in
+    let x = first_is_row (items_of_cut c) b there some in
+    let rows : sum_by row_length (take 1 (rows_view c).rows) ≡ sum_by row_length (take 1 (slices x.0 ∷ rows_in_items x.1)) =
+    sym (ap (λ (s : RowsView). sum_by row_length (take 1 s.rows)) (items_view_is c)) ∙ ap (λ (l : List Item). sum_by row_length (take 1 (rows_in_items l))) x.2 in
+    let first = sum_by-cons row_length (slices x.0) (take 0 (rows_in_items x.1)) in
+    let small : length (item_text (row_item x.0)) < front = omega (arith, less, rows, first, print-length x.0 []) in
+    let begins : before_offset front (items_of_cut c) ≡ row_item x.0 ∷ before_offset (front - length (item_text (row_item x.0))) x.1 =
+    ap (before_offset front) x.2 ∙ item_before_offset (row_item x.0) x.1 front small in
+    rows_there new x.0 _ (touched.new_are ∙ ap (λ (l : List Item). l ++ (touched.written ++ in_back back (items_of_cut c))) begins)
+
+pub view_first_stays : (s : RowsView) (front : ℕ) (b : Bound) → slice_get s.bounds 0 ≡ Some b → 0 < b.rows → row_start 1 s < front → (c : Cut) → s ≡ rows_view c → FirstRowStays front c
+view_first_stays s front b at some less c is =
+    let short : sum_by row_length (take 1 s.rows) < front = omega (arith, less) in
+    first_row_stays c front b (subst (λ (x : RowsView). slice_get x.bounds 0 ≡ Some b) is at) some (subst (λ (x : RowsView). sum_by row_length (take 1 x.rows) < front) is short)
+
+begins_there : (c : Cut) → number_in true 0 0 (bounds_from 0 c) ≡ Some 0
+begins_there (last p) = refl
+begins_there (marked p marker c) = refl
+
+-- the first document stays known there
+pub view_first_document : (s : RowsView) (k : KnownDocument) (front : ℕ) → IsKnownDocument s.bounds k → k.part ≡ 0 → (c : Cut) → s ≡ rows_view c → FirstRowStays front c → DocumentStays front c k
+view_first_document s k front known is c same stays new back touched =
+    let bs : List Bound = bounds_from 0 new in
+    let f = found_first (first_rows s.bounds || not (some_begin s.bounds)) k.doc 0 s.bounds (known ∙ ap Some is) in
+    let rows : first_rows bs ≡ true = stays new back touched in
+    (λ i. number_in (rows i || not (some_begin bs)) (f.1 i) 0 bs) ∙ (begins_there new ∙ ap Some (sym is))
 
 -- a document, if there is one, stays known in a text that keeps what is in front
 pub one_stays : (front back : ℕ) (s : RowsView) (c new : Cut) (k : Option KnownDocument) → s ≡ rows_view c →

@@ -1,5 +1,5 @@
 -- Reading (own; a reader may skip it): documents whose parts are known, from which a search for later ones goes on.
-use Rattle.std.specs.Prelude.{◌≡◌, ℕ, ◌+◌, ◌||◌, Bool, not, IfSome, List, drop, Option, Some}
+use Rattle.std.specs.Prelude.{◌≡◌, ℕ, ◌+◌, ◌||◌, Bool, true, not, IfSome, List, drop, Option, Some}
 use Rattle.yq_row_table.{specs.Rows.Cut, specs.Touched.TouchesOnly, specs.View.{Bound, rows_view}}
 use Rattle.yq_documents.{specs.PartReading.{first_rows, number_in, some_begin}, specs.Reading.cut_of}
 use Rattle.yq_outline.{specs.RowWalk.stretch_view, specs.declared.line_position.Stretch.Stretch}
@@ -27,7 +27,11 @@ NumbersGoOn bs part before is = (n : ℕ) → part_by_number (before + n) bs ≡
 abbrev pub DocumentStays : ℕ → Cut → KnownDocument → Type 0
 DocumentStays front c k = (new : Cut) (back : ℕ) → TouchesOnly front back c new → IsKnownDocument (rows_view new).bounds k
 
--- The same of several documents.
+-- The first part has rows in each text in which the items of its cut stay that end in front of so many bytes.
+abbrev pub FirstRowStays : ℕ → Cut → Type 0
+FirstRowStays front c = (new : Cut) (back : ℕ) → TouchesOnly front back c new → first_rows (rows_view new).bounds ≡ true
+
+-- Documents stay known so.
 abbrev pub DocumentsStay : ℕ → Cut → KnownDocuments → Type 0
 DocumentsStay front c ks = (new : Cut) (back : ℕ) → TouchesOnly front back c new → AreKnownDocuments (rows_view new).bounds ks
 

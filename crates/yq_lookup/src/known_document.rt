@@ -1,7 +1,8 @@
 //! Documents whose parts are known, from which a search for later ones goes on.
 ghost use Rattle.std.specs.Prelude.{◌≡◌, ◌<◌, ◌≤◌, ℕ, length, IfSome, List, None, option_map, true};
 ghost use Rattle.yq_row_table.{specs.Rows.Cut, specs.View.{Bound, rows_view}};
-ghost use Rattle.yq_lookup.specs.KnownDocuments.{AreKnownDocuments, DocumentStays, NumbersGoOn, IsKnownDocument, part_by_number};
+ghost use Rattle.yq_lookup.specs.KnownDocuments.{AreKnownDocuments, DocumentStays, FirstRowStays, NumbersGoOn, IsKnownDocument};
+ghost use Rattle.yq_lookup.specs.KnownDocuments.{part_by_number};
 ghost use Rattle.yq_documents.specs.PartNumbers as numbers;
 
 use yq_documents::first_is_document;
@@ -145,7 +146,21 @@ pub(crate) fn part_from(rows: &Rows<'_>, known: KnownDocuments, doc: usize) -> O
     Some(found.part)
 }
 
-/// A document that is known, if the line of the marker before it ends in front of so many bytes.
+/// Whether rows come before the first marker, and all of the first one is in front of so many bytes.
+fn begins_with_row(rows: &Rows<'_>, front: usize) -> bool
+    ensures { result ≡ true → (c : Cut) → rows.now ≡ rows_view c → FirstRowStays front c }
+{
+    if rows.len() < 2 || rows.parts() == 0 {
+        return false;
+    }
+    if rows.start(1) >= front {
+        return false;
+    }
+    rows.part(0).rows > 0
+}
+
+/// A document that is known, if the line of the marker before it, or a row of it where there is none, ends in front of so
+/// many bytes.
 pub(crate) fn document_before(
     rows: &Rows<'_>,
     known: Option<KnownDocument>,
@@ -155,7 +170,13 @@ pub(crate) fn document_before(
     ensures { IfSome result (λ k. (c : Cut) → rows.now ≡ rows_view c → DocumentStays front c k) }
 {
     let known = known?;
-    if known.part == 0 || known.part >= rows.parts() {
+    if known.part == 0 {
+        if !begins_with_row(rows, front) {
+            return None;
+        }
+        return Some(known);
+    }
+    if known.part >= rows.parts() {
         return None;
     }
     let end = known.part - 1;
