@@ -3,6 +3,8 @@ pub mod LeftItemLaws
 pub mod LeftPlaceLaws
 pub mod LeftLoops
 pub mod RunEdits
+pub mod ErasedLines
+pub mod GivenRows
 pub mod RowRunLaws
 pub mod RowRunAnswers
 pub mod HeadRowLaws
@@ -22,6 +24,7 @@ pub mod SoleRemovals
 pub mod Exchanges
 pub mod RemovalAnswers
 pub mod RowPutLaws
+pub mod EmptyHeadLaws
 pub mod LonePlaces
 pub mod LonePutLaws
 pub mod RowCommentLaws

@@ -18,7 +18,7 @@ use Rattle.yq_edit_laws.{proofs.CutLaws.{cut_read, text_read}, proofs.EntryNodeL
 use Rattle.yq_edit_laws.{proofs.LoneRows.{PutsLone, lone_puts_root, lone_puts_under}, proofs.RowEditLaws.{lone_edits, lone_puts}}
 use Rattle.yq_batch.specs.RowRuns.{IsLoneRow, IsRowsPlace, IsWrittenSo, PutsInRow, PutsSo, PutsText, RowsPlace, StaysThere, bytes_in}
 use Rattle.yq_batch.{specs.RowRuns.{first_at, of_lone, of_root, place_rows, rows_now}, specs.declared.row_put.RowPut.RowPut}
-use Rattle.yq_batch.proofs.RowHeadLaws.{row_number}
+use Rattle.yq_batch.{proofs.GivenRows.exchanges_row, proofs.RowHeadLaws.row_number}
 use Rattle.yq_batch.proofs.LonePlaces.{IsLoneRoot, IsLoneUnder, lone_root, lone_under, root_node, root_is_there, under_is_there}
 
 -- In a cut a node is alone on its line, and is the one of the first cut, as are the texts from it on.
@@ -46,7 +46,7 @@ module _ (n : ℕ) (steps : List Step) (v : Node) (c d : Cut) (e : RowsOfEntry) 
         edited = by_kept false other;
         whole = x.puts.edit.old;
         puts = lone_puts x.piece v x.puts.some;
-        changes = x.puts.changes;
+        changes = λ operand fit size. exchanges_row n d e (lone_put x.piece v) (x.puts.changes operand fit size);
       }))
 
   lone_so : (o : Option (List ℕ)) → IsWrittenSo (node_in n steps c) v w.text o → PutsSo (replace n steps v) d e w.text w.after o

@@ -18,6 +18,7 @@ use Rattle.yq_semantics.{specs.Meaning.head_comment_lines, specs.Operations.head
 use Rattle.yq_edit_laws.{proofs.HeadCommentLaws.head_comments_change_rows, proofs.RowEditLaws.row_edits}
 use Rattle.yq_edit_laws.{proofs.CutLaws.{cut_read, text_read}, proofs.EditsHold.edit_is}
 use Rattle.yq_batch.{specs.RowRuns.{PutsInRow, PutsSo, PutsText, bytes_in, of_entry, rows_still}, specs.declared.row_put.RowPut.RowPut}
+use Rattle.yq_batch.proofs.GivenRows.{exchanges_row}
 use Rattle.yq_documents.specs.LinesInRows as lines
 
 -- an empty head comment has no lines, and others end alike by the same break
@@ -44,7 +45,8 @@ module _ (n : ℕ) (steps : List Step) (text : List ℕ) (c : Cut) (e : RowsOfEn
         edited = edited;
         whole = (edit_is (head_comment n steps text) d (head_comment_segments br text (above_rows now)) read_d edited).old;
         puts = row_edits.piece_puts (above_rows now).1 _;
-        changes = λ operand fit size. head_comments_change_rows n steps text (first_break (cut_text d)) d now read_d still.found first operand fit size;
+        changes = λ operand fit size.
+            exchanges_row n d now (head_comment_segments br text (above_rows now)) (head_comments_change_rows n steps text (first_break (cut_text d)) d now read_d still.found first operand fit size);
       })
 
   pub above_text_is : read_at (cut_text c) ≡ Some c → rows_of_entry n steps c ≡ Some e → cut_text c ≡ (above_rows e).1.before ++ ((above_rows e).1.text ++ (above_rows e).1.after)

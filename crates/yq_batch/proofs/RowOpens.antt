@@ -17,7 +17,7 @@ use Rattle.yq_edit_laws.{proofs.CutLaws.{cut_read, text_read}, specs.Carried.{ca
 use Rattle.yq_edit_laws.{specs.Edit.{by_reading, edit_of_segments, exchange_edit, gives}, specs.Theorems.IsFitting, proofs.ApplyLaws.fits}
 use Rattle.yq_batch.specs.OpenRows.{AreRowsStill, IsHeadAt, IsOpenRows, IsRowStill, IsRowThere, head_back, head_front}
 use Rattle.yq_batch.{specs.OpenRuns.AreCharEdges, specs.RowRuns.PutsText}
-use Rattle.yq_batch.proofs.RowPutLaws.{head, node_there, value_comes, value_stays, value_text_is}
+use Rattle.yq_batch.proofs.RowPutLaws.{head, node_there, value_changes, value_comes, value_stays, value_text_is}
 use Rattle.yq_batch.proofs.RowStills.{holds_now, rows_around, some_between}
 use Rattle.yq_batch.{proofs.SlotLaws.{front_length, front_of, order_at, places_same}, proofs.RowEndLaws.end_stays}
 use Rattle.yq_batch.{proofs.RowsBeforeOffset.split_front, proofs.SlotEnds.{apart_from, following_last, more_left}}
@@ -249,7 +249,7 @@ module _ (c : Cut) (m : ℕ) (u : Step) (us : List Step) (v : Node) (slots slots
     -- another value
     module _ (other : keeps_scalar (node_in m (u ∷ us) c) v ≡ false) (is : written ≡ value_text InBlock old v) (operand : HasOperand (replace m (u ∷ us) v))
         (fitting : IsFitting (replace m (u ∷ us) v) now) (small : length (text_from t 0 slots2) ≤ text_limit) where
-      x : PutsText (replace m (u ∷ us) v) run.cut k (held k).head (value_text InBlock (held k).head v) (head_back k)
+      abbrev x : PutsText (replace m (u ∷ us) v) run.cut k (held k).head (value_text InBlock (held k).head v) (head_back k)
       x = value_comes m u us v run.cut k read there.found holds_k plain run.cut read itself (ap (λ (o : Option Node). keeps_scalar o v) same_node ∙ other)
 
       front_is : x.front ≡ before
@@ -276,7 +276,9 @@ module _ (c : Cut) (m : ℕ) (u : Step) (us : List Step) (v : Node) (slots slots
           subst (λ (d : Cut). Fits (room_of (cut_text d)) (replace m (u ∷ us) v) (documents d)) same (fits (replace m (u ∷ us) v) now operand fitting)
 
       abbrev y : ChangesRow m run.cut k x.segments
-      y = x.changes operand fit (omega (arith, small, ap length new_is))
+      y =
+          value_changes m u us v run.cut k read there.found holds_k plain run.cut read itself (ap (λ (o : Option Node). keeps_scalar o v) same_node ∙ other) operand fit
+          (omega (arith, small, ap length new_is))
 
       abbrev next : Cut
       next = Rattle.yq_batch.proofs.RowStills.next c run.cut m whole read u us e found holds k there.size x.segments y

@@ -2,24 +2,24 @@
 use Rattle.std.proofs.Common.{◌≡◌, ℕ, ◌+◌, ◌≤◌, Bool, true, false, cond, is_some, List, [], ◌∷◌, ◌++◌, length, Option, Some, None, refl}
 use Rattle.std.{proofs.Common.{sym, ap, ◌∙◌, subst, arith, append_assoc, string_bytes, length-append}, proofs.lemmas.Bool.false≢true}
 use Rattle.std.{proofs.lemmas.Str.IsCharBoundary-at_seam, specs.Str.IsCharBoundary}
-use Rattle.yq_text.{specs.Limit.text_limit, specs.Script.keep}
+use Rattle.yq_text.{specs.Limit.text_limit, specs.Script.{keep, new_text}}
 use Rattle.yq_core.{specs.Paths.Step, specs.Text.is_empty, specs.Tree.Node, specs.declared.style.Place.TheVariants.Block as InBlock}
 use Rattle.yq_outline.{specs.Outline.anchored, specs.Lines.{content_anchor, head_of}}
 use Rattle.yq_row_table.{specs.Rows.{Cut, cut_text, parent_indent, rows_text}, specs.View.slices}
-use Rattle.yq_documents.specs.Reading.{cut_of, read_at}
+use Rattle.yq_documents.specs.Reading.{cut_of, documents, read_at}
 use Rattle.yq_places.{specs.CommentPlaces.end_in_line, specs.PlacementViews.IsHeldRow, specs.declared.places.held_row.HeldRow.HeldRow}
 use Rattle.yq_places.{specs.NodesAt.node_in, specs.PrintedLines.less_break}
 use Rattle.yq_places.{specs.Placements.{Held, RowsOfEntry, after_entry, held, rows_of_entry}, proofs.HeldRowLaws.no_root_rows}
 use Rattle.yq_edit_rules.{specs.RowStays.StaysInRows, specs.PlacementLaws.{HoldsPieces, HasItsRows}, specs.TextPieces.IsPiece}
 use Rattle.yq_edit_rules.{proofs.RowStayLaws.rows_stay_there, proofs.PlacementMarks.row_there, proofs.PlacementRows.rows_located}
 use Rattle.yq_edit_rules.{proofs.TextPieceLaws.pieces_joined, specs.BlockReading.is_filled, specs.Edits.op_edits, specs.Operands.HasOperand}
-use Rattle.yq_edit_rules.{specs.Replacing.keeps_scalar, specs.RowChanges.{HoldsInline, inline_put}, specs.WrittenValues.value_text}
-use Rattle.yq_edit_rules.proofs.HeldPieces.{held_spells}
-use Rattle.yq_semantics.specs.Operations.{replace}
+use Rattle.yq_edit_rules.{specs.Replacing.keeps_scalar, specs.RowChanges.{ChangesRow, HoldsInline, inline_put}}
+use Rattle.yq_edit_rules.{specs.WrittenValues.value_text, proofs.HeldPieces.held_spells}
+use Rattle.yq_semantics.{specs.Fits.Fits, specs.Operations.replace, specs.Rooms.room_of}
 use Rattle.yq_edit_laws.{proofs.RowEditLaws.row_edits, proofs.CutLaws.{cut_read, text_read}, proofs.HeldRows.{head_there, headless_there}}
 use Rattle.yq_edit_laws.{proofs.InlineChangeLaws.inline_values_change_rows, proofs.MarkHeads.no_raw, proofs.EditsHold.edit_is}
 use Rattle.yq_batch.specs.RowRuns.{IsWrittenSo, PutsInRow, PutsSo, PutsText, bytes_in, of_entry, rows_still}
-use Rattle.yq_batch.specs.declared.row_put.RowPut.{RowPut}
+use Rattle.yq_batch.{specs.declared.row_put.RowPut.RowPut, proofs.GivenRows.exchanges_row}
 
 is_there : (o : Option Node) → is_some o ≡ true → (x : Node) × (o ≡ Some x)
 is_there None e = absurd (false≢true e)
@@ -77,8 +77,14 @@ module _ (m : ℕ) (s : Step) (ss : List Step) (v : Node) (c : Cut) (e : RowsOfE
           edited = edited;
           whole = (edit_is (replace m (s ∷ ss) v) d (inline_put v (held now)) read_d edited).old;
           puts = row_edits.inline_puts v (held now) h.some (no_break m s ss d now read_d still.found holds) (no_lines m s ss d now read_d still.found holds);
-          changes = λ operand fit size. inline_values_change_rows m s ss v d now read_d still.found holds plain operand fit size;
+          changes = λ operand fit size. exchanges_row m d now (inline_put v (held now)) (inline_values_change_rows m s ss v d now read_d still.found holds plain operand fit size);
         }
+
+    -- which is another row of the shape
+    pub value_changes : (other : keeps_scalar (node_in m (s ∷ ss) c) v ≡ false) → HasOperand (replace m (s ∷ ss) v) → Fits (room_of (cut_text d)) (replace m (s ∷ ss) v) (documents d) →
+        length (new_text (value_comes other).segments) ≤ text_limit → ChangesRow m d now (value_comes other).segments
+    unfolding value_comes
+    value_changes other operand fit size = inline_values_change_rows m s ss v d now read_d still.found holds plain operand fit size
 
   -- where it is
   spelled : cut_text c ≡ ((held e).before ++ (held e).space) ++ ((held e).head ++ ((held e).white ++ ((held e).comment ++ ((held e).last ++ (held e).after))))

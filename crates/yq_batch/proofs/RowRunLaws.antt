@@ -7,15 +7,15 @@ use Rattle.yq_text.{specs.Limit.text_limit, specs.Script.{Segment, changes, keep
 use Rattle.yq_row_table.specs.Rows.{Cut, cut_text}
 use Rattle.yq_documents.{specs.Reading.{documents, read_at}, proofs.ReadLaws.parts_read}
 use Rattle.yq_places.specs.Placements.{RowsOfEntry}
-use Rattle.yq_edit_rules.{specs.Appends.inserted, specs.Changed.put_document, specs.RowStays.{IsAfter, StaysInRows, StaysFrom, StaysPlaced}}
-use Rattle.yq_edit_rules.{proofs.RowStayLaws.rows_stay_there, specs.Edits.{op_edits, or_stay}, specs.Operands.HasOperand}
-use Rattle.yq_edit_rules.specs.RowChanges.{ChangesRow}
+use Rattle.yq_edit_rules.{specs.Appends.inserted, specs.Changed.put_document, specs.RowStays.{IsAfter, StaysInRows, StaysPlaced}}
+use Rattle.yq_edit_rules.{specs.Edits.{op_edits, or_stay}, specs.Operands.HasOperand}
 use Rattle.yq_semantics.{specs.After.op_document, specs.Fits.Fits, specs.Operations.Operation, specs.Rooms.room_of}
 use Rattle.yq_semantics.specs.declared.refusal.Refusal.TheVariants.{TooLarge}
 use Rattle.yq_edit_laws.{proofs.CutLaws.{cut_read, text_read}, specs.Carried.{carried, carry_one}}
 use Rattle.yq_edit_laws.{specs.Edit.{by_reading, edit_of_segments, exchange_edit, gives, refuses}, specs.Theorems.IsFitting}
 use Rattle.yq_edit_laws.proofs.ApplyLaws.{fits}
-use Rattle.yq_batch.{specs.RowRuns.{DocumentsStayFrom, IsRowRun, PutsText}, specs.Runs.text_with_run}
+use Rattle.yq_batch.{specs.RowRuns.{DocumentsStayFrom, ExchangesRow, IsRowRun, PutsText}, specs.Runs.text_with_run}
+use Rattle.yq_batch.proofs.GivenRows.{given_documents, given_entries}
 use Rattle.yq_text.specs.Exchanging as exchange
 
 -- what is after one row after another is after that
@@ -133,10 +133,8 @@ module _ (c : Cut) (k n : ℕ) (out : List ℕ) (done : ℕ) (run : IsRowRun c k
         let m : ℕ = op_document op in
         let same : fitting.read.parts ≡ run.cut = same_Some _ _ (sym (parts_read now fitting.before fitting.read).0 ∙ run.read) in
         let fit : Fits (room_of (cut_text run.cut)) op (documents run.cut) = subst (λ (d : Cut). Fits (room_of (cut_text d)) op (documents d)) same (fits op now operand fitting) in
-        let y : ChangesRow m run.cut e ss = x.changes operand fit (omega (arith, small, ap length new_is)) in
-        let front_size : length y.front ≡ i = y.front_size ∙ number in
-        let kept : StaysFrom (suc i) y.part (inserted y.front (y.new ∷ []) y.back y.part) =
-        subst (λ (j : ℕ). StaysFrom (suc j) y.part (inserted y.front (y.new ∷ []) y.back y.part)) front_size (rows_stay_there.exchanges y.part y.front y.back y.row y.new y.rows_are y.shape) in (
+        let y : ExchangesRow m run.cut e ss = x.changes operand fit (omega (arith, small, ap length new_is)) in
+        let front_size : length y.front ≡ i = y.front_size ∙ number in (
           record {
             within = omega (arith, ap length text_is, length-append before (old ++ following), length-append old following);
             edge = edge;
@@ -144,12 +142,15 @@ module _ (c : Cut) (k n : ℕ) (out : List ℕ) (done : ℕ) (run : IsRowRun c k
             read = ap read_at (sym new_is) ∙ y.read;
             stays = λ l path f found after.
                 let first : StaysInRows f l path run.cut = run.stays l path f found (after_both k n m i l (length f.front) later after) in
-                let z = rows_stay_there.entries run.cut m (suc i) y.part (inserted y.front (y.new ∷ []) y.back y.part) l path (record f { start = first.start; front = first.front }) y.there kept first.found
-                (sized m (suc i) l (length f.front) (length first.front) (sym first.size) after) in
+                let z = given_entries run.cut m e ss read_now y l path (record f { start = first.start; front = first.front }) first.found
+                (past front_size (sized m (suc i) l (length f.front) (length first.front) (sym first.size) after)) in
                 record { start = z.start; front = z.front; found = z.found; size = z.size ∙ first.size };
           },
           λ l d placed after.
               let first : StaysPlaced d l run.cut = others l d placed (after_both k n m i l 0 later after) in
-              let z = rows_stay_there.documents run.cut m (suc i) y.part (inserted y.front (y.new ∷ []) y.back y.part) l (record d { before = first.start }) y.there kept first.found (in_later m i l after) in
+              let z = given_documents run.cut m e ss read_now y l (record d { before = first.start }) first.found (in_later m i l after) in
               record { start = z.start; found = z.found },
         )
+      where
+        past : {j l q : ℕ} → j ≡ i → IsAfter (op_document op) (suc i) l q → IsAfter (op_document op) (suc j) l q
+        past {j} {l} {q} same after = subst (λ (x : ℕ). IsAfter (op_document op) (suc x) l q) (sym same) after

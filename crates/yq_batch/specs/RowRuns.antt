@@ -1,17 +1,17 @@
 -- Operations that change one row each, one after the other, on the rows as they were read (YAML 1.2.2, 8; own).
-use Rattle.std.specs.Prelude.{◌≡◌, ⊤, ◌⊎◌, ◌&&◌, not, if◌then◌else◌, ℕ, suc, ◌+◌, ◌<◌, ◌≤◌, List, [], ◌∷◌, ◌++◌, length, Option, Some, None}
-use Rattle.std.{specs.Prelude.{true, false, String, string_bytes}, specs.Str.IsCharBoundary, specs.declared.alloc.Global.Global}
+use Rattle.std.specs.Prelude.{◌≡◌, ⊤, ◌⊎◌, ◌&&◌, not, if◌then◌else◌, ℕ, suc, ◌+◌, ◌<◌, ◌≤◌, List, [], ◌∷◌, ◌++◌, length, slice_get, Option}
+use Rattle.std.{specs.Prelude.{Some, None, true, false, String, string_bytes}, specs.Str.IsCharBoundary, specs.declared.alloc.Global.Global}
 use Rattle.yq_text.{specs.Limit.text_limit, specs.Script.{Segment, keep, new_text, old_text}, specs.Splice.Splice}
 use Rattle.yq_core.{specs.Paths.Step, specs.Text.is_empty, specs.Tree.Node, specs.Values.value_node}
 use Rattle.yq_core.{specs.declared.style.Place.TheVariants.Block as InBlock, specs.declared.value.Value.Value}
-use Rattle.yq_row_table.specs.Rows.{Cut, Row, cut_text}
+use Rattle.yq_row_table.specs.Rows.{Cut, Part, Row, cut_text}
 use Rattle.yq_documents.{specs.declared.path.Path.Path, specs.LinesInRows.document_row, specs.Located.steps_of}
-use Rattle.yq_documents.specs.Reading.{cut_of, documents, read_at}
+use Rattle.yq_documents.{specs.Documents.document_parts, specs.Reading.{cut_of, documents, read_at}}
 use Rattle.yq_places.{specs.FirstBreak.first_break, specs.NodesAt.node_in, specs.PlacedRows.{PlacedPart, placed_document}}
-use Rattle.yq_places.specs.Placements.{RowsOfEntry, rows_of_entry}
+use Rattle.yq_places.specs.Placements.{Held, RowsOfEntry, beside, placement_at, rows_of_entry}
 use Rattle.yq_edit_rules.{specs.RowStays.{IsAfter, StaysInRows, StaysPlaced}, specs.Edits.op_edits, specs.Operands.HasOperand}
-use Rattle.yq_edit_rules.{specs.Replacing.keeps_scalar, specs.RowChanges.{ChangesRow, PutsOne, lone_rows, root_rows}}
-use Rattle.yq_edit_rules.specs.WrittenValues.{value_text}
+use Rattle.yq_edit_rules.{specs.Appends.inserted, specs.Changed.put_document, specs.Replacing.keeps_scalar}
+use Rattle.yq_edit_rules.{specs.RowChanges.{PutsOne, lone_rows, root_rows}, specs.WrittenValues.value_text}
 use Rattle.yq_semantics.{specs.After.op_document, specs.Fits.Fits, specs.Rooms.room_of}
 use Rattle.yq_semantics.{specs.Operations.{Operation, append, head_comment, line_comment, remove, replace}, specs.declared.op.Op.Op}
 use Rattle.yq_edit_laws.{specs.Carried.carried, specs.Edit.gives, specs.Theorems.IsApplied}
@@ -104,9 +104,24 @@ rows_now (of_entry steps e) m c s = record e { start = s.start; front = s.front 
 rows_now (of_root d r rs) m c s = root_rows (record d { before = s.start }) r rs
 rows_now (of_lone steps e r rs) m c s = lone_rows (record e { start = s.start; front = s.front }) r rs
 
+-- In the cut of the text that segments make, the row of an item or entry of document n has given way to another one, with the same key and dashes (own).
+pub record ExchangesRow (n : ℕ) (c : Cut) (e : RowsOfEntry) (ss : List Segment) : Type 0 where
+  pub part : Part
+  pub there : slice_get (document_parts c) n ≡ Some part
+  pub front : List Row
+  pub row : Row
+  pub new : Row
+  pub back : List Row
+  pub rows_are : part.rows ≡ front ++ (row ∷ back)
+  pub front_size : length front ≡ length e.front
+  pub column : new.column ≡ row.column
+  pub dashes : new.dashes ≡ row.dashes
+  pub mark : new.mark ≡ row.mark
+  pub read : read_at (new_text ss) ≡ Some (put_document n (inserted front (new ∷ []) back part) c)
+
 -- where what an operation makes fits, it changes one row (own)
 abbrev pub ChangesIfFit : Operation → Cut → RowsOfEntry → List Segment → Type 0
-ChangesIfFit op d e ss = HasOperand op → Fits (room_of (cut_text d)) op (documents d) → length (new_text ss) ≤ text_limit → ChangesRow (op_document op) d e ss
+ChangesIfFit op d e ss = HasOperand op → Fits (room_of (cut_text d)) op (documents d) → length (new_text ss) ≤ text_limit → ExchangesRow (op_document op) d e ss
 
 -- An operation puts one text in the place of another, and changes one row (own).
 pub record PutsText (op : Operation) (d : Cut) (e : RowsOfEntry) (old new after : List ℕ) : Type 0 where
@@ -135,6 +150,19 @@ IsWrittenSo old v head (Some w) = (keeps_scalar old v ≡ false) × (w ≡ value
 -- the same of a value of the code at a path of a text, if a text is written (own)
 abbrev pub IsWrittenThere : Path → Value → (t head : List ℕ) → Option (String Global) → Type 0
 IsWrittenThere p v t head o = IsWrittenSo (node_in p.doc (steps_of p) (cut_of t)) (value_node v) head (bytes_in string_bytes o)
+
+-- what is written for a value on one line where nothing is: it comes after a space, if it isn't the scalar that nothing means (own)
+abbrev pub IsSpacedSo : Option Node → Node → Option (List ℕ) → Type 0
+IsSpacedSo old v None = keeps_scalar old v ≡ true
+IsSpacedSo old v (Some w) = (keeps_scalar old v ≡ false) × (w ≡ 32 ∷ value_text InBlock [] v)
+
+-- the same of a value of the code at a path of a text, if a text is written (own)
+abbrev pub IsSpacedThere : Path → Value → (t : List ℕ) → Option (String Global) → Type 0
+IsSpacedThere p v t o = IsSpacedSo (node_in p.doc (steps_of p) (cut_of t)) (value_node v) (bytes_in string_bytes o)
+
+-- what an item or entry holds is on the line of its key or dash, if anything is: nothing is under that (own)
+abbrev pub IsBesideMark : Path → List ℕ → Type 0
+IsBesideMark p t = (h : Held) × (placement_at p.doc (steps_of p) (cut_of t) ≡ Some (beside h))
 
 -- the white space that stays before a line comment, in the place of one that is there or of none (own)
 abbrev pub white_left : (text white comment : List ℕ) → List ℕ

@@ -7,6 +7,7 @@ mod any_row;
 mod change;
 mod changed_rows;
 mod emptied_rows;
+mod empty_heads;
 mod gone;
 mod head;
 mod heads;

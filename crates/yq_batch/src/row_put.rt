@@ -10,6 +10,7 @@ ghost use Rattle.yq_edit_rules.specs.Operands.{HasOperand};
 ghost use Rattle.yq_batch.{specs.RowEnds.IsPlacedSo, specs.Under.op_meant};
 ghost use Rattle.yq_batch.specs.RowRuns as spec;
 
+use crate::empty_heads::value_in_nothing;
 use crate::under::OpAt;
 use std::alloc::{AllocError, Global};
 use yq_block_edits::{comment_written, head_comment_written, is_kept, is_kept_in_row};
@@ -60,7 +61,7 @@ pub(crate) fn value_written(
 
 /// What is written for a value in the place of a node that is alone on its line; nothing, where it is the scalar that is
 /// there.
-fn lone_written(
+pub(crate) fn lone_written(
     alloc: Global,
     cut: &CutText<'_, '_>,
     path: &Path,
@@ -167,7 +168,7 @@ fn value_alone(
     }
 }
 
-/// A value in the place of an inline node after a key or dash, or alone under that.
+/// A value in the place of an inline node after a key or dash, or alone under that, or of nothing.
 fn value_there(
     alloc: Global,
     cut: &CutText<'_, '_>,
@@ -180,10 +181,14 @@ fn value_there(
     requires row { IsHeldRow path.now.doc (steps_of path.now) (cut_of cut.now) at.now }
     ensures { IfOk result (λ o. IfSome o (spec.PutsValue path.now value.now cut.now)) }
 {
-    if at.head.is_empty() {
-        return value_alone(alloc, cut, path, value);
+    if !at.head.is_empty() {
+        return value_in_row(alloc, cut, path, at, value);
     }
-    value_in_row(alloc, cut, path, at, value)
+    match cut.placement(path) {
+        Some(Placement::Alone(lone)) => value_in_piece(alloc, cut, path, &lone, value),
+        Some(Placement::Beside(_)) => value_in_nothing(alloc, cut, path, at, value),
+        _ => Ok(None),
+    }
 }
 
 /// Where what is replaced by a line comment begins and ends, after so many bytes, by the white space and the

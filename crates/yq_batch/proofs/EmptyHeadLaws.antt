@@ -1,0 +1,268 @@
+-- Values that operations put after keys and dashes that hold nothing, wherever their items and entries are still.
+use Rattle.std.proofs.Common.{◌≡◌, ℕ, ◌+◌, ◌≤◌, Bool, true, false, cond, eqb, eqb-true, eq-eqb, List, [], ◌∷◌, ◌++◌, length, Option, Some}
+use Rattle.std.proofs.Common.{None, option_map, refl, sym, ap, ◌∙◌, subst, arith, rules, append_assoc, append-nil, string_bytes}
+use Rattle.std.{proofs.Common.length-append, proofs.lemmas.Bool.false≢true, proofs.lemmas.Option.same_Some}
+use Rattle.std.{proofs.lemmas.Str.IsCharBoundary-at_seam, specs.Option.option_or, specs.Prelude.⊤, specs.Str.IsCharBoundary}
+use Rattle.yq_text.specs.Limit.{text_limit}
+use Rattle.yq_text.specs.Script.{Segment, changes, keep, keep_before, merged, new_text, put, put_before, splice_at, splices_at}
+use Rattle.yq_text.{specs.Splice.Splice, proofs.BetweenLaws.after_nothing, proofs.TouchLaws.put_twice}
+use Rattle.yq_core.{specs.BlockWritten.break_text, specs.Paths.Step, specs.Text.is_empty, specs.Tree.Node}
+use Rattle.yq_core.{specs.declared.style.Place.TheVariants.Block as InBlock, proofs.LineLaws.is_empty_is}
+use Rattle.yq_row_table.{specs.Rows.{Block, Content, Cut, Inline, Nothing, Row, cut_text, rows_text, print_row}, specs.Seams.is_block}
+use Rattle.yq_row_table.specs.View.{slices}
+use Rattle.yq_documents.specs.Reading.{cut_of, documents, read_at}
+use Rattle.yq_semantics.{specs.Fits.Fits, specs.Operations.replace, specs.Rooms.room_of}
+use Rattle.yq_places.{specs.CommentPlaces.end_in_line, specs.PlacementViews.IsHeldRow, specs.declared.places.held_row.HeldRow.HeldRow}
+use Rattle.yq_places.{specs.NodesAt.node_in, specs.PrintedLines.less_break, proofs.HeldRowLaws.no_root_rows}
+use Rattle.yq_places.specs.Placements.{Held, Placement, RowsOfEntry, after_entry, alone, before_entry, below, beside, compact_in}
+use Rattle.yq_places.specs.Placements.{entry_placement, flow_placement, held, is_alone, last_step, lone, past_mark, placement_at}
+use Rattle.yq_places.specs.Placements.{rows_of_entry, under}
+use Rattle.yq_edit_rules.{specs.RowStays.StaysInRows, specs.PlacementLaws.{HoldsPieces, HasItsRows}, specs.TextPieces.IsPiece}
+use Rattle.yq_edit_rules.{proofs.PlacementRows.rows_located, proofs.TextPieceLaws.pieces_joined, proofs.HeldPieces.held_spells}
+use Rattle.yq_edit_rules.{specs.BlockReading.is_filled, specs.Edits.op_edits, specs.FlowParts.flow_put, specs.Operands.HasOperand}
+use Rattle.yq_edit_rules.{specs.Layouts.layout_of, specs.Replacing.keeps_scalar, specs.ReplaceEdits.{spaced_text, value_put_at}}
+use Rattle.yq_edit_rules.{specs.RowChanges.{PutsOne, inline_put}, specs.WrittenValues.value_text, proofs.EditsFitLaws.fits_replace}
+use Rattle.yq_edit_rules.proofs.ValueTexts.{value_for}
+use Rattle.yq_edit_laws.{proofs.CutLaws.{cut_read, text_read}, proofs.EntryNodeLaws.entry_node, proofs.HeldRows.held_known}
+use Rattle.yq_edit_laws.{proofs.HeldCarried.{KnowsHeld, first_alone}, proofs.HeldInline.{RowMade, nothing_made}, proofs.MarkHeads.no_raw}
+use Rattle.yq_edit_laws.proofs.EditsHold.{edit_is}
+use Rattle.yq_batch.specs.RowEnds.{HasNoHead}
+use Rattle.yq_batch.specs.RowRuns.{ExchangesRow, IsSpacedSo, PutsInRow, PutsSo, PutsText, bytes_in, of_entry, rows_still}
+use Rattle.yq_batch.specs.declared.row_put.RowPut.{RowPut}
+
+-- ---- segments that exchange no bytes
+
+abbrev AreQuiet : List Segment → Type 0
+AreQuiet [] = ⊤
+AreQuiet (keep t ∷ ss) = AreQuiet ss
+AreQuiet (put o w ∷ ss) = (o ≡ []) × (w ≡ []) × AreQuiet ss
+
+after_keep : (n : ℕ) (t : List ℕ) (ss : List Segment) → splices_at n (keep_before t ss) ≡ splices_at (n + length t) ss
+after_keep n [] ss = let same : n ≡ n + 0 = omega arith in ap (λ (m : ℕ). splices_at m ss) same
+after_keep n (b ∷ t) [] = refl
+after_keep n (b ∷ t) (keep u ∷ ss) = let same : n + length (b ∷ (t ++ u)) ≡ n + length (b ∷ t) + length u = omega (arith, length-append t u) in ap (λ (m : ℕ). splices_at m ss) same
+after_keep n (b ∷ t) (put o w ∷ ss) = refl
+
+quiet_splices : (n : ℕ) (ss : List Segment) → AreQuiet ss → splices_at n (merged ss) ≡ []
+quiet_splices n [] h = refl
+quiet_splices n (keep t ∷ ss) h = after_keep n t (merged ss) ∙ quiet_splices (n + length t) ss h
+quiet_splices n (put o w ∷ ss) h = (λ i. splices_at n (put_before (h.0 i) (h.1 i) (merged ss))) ∙ (after_nothing n (merged ss) ∙ quiet_splices n ss h.2)
+
+put_keep : (o w : List ℕ) (b : ℕ) (t : List ℕ) (ss : List Segment) → put_before o w (keep_before (b ∷ t) ss) ≡ put o w ∷ keep_before (b ∷ t) ss
+put_keep o w b t [] = refl
+put_keep o w b t (keep u ∷ ss) = refl
+put_keep o w b t (put p x ∷ ss) = refl
+
+-- before such ones an exchange is one splice
+put_quiet : (n : ℕ) (o w : List ℕ) (ss : List Segment) → AreQuiet ss → splices_at n (put_before o w (merged ss)) ≡ splice_at n o w
+put_quiet n o w [] h = append-nil (splice_at n o w)
+put_quiet n o w (keep [] ∷ ss) h = put_quiet n o w ss h
+put_quiet n o w (keep (b ∷ t) ∷ ss) h =
+    ap (splices_at n) (put_keep o w b t (merged ss))
+    ∙ (ap (λ (cs : List Splice). splice_at n o w ++ cs) (quiet_splices (n + length w) (keep (b ∷ t) ∷ ss) h) ∙ append-nil (splice_at n o w))
+put_quiet n o w (put p x ∷ ss) h =
+    (λ i. splices_at n (put_before o w (put_before (h.0 i) (h.1 i) (merged ss))))
+    ∙ (ap (splices_at n) (put_twice o w [] [] (merged ss)) ∙ ((λ i. splices_at n (put_before (append-nil o i) (append-nil w i) (merged ss))) ∙ put_quiet n o w ss h.2))
+
+-- ---- a value where a key or dash holds nothing
+
+module _ (v : Node) (h : Held) (none : h.head ≡ []) (no_break : h.break ≡ []) (no_lines : h.lines ≡ []) where
+  abbrev t : List ℕ
+  t = value_text InBlock [] v
+
+  abbrev after : List ℕ
+  after = h.white ++ (h.comment ++ (h.last ++ h.after))
+
+  abbrev left : List Segment
+  left = keep h.white ∷ (keep h.comment ∷ (put h.break [] ∷ (put h.lines [] ∷ (keep h.last ∷ (keep h.after ∷ [])))))
+
+  is_put : inline_put v h ≡ keep h.before ∷ (keep h.space ∷ (put [] (32 ∷ t) ∷ left))
+  is_put = λ i. keep h.before ∷ (keep h.space ∷ (put (none i) (spaced_text (none i) (value_text InBlock (none i) v)) ∷ left))
+
+  pub spaced_puts : PutsOne (inline_put v h) (h.before ++ h.space) [] (32 ∷ value_text InBlock [] v) (h.white ++ (h.comment ++ (h.last ++ h.after)))
+  unfolding changes
+  spaced_puts = subst (λ (ss : List Segment). PutsOne ss (h.before ++ h.space) [] (32 ∷ t) after) (sym is_put)
+      (record {
+        old_is = (λ i. h.before ++ (h.space ++ (h.white ++ (h.comment ++ (no_break i ++ (no_lines i ++ (h.last ++ append-nil h.after i))))))) ∙ sym (append_assoc h.before h.space after);
+        new_is = (λ i. h.before ++ (h.space ++ ((32 ∷ t) ++ (h.white ++ (h.comment ++ (h.last ++ append-nil h.after i)))))) ∙ sym (append_assoc h.before h.space ((32 ∷ t) ++ after));
+        changes_are =
+            after_keep 0 h.before (keep_before h.space (put_before [] (32 ∷ t) (merged left)))
+            ∙ (after_keep (0 + length h.before) h.space (put_before [] (32 ∷ t) (merged left))
+            ∙ (put_quiet (0 + length h.before + length h.space) [] (32 ∷ t) left (no_break, refl, (no_lines, refl, tt))
+            ∙ ap (λ (n : ℕ). splice_at n [] (32 ∷ t)) (omega (arith, length-append h.before h.space))));
+      })
+
+-- ---- where nothing is
+
+-- a key or dash after which nothing is, and nothing under it
+mark_beside : (e : RowsOfEntry) (x : Content) → is_block x ≡ false → is_empty (slices e.row).head ≡ true → e.under ≡ [] → past_mark e x ≡ beside (held e)
+mark_beside e (Nothing tail) plain none bare = ap (below e) bare
+mark_beside e (Inline space node tail) plain none bare = ap (λ (b : Bool). cond b (below e e.under) (beside (held e))) none ∙ ap (below e) bare
+mark_beside e (Block space anchor b) plain none bare = absurd (false≢true (sym plain))
+
+module _ (m : ℕ) (s : Step) (ss : List Step) (d : Cut) (e : RowsOfEntry) (read : read_at (cut_text d) ≡ Some d) (at : rows_of_entry m (s ∷ ss) d ≡ Some e) (h : HasNoHead e) (bare : e.under ≡ []) where
+  there : HasItsRows m s ss d e
+  there = rows_located m s ss d e read at
+
+  no_head : (held e).head ≡ []
+  no_head = is_empty_is (slices e.row).head h.none
+
+  none_below : (slices e.row).raw ++ rows_text e.under [] ≡ []
+  none_below = λ i. no_raw e.row.content h.plain i ++ rows_text (bare i) []
+
+  no_break : (held e).break ≡ []
+  no_break = ap (λ (b : List ℕ). cond (is_empty b) [] (end_in_line [] (slices e.row).tail).after) none_below
+
+  no_lines : (held e).lines ≡ []
+  unfolding less_break
+  no_lines = ap less_break none_below
+
+  module _ (v : Node) (plain : is_filled v ≡ false) where
+    edits_there : op_edits (replace m (s ∷ ss) v) d ≡ cond (keeps_scalar (node_in m (s ∷ ss) d) v) (Some (keep (cut_text d) ∷ [])) (Some (inline_put v (held e)))
+    edits_there =
+        let is : entry_placement e ≡ beside (held e) =
+        ap (λ (b : Bool). cond b (past_mark e e.row.content) (compact_in e)) (eq-eqb e.line (length e.row.dashes) h.last) ∙ mark_beside e e.row.content h.plain h.none bare in
+        let is_located : placement_at m (s ∷ ss) d ≡ Some (beside (held e)) = ap (option_map entry_placement) at ∙ ap Some is in
+        let put : value_put_at m (s ∷ ss) v d ≡ Some (inline_put v (held e)) = search (rules, is_located) in
+        ap (λ (o : Option (List Segment)). cond (keeps_scalar (node_in m (s ∷ ss) d) v) (Some (keep (cut_text d) ∷ [])) (option_or o (option_map (flow_put (cut_text d) v) (flow_placement m d (last_step (s ∷ ss)))))) put
+
+    changes_there : HasOperand (replace m (s ∷ ss) v) → Fits (room_of (cut_text d)) (replace m (s ∷ ss) v) (documents d) → length (new_text (inline_put v (held e))) ≤ text_limit →
+        ExchangesRow m d e (inline_put v (held e))
+    changes_there operand fits size =
+        let known : KnowsHeld m s ss d e there h.last = held_known m s ss d e there h.last read at (ap first_alone bare) in
+        let f = fits_replace m (s ∷ ss) v d there.part there.old.there operand fits in
+        let made : RowMade m d e there.part _ v =
+        nothing_made m s ss d e there h.last known (layout_of m d).br v f (value_text InBlock (held e).head v) (value_for (held e).head v operand f.deep f.long) h.none size in
+        record {
+          part = there.part;
+          there = there.old.there;
+          front = e.front;
+          row = e.row;
+          new = record e.row { content = made.content };
+          back = e.back;
+          rows_are = there.rows_are ∙ ap (λ (us : List Row). e.front ++ (e.row ∷ (us ++ e.back))) bare;
+          front_size = refl;
+          column = refl;
+          dashes = refl;
+          mark = refl;
+          read = made.read;
+        }
+
+-- ---- a value there, wherever it is still
+
+module _ (m : ℕ) (s : Step) (ss : List Step) (v : Node) (c : Cut) (e : RowsOfEntry) (read : read_at (cut_text c) ≡ Some c)
+    (at : rows_of_entry m (s ∷ ss) c ≡ Some e) (h : HasNoHead e) (bare : e.under ≡ []) (plain : is_filled v ≡ false) where
+  abbrev after_mark : List ℕ
+  after_mark = (held e).white ++ ((held e).comment ++ ((held e).last ++ (held e).after))
+
+  abbrev before_mark : List ℕ
+  before_mark = (held e).before ++ (held e).space
+
+  module _ (d : Cut) (read_d : read_at (cut_text d) ≡ Some d) (still : StaysInRows e m (s ∷ ss) d) where
+    abbrev now : RowsOfEntry
+    now = rows_still e still
+
+    holds : HasNoHead now
+    holds = record { last = h.last; plain = h.plain; none = h.none }
+
+    same_node : node_in m (s ∷ ss) d ≡ node_in m (s ∷ ss) c
+    same_node = entry_node m s ss d now (rows_located m s ss d now read_d still.found) h.last ∙ sym (entry_node m s ss c e (rows_located m s ss c e read at) h.last)
+
+    by_kept : (b : Bool) → keeps_scalar (node_in m (s ∷ ss) c) v ≡ b → op_edits (replace m (s ∷ ss) v) d ≡ cond b (Some (keep (cut_text d) ∷ [])) (Some (inline_put v (held now)))
+    by_kept b kept =
+        edits_there m s ss d now read_d still.found holds bare v plain
+        ∙ ap (λ (k : Bool). cond k (Some (keep (cut_text d) ∷ [])) (Some (inline_put v (held now)))) (ap (λ (o : Option Node). keeps_scalar o v) same_node ∙ kept)
+
+    comes : keeps_scalar (node_in m (s ∷ ss) c) v ≡ false → PutsText (replace m (s ∷ ss) v) d now [] (32 ∷ value_text InBlock [] v) after_mark
+    comes other =
+        let edited = by_kept false other in
+        record {
+          segments = inline_put v (held now);
+          front = (held now).before ++ (held now).space;
+          edited = edited;
+          whole = (edit_is (replace m (s ∷ ss) v) d (inline_put v (held now)) read_d edited).old;
+          puts = spaced_puts v (held now) (no_head m s ss d now read_d still.found holds bare) (no_break m s ss d now read_d still.found holds bare) (no_lines m s ss d now read_d still.found holds bare);
+          changes = λ operand fit size. changes_there m s ss d now read_d still.found holds bare v plain operand fit size;
+        }
+
+    pub spaced_so : (w : Option (List ℕ)) → IsSpacedSo (node_in m (s ∷ ss) c) v w → PutsSo (replace m (s ∷ ss) v) d now [] ((held e).white ++ ((held e).comment ++ ((held e).last ++ (held e).after))) w
+    spaced_so None kept = by_kept true kept
+    spaced_so (Some w) other = subst (λ (l : List ℕ). PutsText (replace m (s ∷ ss) v) d now [] l after_mark) (sym other.1) (comes other.0)
+
+  -- where it is
+  pub spaced_text_is : cut_text c ≡ ((held e).before ++ (held e).space) ++ ((held e).white ++ ((held e).comment ++ ((held e).last ++ (held e).after)))
+  spaced_text_is =
+      let w : Held = held e in
+      (held_spells m s ss c e read at h.last).0
+      ∙ ((λ i. w.before ++ (w.space ++ (no_head m s ss c e read at h bare i ++ (w.white ++ (w.comment ++ (no_break m s ss c e read at h bare i ++ (no_lines m s ss c e read at h bare i ++ (w.last ++ w.after))))))))
+      ∙ sym (append_assoc w.before w.space _))
+
+  pieces : HoldsPieces (held e)
+  pieces = (held_spells m s ss c e read at h.last).1
+
+  pub spaced_edge : IsCharBoundary (cut_text c) (length ((held e).before ++ (held e).space))
+  spaced_edge =
+      let w : Held = held e in
+      let left : IsPiece after_mark = subst IsPiece (append_assoc w.white w.comment (w.last ++ w.after)) (pieces_joined (w.white ++ w.comment) (w.last ++ w.after) pieces.line (pieces_joined w.last w.after pieces.last pieces.after)) in
+      IsCharBoundary-at_seam (cut_text c) before_mark _ spaced_text_is left.utf8
+
+-- ---- what the code tells
+
+-- Nothing is written on the line of a key or dash, and what is at it is what it holds there: so nothing is under it.
+module _ (e : RowsOfEntry) (h : Held) (none : is_empty (slices e.row).head ≡ true) where
+  by_under : (us : List Row) → e.under ≡ us → below e us ≡ beside h → e.under ≡ []
+  by_under [] are is = are
+  by_under (r ∷ rs) are is = absurd (go (is_alone r) is)
+    where
+      go : (b : Bool) → cond b (alone (lone (before_entry e ++ print_row e.row []) r (rows_text rs (after_entry e)))) (under (held e) r.column) ≡ beside h → ⊥
+      go true same = absurd (cc)
+      go false same = absurd (cc)
+
+  nothing_there : (x : Content) → past_mark e x ≡ beside h → (is_block x ≡ false) × (e.under ≡ [])
+  nothing_there (Nothing tail) is = (refl, by_under e.under refl is)
+  nothing_there (Inline space node tail) is = (refl, by_under e.under refl (ap (λ (b : Bool). cond b (below e e.under) (beside (held e))) (sym none) ∙ is))
+  nothing_there (Block space anchor b) is = absurd (cc)
+
+  at_line : (b : Bool) → cond b (past_mark e e.row.content) (compact_in e) ≡ beside h → (is_block e.row.content ≡ false) × (e.under ≡ [])
+  at_line true is = nothing_there e.row.content is
+  at_line false is = absurd (cc)
+
+-- a text without bytes is empty
+pub no_bytes : (l : List ℕ) → eqb (length l) 0 ≡ true → is_empty l ≡ true
+no_bytes [] e = refl
+no_bytes (x ∷ l) e = absurd (omega (arith, eqb-true (length (x ∷ l)) 0 e))
+
+-- what the code tells of a value that is put there
+pub spaced_puts_there : (t : List ℕ) (n : ℕ) (steps : List Step) (v : Node) (x : HeldRow) (w : Held) (made : RowPut) → read_at t ≡ Some (cut_of t) → IsHeldRow n steps (cut_of t) x →
+    placement_at n steps (cut_of t) ≡ Some (beside w) → is_empty x.head.now ≡ true → is_filled v ≡ false → HasOperand (replace n steps v) →
+    made.doc ≡ n → made.first ≡ x.row → made.row ≡ x.row → made.start ≡ x.start → made.end ≡ x.start →
+    IsSpacedSo (node_in n steps (cut_of t)) v (bytes_in string_bytes made.written) → PutsInRow (replace n steps v) (cut_of t) made
+spaced_puts_there t n [] v x w made read is placed empty plain operand doc first row start finish written = absurd (no_root_rows n (cut_of t) is.entry is.found)
+spaced_puts_there t n (s ∷ ss) v x w made read is placed empty plain operand doc first row start finish written =
+    let c : Cut = cut_of t in
+    let again : read_at (cut_text c) ≡ Some c = ap read_at (text_read t c read) ∙ read in
+    let e : RowsOfEntry = is.entry in
+    let here : entry_placement e ≡ beside w = same_Some _ _ (sym (ap (option_map entry_placement) is.found) ∙ placed) in
+    let none : is_empty (slices e.row).head ≡ true = ap is_empty (sym is.head) ∙ empty in
+    let known = at_line e w none (eqb e.line (length e.row.dashes)) here in
+    let h : HasNoHead e = record { last = is.last; plain = known.0; none = none } in
+    let text = spaced_text_is n s ss v c e again is.found h known.1 plain in
+    let edge = spaced_edge n s ss v c e again is.found h known.1 plain in
+    let there : x.start ≡ length ((held e).before ++ (held e).space) = is.start ∙ sym (length-append (held e).before (held e).space) in
+    record {
+      place = of_entry (s ∷ ss) e;
+      found = is.found;
+      document = doc;
+      first = first ∙ is.row;
+      row = row ∙ is.row;
+      valid = operand;
+      before = (held e).before ++ (held e).space;
+      old = [];
+      after = (held e).white ++ ((held e).comment ++ ((held e).last ++ (held e).after));
+      text = text;
+      start = start ∙ there;
+      finish = omega (arith, finish, there);
+      starts = subst (IsCharBoundary (cut_text c)) (sym (start ∙ there)) edge;
+      ends = subst (IsCharBoundary (cut_text c)) (sym (finish ∙ there)) edge;
+      there = λ d read_d breaks still. spaced_so n s ss v c e again is.found h known.1 plain d read_d still (bytes_in string_bytes made.written) written;
+    }
