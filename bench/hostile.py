@@ -1,9 +1,10 @@
 """Runs expressions on texts that are made to be slow: each is to take at most 5 s of the processor and 512 MB.
 
-usage: hostile.py PATH_OF_YQ [TENTH]      with TENTH, every tenth of the 1,240 runs alone, from that one on (0 to 9)
+usage: hostile.py PATH_OF_YQ [TENTH]      with TENTH, every tenth of the runs alone, from that one on (0 to 9)
 
-62 texts of 1 MB by 20 expressions. What is refused counts as what is done: here it matters what it takes. Runs that are known to take
-more are listed with their cause (KNOWN): they are run for 5 s at most, and told. The last line is `N within, N known, N above`.
+62 texts of 1 MB by 20 expressions, and 15 texts by one or two of 1 KB. What is refused counts as what is done: here it matters
+what it takes. Runs that are known to take more are listed with their cause (KNOWN): they are run for 5 s at most, and told. The
+last line is `N within, N known, N above`.
 """
 
 import os
@@ -114,19 +115,49 @@ TEXTS = {
     "items between comments": lambda s: lines(lambda n: f"# c\n\n- {n}\n", s),
 }
 
+# Texts of a few large lists, or many small ones, and others, with expressions of their own that write many times as much.
+LISTS = {
+    "in flow": lambda size: "- [" + "1," * (size // 2) + "1]\n",
+    "in blocks": lambda size: "-\n" + "  - 1\n" * (size // 6),
+    "of lists": lambda size: "-\n" + "  - [1]\n" * (size // 8),
+}
+SUMS = [".[] |= " + "+".join(["."] * 500), ".[] |= [" + ",".join(["1"] * 480) + "]"]
+SUMMED = {
+    f"{count} lists {kind}": lambda size, one=one, count=count: one(size // count) * count
+    for kind, one in LISTS.items()
+    for count in (3, 10, 100, 10_000)
+}
+ENTRIES = ".[] += {" + ",".join(f'"k{number}":1' for number in range(100)) + "}"
+BELOW = "del(." + "[]" * 60 + ".a[])"
+OWN = {name: SUMS for name in SUMMED} | {"a long string": SUMS, "mappings and nulls": [ENTRIES], "a list below long keys": [BELOW]}
+TEXTS.update(SUMMED)
+TEXTS["a long string"] = lambda size: "- " + "x" * size + "\n"
+TEXTS["mappings and nulls"] = lambda size: "- {a: 1}\n- null\n" * (size // 16)
+LONG_KEYS = "".join(f"{' ' * n}{n:01000}:\n" for n in range(60))
+TEXTS["a list below long keys"] = lambda size: LONG_KEYS + " " * 60 + "a: [" + "1, " * (size * 3 // 10) + "1]\n"
+
 # What takes more, by its cause: texts, and expressions on them.
-ABOVE = []
+ABOVE = [
+    ("the string of a sum is made, however long", ["a long string"], SUMS[:1]),
+    ("entries that are added to mappings are made, however many", ["mappings and nulls"], [ENTRIES]),
+    ("each removal has its path, with all keys", ["a list below long keys"], [BELOW]),
+]
 KNOWN = {(name, expression): cause for cause, names, expressions in ABOVE for name in names for expression in expressions}
 
 
 def pairs():
     """All runs, in order: the name of a text, and an expression."""
-    return [(name, expression) for name in TEXTS for expression in EXPRESSIONS]
+    return [(name, expression) for name in TEXTS for expression in of_text(name)]
+
+
+def of_text(name):
+    """The expressions that are run on a text."""
+    return OWN.get(name, EXPRESSIONS)
 
 
 def tenth(number):
-    """Every tenth run, from 0 to 9: each text by two expressions."""
-    rows = [(i + j, pair) for i, name in enumerate(TEXTS) for j, pair in enumerate((name, e) for e in EXPRESSIONS)]
+    """Every tenth run, from 0 to 9: most texts by two expressions."""
+    rows = [(i + j, pair) for i, name in enumerate(TEXTS) for j, pair in enumerate((name, e) for e in of_text(name))]
     return [pair for place, pair in rows if place % 10 == number]
 
 
@@ -178,7 +209,7 @@ def main():
                 above += 1
                 word = "above"
             if word:
-                print(f"{name}, {expression}: status {took[0]}, {took[1]:.2f} s, {took[2]:.0f} MB: {word}")
+                print(f"{name}, {expression[:40]}: status {took[0]}, {took[1]:.2f} s, {took[2]:.0f} MB: {word}")
     print(f"{within} within, {known} known, {above} above")
     return 1 if above else 0
 

@@ -1,7 +1,6 @@
 -- How many items and entries documents have after operations that put or append values at places, of which none lies in another.
-use Rattle.std.proofs.Common.{◌≡◌, inr, ℕ, zero, suc, ◌+◌, ◌*◌, ◌<◌, ◌≤◌, Bool, List, [], ◌∷◌, ◌++◌, length, Option, Some, refl, sym, ap}
-use Rattle.std.{proofs.Common.{◌∙◌, subst, arith, append-nil, suc-mul, zero-mul}, proofs.lemmas.Bool.cond_both}
-use Rattle.std.{proofs.lemmas.Option.{none-some, same_Some}, specs.List.slice_get}
+use Rattle.std.proofs.Common.{◌≡◌, inr, ℕ, zero, suc, ◌+◌, ◌<◌, ◌≤◌, Bool, List, [], ◌∷◌, ◌++◌, Option, Some, refl, sym, ap, ◌∙◌, subst}
+use Rattle.std.{proofs.Common.arith, proofs.lemmas.Bool.cond_both, proofs.lemmas.Option.{none-some, same_Some}, specs.List.slice_get}
 use Rattle.yq_core.{specs.PathOrder.Apart, specs.Shapes.IsTree, specs.Paths.{Step, node_at, append_child, within, changed_at}}
 use Rattle.yq_core.specs.Tree.{Node, alias, anchor_of, key_label}
 use Rattle.yq_documents.{specs.Documents.Document, specs.TreeEdits.{led, replaced_node}}
@@ -30,10 +29,11 @@ pub data Gain : ℕ → List Step → ℕ → List Operation → Type 0 where
   appends : {doc : ℕ} {path : List Step} {n : ℕ} {k : Option (List ℕ)} {v : Node} {ops : List Operation} {m : ℕ} → MayBeUtf8 k → IsValueTree v → AreAppends doc path ops m →
       n ≤ suc (items_in v + m) → Gain doc path n (append doc path k v ∷ ops)
 
--- operations do so at each of places, in order
-abbrev pub GainEach : ℕ → ℕ → List FoundPlace → List Operation → Type 0
-GainEach doc n [] ops = ops ≡ []
-GainEach doc n (p ∷ ps) ops = (here : List Operation) × (there : List Operation) × (ops ≡ here ++ there) × Gain doc p.path n here × GainEach doc n ps there
+-- Operations do so at each of the first of places, in order: so many come in all, at least (own).
+pub data GainSome : ℕ → List FoundPlace → ℕ → List Operation → Type 0 where
+  no_more : {doc : ℕ} {ps : List FoundPlace} → GainSome doc ps 0 []
+  one_place : {doc : ℕ} {p : FoundPlace} {ps : List FoundPlace} {m n k : ℕ} {here there : List Operation} → Gain doc p.path m here → GainSome doc ps n there → k ≤ m + n →
+      GainSome doc (p ∷ ps) k (here ++ there)
 
 -- ---- they write values
 
@@ -49,9 +49,9 @@ gain_writes : (doc : ℕ) (path : List Step) (n : ℕ) (ops : List Operation) �
 gain_writes doc path n _ (puts valid most) = (valid, tt)
 gain_writes doc path n _ (appends {ops} {m} utf8 valid all most) = ((utf8, valid), appends_write doc path ops m all)
 
-each_writes : (doc n : ℕ) (ps : List FoundPlace) (ops : List Operation) → GainEach doc n ps ops → AllWrite ops
-each_writes doc n [] ops is = subst AllWrite (sym is) tt
-each_writes doc n (p ∷ ps) ops g = subst AllWrite (sym g.2) (write_both g.0 g.1 (gain_writes doc p.path n g.0 g.3) (each_writes doc n ps g.1 g.4))
+each_writes : (doc n : ℕ) (ps : List FoundPlace) (ops : List Operation) → GainSome doc ps n ops → AllWrite ops
+each_writes doc n ps _ no_more = tt
+each_writes doc n _ _ (one_place {p} {ps} {m} {n = l} {here} {there} g gs most) = write_both here there (gain_writes doc p.path m here g) (each_writes doc l ps there gs)
 
 -- ---- one node after another
 
@@ -194,50 +194,48 @@ gain_one rooms doc n count p ps _ docs (appends {k} {v} {ops} {m} utf8 valid all
       free = s.free.1;
     }
 
-gain_all : (rooms : ℕ → Room) (doc n count : ℕ) (ps : List FoundPlace) (ops : List Operation) (docs : List Document) → GainEach doc n ps ops → AreApart ps → AllFit rooms ops docs → Holds doc count ps docs →
-    count + length ps * n ≤ items_of_all (all_after rooms ops docs)
-gain_all rooms doc n count [] ops docs is apart fits s = subst (λ xs. count + 0 * n ≤ items_of_all (all_after rooms xs docs)) (sym is) (omega (arith, s.size, zero-mul n))
-gain_all rooms doc n count (p ∷ ps) ops docs g apart fits s =
-    let fit = fit_both rooms g.0 g.1 docs (subst (λ xs. AllFit rooms xs docs) g.2 fits) in
-    let last : (count + n) + length ps * n ≤ items_of_all (all_after rooms g.1 (all_after rooms g.0 docs)) =
-    gain_all rooms doc n (count + n) ps g.1 (all_after rooms g.0 docs) g.4 apart.1 fit.1 (gain_one rooms doc n count p ps g.0 docs g.3 apart.0 fit.0 s) in
-    let same : all_after rooms ops docs ≡ all_after rooms g.1 (all_after rooms g.0 docs) = ap (λ xs. all_after rooms xs docs) g.2 ∙ after_join rooms g.0 g.1 docs in
-    omega (arith, last, ap items_of_all same, suc-mul (length ps) n)
+gain_all : (rooms : ℕ → Room) (doc count n : ℕ) (ps : List FoundPlace) (ops : List Operation) (docs : List Document) → GainSome doc ps n ops → AreApart ps → AllFit rooms ops docs → Holds doc count ps docs →
+    count + n ≤ items_of_all (all_after rooms ops docs)
+gain_all rooms doc count n ps _ docs no_more apart fits s = omega (arith, s.size)
+gain_all rooms doc count n _ _ docs (one_place {p} {ps} {m} {n = l} {here} {there} g gs most) apart fits s =
+    let fit = fit_both rooms here there docs fits in
+    let last : (count + m) + l ≤ items_of_all (all_after rooms there (all_after rooms here docs)) =
+    gain_all rooms doc (count + m) l ps there (all_after rooms here docs) gs apart.1 fit.1 (gain_one rooms doc m count p ps here docs g apart.0 fit.0 s) in
+    omega (arith, last, ap items_of_all (after_join rooms here there docs), most)
 
 -- the document in which something comes
 gain_there : (rooms : ℕ → Room) (doc n : ℕ) (path : List Step) (ops : List Operation) (docs : List Document) → Gain doc path n ops → AllFit rooms ops docs → (d : Document) × (slice_get docs doc ≡ Some d)
 gain_there rooms doc n path _ docs (puts valid most) fits = (fits.0.0, fits.0.1)
 gain_there rooms doc n path _ docs (appends utf8 valid all most) fits = (fits.0.0, fits.0.1)
 
-gain_size : (rooms : ℕ → Room) (doc n : ℕ) (ps : List FoundPlace) (ops : List Operation) (docs : List Document) → AreReady rooms 0 docs → GainEach doc n ps ops → AreApart ps → AllFit rooms ops docs →
-    length ps * n ≤ items_of_all (all_after rooms ops docs)
-gain_size rooms doc n [] ops docs ready g apart fits = omega (arith, zero-mul n)
-gain_size rooms doc n (p ∷ ps) ops docs ready g apart fits =
-    let t = gain_there rooms doc n p.path g.0 docs g.3 (fit_both rooms g.0 g.1 docs (subst (λ xs. AllFit rooms xs docs) g.2 fits)).0 in
+gain_size : (rooms : ℕ → Room) (doc n : ℕ) (ps : List FoundPlace) (ops : List Operation) (docs : List Document) → AreReady rooms 0 docs → GainSome doc ps n ops → AreApart ps → AllFit rooms ops docs →
+    n ≤ items_of_all (all_after rooms ops docs)
+gain_size rooms doc n ps _ docs ready no_more apart fits = omega arith
+gain_size rooms doc n _ _ docs ready (one_place {p} {ps} {m} {n = l} {here} {there} g gs most) apart fits =
+    let t = gain_there rooms doc m p.path here docs g (fit_both rooms here there docs fits).0 in
     let d : Document = t.0 in
     let same : at_once (done_by []) d.root ≡ d.root = idle (done_by []) d.root (λ q. refl) in
-    omega (
-      arith,
-      gain_all rooms doc n 0 (p ∷ ps) ops docs g apart fits (record {
-        d = d;
-        nth = t.1;
-        first = d.root;
-        tree = root_is_tree rooms 0 doc docs d ready t.1;
-        done = done_by [];
-        takes = done_by [];
-        root = sym same;
-        size = omega (arith, ap items_in same, nth_holds doc docs d t.1);
-        left = none_done (p ∷ ps);
-        free = none_done (p ∷ ps);
-      }),
-    )
+    let all : 0 + n ≤ items_of_all (all_after rooms (here ++ there) docs) =
+    gain_all rooms doc 0 n (p ∷ ps) (here ++ there) docs (one_place g gs most) apart fits (record {
+      d = d;
+      nth = t.1;
+      first = d.root;
+      tree = root_is_tree rooms 0 doc docs d ready t.1;
+      done = done_by [];
+      takes = done_by [];
+      root = sym same;
+      size = omega (arith, ap items_in same, nth_holds doc docs d t.1);
+      left = none_done (p ∷ ps);
+      free = none_done (p ∷ ps);
+    }) in
+    omega (arith, all)
 
--- operations by which so many items and entries come at each of places, too many for a text
-pub by_gains : (doc n : ℕ) (ps : List FoundPlace) (ops : List Operation) → GainEach doc n ps ops → AreApart ps → items_limit < length ps * n → BeginsOversized ops
-by_gains doc n ps ops g apart more = record {
+-- operations by which too many items and entries come for a text at the first of places, and others after them
+pub by_gains : (doc n : ℕ) (ps : List FoundPlace) (ops others : List Operation) → GainSome doc ps n ops → AreApart ps → items_limit < n → BeginsOversized (ops ++ others)
+by_gains doc n ps ops others g apart more = record {
   first = ops;
-  others = [];
-  split = sym (append-nil ops);
+  others = others;
+  split = refl;
   write = each_writes doc n ps ops g;
   more = λ rooms docs ready fits. omega (arith, more, gain_size rooms doc n ps ops docs ready g apart fits);
 }

@@ -1,13 +1,14 @@
 -- Sums of lists of known sizes.
-use Rattle.std.proofs.Common.{◌≡◌, ℕ, ◌<◌, arith, false, List, [], ◌∷◌, ◌++◌, None, refl, sym, ap, subst, ◌∙◌}
+use Rattle.std.proofs.Common.{◌≡◌, inl, inr, ℕ, ◌+◌, ◌<◌, ◌≤◌, max, arith, false, List, [], ◌∷◌, ◌++◌, None, refl, sym, ap, subst, ◌∙◌}
 use Rattle.std.proofs.lemmas.Str.{IsUtf8-string_bytes}
 use Rattle.yq_core.{specs.Paths.append_children, specs.Tree.{Node, alias, scalar, list, Children, none, child}}
 use Rattle.yq_flow_edits.specs.Valued.{IsValueTree, AreValueTrees}
 use Rattle.yq_planner.{specs.ListSizes.HasSize, specs.declared.updating.list_size.ListSize.ListSize, specs.Substitutes.IsSubstitute}
 use Rattle.yq_semantics.{specs.Judgement.{Judgement, and_then, gives}, specs.Places.FoundPlace}
-use Rattle.yq_semantics.{specs.Program.{Term, PathStep, key, index, each}, specs.RightValues.{is_null, as_items, sum, sum_from, term_value}}
+use Rattle.yq_semantics.specs.Program.{Term, PathStep, key, index, each}
+use Rattle.yq_semantics.{specs.RightValues.{is_null, as_items, right_value, sum, sum_from, term_value}, specs.Sizes.items_in}
 use Rattle.yq_semantics.specs.View.{program_step}
-use Rattle.yq_expr.specs.Oversized.{items_limit, AddsItems, AreItemsOf, GivesList, ReplacesOversized, HaveUtf8Keys}
+use Rattle.yq_expr.specs.Oversized.{items_limit, AddsItems, AreItemsOf, GiveItems, GivesList, GivesOversized, ReplacesList, HaveUtf8Keys}
 use Rattle.yq_eval.{specs.PlaceView.{missing_link, missing_of}, specs.declared.matching.place.Missing.Missing}
 use Rattle.yq_eval.specs.declared.matching.place.Missing.TheFolds.{fold-roll-Missing, ind-Missing, map-Missing}
 use Rattle.yq_eval.specs.declared.matching.place.Missing.TheOpen.{Missing-F}
@@ -41,14 +42,53 @@ one_more doc p ds t ts total size with_it h k both =
       sym (ap (and_then (λ v. and_then (λ w. sum_from doc p w ts) (sum (list None ds) v))) k.1 ∙ ap (and_then (λ w. sum_from doc p w ts)) (added_list ds u k.2)),
     )
 
--- the list of known size that a judgement gives is too large for a text, and a small one stands for it
-pub too_large : (j : Judgement Node) (size : ListSize) (w : Node) → GivesList j size → items_limit < size.items → ((v : Node) → HasSize v size → IsSubstitute v w) → ReplacesOversized j w
-too_large j size w h more small = (
-  list None h.0,
-  h.1,
-  record { items = h.0; is = refl; valid = (refl, h.2.valid); more = omega (arith, more, h.2.sized.many) },
-  small (list None h.0) h.2.sized,
-)
+-- the list of known size that a judgement gives is too large for a text
+pub too_large : (j : Judgement Node) (size : ListSize) → GivesList j size → items_limit < size.items → GivesOversized j
+too_large j size h more = (list None h.0, h.1, record { items = h.0; is = refl; valid = (refl, h.2.valid); more = omega (arith, more, h.2.sized.many) })
+
+-- a small one stands for it
+pub small_list : (j : Judgement Node) (size : ListSize) (w : Node) → GivesList j size → ((v : Node) → HasSize v size → IsSubstitute v w) → ReplacesList j w
+small_list j size w h small = (list None h.0, h.1, (h.0, refl), small (list None h.0) h.2.sized)
+
+-- a list has as many items and entries at least after it got a value as are in that
+pub added_items : (v : Node) → items_in v ≤ items_in (list None (as_items v))
+added_items (alias n) = omega arith
+added_items (scalar a k t) = omega arith
+added_items (list a cs) = omega arith
+added_items (tree.map a cs) = omega arith
+
+-- a size with as many items and entries as are known of a value
+pub more_items : (v : Node) (size more : ListSize) (count : ℕ) → HasSize (list None (as_items v)) size → count ≤ items_in v → more.depth ≡ size.depth → more.items ≡ max size.items count →
+    HasSize (list None (as_items v)) more
+more_items v size more count h most deep items = record {
+  label = h.label;
+  first = h.first;
+  others = h.others;
+  is = h.is;
+  fit = h.fit;
+  deep = deep ∙ h.deep;
+  many = omega (arith, most, added_items v, h.many, items);
+}
+
+-- ---- items and entries of the sums of terms, from the first of places
+
+module _ (doc : ℕ) (right : List Term) where
+  pub none_given : (ps : List FoundPlace) → GiveItems doc right ps 0
+  none_given [] = refl
+  none_given (p ∷ ps) = inl refl
+
+  pub fewer_given : (ps : List FoundPlace) (n k : ℕ) → GiveItems doc right ps n → k ≤ n → GiveItems doc right ps k
+  fewer_given [] n k is h = omega (arith, is, h)
+  fewer_given (p ∷ ps) n k (inl is) h = inl (omega (arith, is, h))
+  fewer_given (p ∷ ps) n k (inr (v, m, found, valid, others, most)) h = inr (v, m, found, valid, others, omega (arith, most, h))
+
+  -- those of a list of known size at one place more
+  pub one_given : (p : FoundPlace) (ps : List FoundPlace) (size : ListSize) (m : ℕ) → GivesList (right_value doc right p) size → GiveItems doc right ps m → GiveItems doc right (p ∷ ps) (size.items + m)
+  one_given p ps size m g h = inr (list None g.0, m, g.1, (refl, g.2.valid), h, omega (arith, g.2.sized.many))
+
+  -- what was counted so far, where no more is
+  pub given_so_far : (ps qs : List FoundPlace) (count : ℕ) → ((m : ℕ) → GiveItems doc right qs m → GiveItems doc right ps (count + m)) → GiveItems doc right ps count
+  given_so_far ps qs count so_far = fewer_given ps (count + 0) count (so_far 0 (none_given qs)) (omega arith)
 
 -- ---- keys, which are UTF-8, as each text of the code
 

@@ -9,7 +9,7 @@ use Rattle.yq_semantics.{specs.Program.{Stage, Term, Update, assign, delete, com
 use Rattle.yq_semantics.{specs.PlacesApart.AreApart, specs.View.update_of, proofs.JudgementLaws.{gives_same, then_gives}}
 use Rattle.yq_semantics.proofs.updates.Each.{joined_gives}
 use Rattle.yq_expr.specs.Oversized.{BeginsLarge, BeginsOversized, GivesAt, GivesOversizedOps, HaveUtf8Keys, IsOversized, IsSpread}
-use Rattle.yq_expr.{proofs.OversizedLaws.missing_keys, proofs.SpreadOps.{AllHaveUtf8Keys, adds_begin, puts_begin}}
+use Rattle.yq_expr.{proofs.OversizedLaws.missing_keys, proofs.SpreadOps.{AllHaveUtf8Keys, adds_begin, modified_begins, puts_begin}}
 use Rattle.yq_expr.{specs.Parts.{document_ops, rest_ops}, specs.declared.document.DocumentRoot.DocumentRoot}
 use Rattle.yq_expr.proofs.PartLaws.{changes_both, ops_join, ops_there, rest_there}
 use Rattle.yq_documents.specs.Documents.{Document}
@@ -85,7 +85,14 @@ places_keys (p ∷ ps) = (missing_keys p.missing, places_keys ps)
 pub document_large : (d : DocumentRoot) (u : declared.Update) (room : Room) (ps : List FoundPlace) → places d.doc (left_pipe (update_of u)) (node_of d.root) ≡ gives ps → AreApart ps → (place : ℕ) (qs : List found.FoundPlace) →
     drop place ps ≡ places_of qs → BeginsLarge d u qs → GivesOversizedOps (document_ops (update_of u) d.doc room (node_of d.root) place)
 document_large d u room ps is apart place qs there (inl h) = document_begins (update_of u) d.doc room (node_of d.root) ps is place h.0 h.1 (there ∙ h.2) h.3.0 h.3.1
-document_large d u room ps is apart place qs there (inr g) = λ ops h.
+document_large d u room ps is apart place qs there (inr (inl g)) = λ ops h.
+    let root = node_of d.root in
+    let all = sym (ops_there (update_of u) d.doc room root ps is place) ∙ h in
+    let cs = then_gives (λ xs. gives (ops_of d.doc xs)) (changes_at d.doc room root (update_of u) (drop place ps)) ops all in
+    let changed = (λ i. changes_at d.doc room root (sym g.by i) (sym there i)) ∙ cs.1 in
+    subst BeginsOversized (gives_same cs.2)
+    (modified_begins d.doc root g.right (places_of qs) g.count cs.0 (places_keys qs) (subst AreApart there (rest_apart place ps apart)) g.found g.more changed)
+document_large d u room ps is apart place qs there (inr (inr g)) = λ ops h.
     let root = node_of d.root in
     let all = sym (ops_there (update_of u) d.doc room root ps is place) ∙ h in
     let cs = then_gives (λ xs. gives (ops_of d.doc xs)) (changes_at d.doc room root (update_of u) (drop place ps)) ops all in

@@ -1,17 +1,19 @@
 -- The operations of a value that is put at places, or of a list that is added: what comes at each place.
 use Rattle.std.proofs.Common.{◌≡◌, ℕ, zero, suc, ◌+◌, ◌*◌, ◌<◌, ◌≤◌, map, Option, Bool, true, false, List, [], ◌∷◌, ◌++◌, length, None}
-use Rattle.std.{proofs.Common.{if◌then◌else◌, refl, sym, ap, ◌∙◌, subst, arith, append-nil, mul-zero}, specs.List.list_any}
+use Rattle.std.proofs.Common.{if◌then◌else◌, refl, sym, ap, ◌∙◌, subst, arith, append-nil, append_assoc, inl, inr, mul-zero, suc-mul}
+use Rattle.std.{proofs.Common.zero-mul, specs.List.list_any}
 use Rattle.yq_core.{specs.Tree.{Label, Node, alias, scalar, list, Children, none, child}, specs.Paths.Step}
 use Rattle.yq_flow_edits.specs.Valued.{IsValueTree, AreValueTrees}
 use Rattle.yq_semantics.specs.Changes.{Changed, Change, replaces, add_at, add_below, added, additions, all_allowed, at_each, created}
 use Rattle.yq_semantics.{specs.Changes.{nested, put_below, put_with_path}, specs.Judgement.{Judgement, and_then, gives, refuses}}
-use Rattle.yq_semantics.{specs.Places.FoundPlace, specs.Plans.{add_op, change_ops, ops_of}}
-use Rattle.yq_semantics.{specs.Program.{is_index, PathStep, key, index, each}, specs.RightValues.is_null}
+use Rattle.yq_semantics.{specs.Operations.Operation, specs.Places.FoundPlace, specs.Plans.{add_op, change_ops, ops_of}}
+use Rattle.yq_semantics.{specs.Program.{is_index, PathStep, Term, key, index, each}, specs.RightValues.{is_null, right_value}}
 use Rattle.yq_semantics.{specs.Sizes.{items_in, items_among}, proofs.JudgementLaws.{gives_same, then_gives}}
 use Rattle.yq_semantics.{proofs.updates.Each.joined_gives, proofs.updates.Planned.all_same}
 use Rattle.yq_semantics.{specs.declared.refusal.Refusal.TheVariants.{IndexOutOfRange, KindMismatch}, specs.PlacesApart.AreApart}
-use Rattle.yq_expr.specs.Oversized.{BeginsOversized, HaveUtf8Keys, IsList, items_limit}
-use Rattle.yq_expr.{proofs.GrowthLaws.{AreAppends, Gain, GainEach, appended, appends, by_gains, nothing, puts}, proofs.PartLaws.ops_join}
+use Rattle.yq_expr.specs.Oversized.{BeginsOversized, GiveItems, HaveUtf8Keys, IsList, items_limit}
+use Rattle.yq_expr.proofs.GrowthLaws.{AreAppends, Gain, GainSome, no_more, one_place, appended, appends, by_gains, nothing, puts}
+use Rattle.yq_expr.proofs.PartLaws.{ops_join}
 use Rattle.yq_core.specs.Tree as tree
 
 -- the keys that are missing at each of places are UTF-8
@@ -132,21 +134,56 @@ first_changed doc root f p ps cs h =
     }
 
 each_comes : (doc n : ℕ) (root : Node) (f : FoundPlace → Judgement (List Changed)) → ((p : FoundPlace) (ds : List Changed) → HaveUtf8Keys p.missing → f p ≡ gives ds → Gain doc p.path n (ops_of doc ds)) →
-    (ps : List FoundPlace) (cs : List Changed) → AllHaveUtf8Keys ps → at_each root f ps ≡ gives cs → GainEach doc n ps (ops_of doc cs)
-each_comes doc n root f comes [] cs keys h = ap (ops_of doc) (sym (gives_same h))
+    (ps : List FoundPlace) (cs : List Changed) → AllHaveUtf8Keys ps → at_each root f ps ≡ gives cs → GainSome doc ps (length ps * n) (ops_of doc cs)
+each_comes doc n root f comes [] cs keys h = subst (λ k. GainSome doc [] k (ops_of doc cs)) (sym (zero-mul n)) (subst (GainSome doc [] 0) (ap (ops_of doc) (gives_same h)) no_more)
 each_comes doc n root f comes (p ∷ ps) cs keys h =
     let w = first_changed doc root f p ps cs h in
-    (ops_of doc w.here, ops_of doc w.there, w.split, comes p w.here keys.0 w.first, each_comes doc n root f comes ps w.there keys.1 w.others)
+    subst (GainSome doc (p ∷ ps) (length (p ∷ ps) * n)) (sym w.split) (one_place (comes p w.here keys.0 w.first) (each_comes doc n root f comes ps w.there keys.1 w.others) (omega (arith, suc-mul (length ps) n)))
+
+-- ---- at the first of places, another value at each
+
+-- operations begin with some by which so many items and entries come
+record BeginsWith (doc : ℕ) (ps : List FoundPlace) (n : ℕ) (ops : List Operation) : Type 0 where
+  first : List Operation
+  others : List Operation
+  split : ops ≡ first ++ others
+  gains : GainSome doc ps n first
+
+modified_comes : (doc : ℕ) (root : Node) (right : List Term) (ps : List FoundPlace) (n : ℕ) (cs : List Changed) → AllHaveUtf8Keys ps → GiveItems doc right ps n →
+    at_each root (λ p. and_then (put_with_path p) (right_value doc right p)) ps ≡ gives cs → BeginsWith doc ps n (ops_of doc cs)
+modified_comes doc root right [] n cs keys is h = record { first = []; others = ops_of doc cs; split = refl; gains = subst (λ k. GainSome doc [] k []) (sym is) no_more }
+modified_comes doc root right (p ∷ ps) n cs keys (inl is) h = record { first = []; others = ops_of doc cs; split = refl; gains = subst (λ k. GainSome doc (p ∷ ps) k []) (sym is) no_more }
+modified_comes doc root right (p ∷ ps) n cs keys (inr (v, m, found, valid, others, most)) h =
+    let f : FoundPlace → Judgement (List Changed) = λ q. and_then (put_with_path q) (right_value doc right q) in
+    let w = first_changed doc root f p ps cs h in
+    let here = put_path doc v valid p w.here keys.0 (sym (ap (and_then (put_with_path p)) found) ∙ w.first) in
+    let rest = modified_comes doc root right ps m w.there keys.1 others w.others in
+    record {
+      first = ops_of doc w.here ++ rest.first;
+      others = rest.others;
+      split = w.split ∙ (ap (λ xs. ops_of doc w.here ++ xs) rest.split ∙ sym (append_assoc (ops_of doc w.here) rest.first rest.others));
+      gains = one_place here rest.gains most;
+    }
+
+pub modified_begins : (doc : ℕ) (root : Node) (right : List Term) (ps : List FoundPlace) (n : ℕ) (cs : List Changed) → AllHaveUtf8Keys ps → AreApart ps → GiveItems doc right ps n → items_limit < n →
+    at_each root (λ p. and_then (put_with_path p) (right_value doc right p)) ps ≡ gives cs → BeginsOversized (ops_of doc cs)
+modified_begins doc root right ps n cs keys apart found more h =
+    let b = modified_comes doc root right ps n cs keys found h in
+    subst BeginsOversized (sym b.split) (by_gains doc n ps b.first b.others b.gains apart more)
 
 -- a product that is more than something has no factor 0
 factor_some : (m n k : ℕ) → k < m * n → 0 < n
 factor_some m zero k h = absurd (omega (arith, h, mul-zero m))
 factor_some m (suc n) k h = omega arith
 
+-- operations by which too many items and entries come for a text
+all_gain : (doc n : ℕ) (ps : List FoundPlace) (ops : List Operation) → GainSome doc ps n ops → AreApart ps → items_limit < n → BeginsOversized ops
+all_gain doc n ps ops g apart more = subst BeginsOversized (append-nil ops) (by_gains doc n ps ops [] g apart more)
+
 module _ (doc : ℕ) (root v : Node) (valid : IsValueTree v) (ps : List FoundPlace) (keys : AllHaveUtf8Keys ps) (apart : AreApart ps) (more : items_limit < length ps * items_in v) (cs : List Changed) where
   -- a value that is put at places
   pub puts_begin : at_each root (λ p. put_with_path p v) ps ≡ gives cs → BeginsOversized (ops_of doc cs)
-  puts_begin h = by_gains doc (items_in v) ps (ops_of doc cs) (each_comes doc (items_in v) root (λ p. put_with_path p v) (put_path doc v valid) ps cs keys h) apart more
+  puts_begin h = all_gain doc (length ps * items_in v) ps (ops_of doc cs) (each_comes doc (items_in v) root (λ p. put_with_path p v) (put_path doc v valid) ps cs keys h) apart more
 
   -- a list that is added there
   pub adds_begin : IsList v → at_each root (λ p. add_at p v) ps ≡ gives cs → BeginsOversized (ops_of doc cs)
@@ -155,5 +192,5 @@ module _ (doc : ℕ) (root v : Node) (valid : IsValueTree v) (ps : List FoundPla
       let ok : IsValueTree (list None items) = subst IsValueTree g.1 valid in
       let many : items_limit < length ps * items_among items = subst (λ w. items_limit < length ps * items_in w) g.1 more in
       let each : at_each root (λ p. add_at p (list None items)) ps ≡ gives cs = subst (λ w. at_each root (λ p. add_at p w) ps ≡ gives cs) g.1 h in
-      by_gains doc (items_among items) ps (ops_of doc cs)
+      all_gain doc (length ps * items_among items) ps (ops_of doc cs)
       (each_comes doc (items_among items) root (λ p. add_at p (list None items)) (add_path doc items ok.1 (factor_some (length ps) (items_among items) items_limit many)) ps cs keys each) apart many

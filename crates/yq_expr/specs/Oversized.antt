@@ -1,6 +1,6 @@
 -- Values that no text can hold, once or at many places, since they have more items and entries than a text may have (own).
-use Rattle.std.specs.Prelude.{◌≡◌, ◌<◌, ◌*◌, ◌⊎◌, ℕ, false, List, [], ◌∷◌, ◌++◌, length, map, if◌then◌else◌, Option, Some, None, ⊤, Bool}
-use Rattle.std.{specs.Prelude.{Result, ◌≤◌, true, IfOk, IfSome}, specs.Str.IsUtf8, specs.declared.alloc.AllocError.AllocError}
+use Rattle.std.specs.Prelude.{◌≡◌, ◌+◌, ◌<◌, ◌*◌, ◌⊎◌, ℕ, false, List, [], ◌∷◌, ◌++◌, length, map, if◌then◌else◌, Option, Some, None, ⊤}
+use Rattle.std.{specs.Prelude.{Bool, Result, ◌≤◌, true, IfOk, IfSome}, specs.Str.IsUtf8, specs.declared.alloc.AllocError.AllocError}
 use Rattle.yq_core.{specs.Tree.{Node, list, Children}, specs.Values.value_node, specs.declared.value.Value.Value}
 use Rattle.yq_documents.specs.Documents.{Document}
 use Rattle.yq_flow_edits.specs.Valued.{IsValueTree, AreValueTrees}
@@ -49,9 +49,13 @@ pub record IsOversized (v : Node) : Type 0 where
 abbrev pub GivesOversized : Judgement Node → Type 0
 GivesOversized j = (v : Node) × (j ≡ gives v) × IsOversized v
 
--- a judgement gives such a list, and a small one is refused where that is (own)
-abbrev pub ReplacesOversized : Judgement Node → Node → Type 0
-ReplacesOversized j w = (v : Node) × (j ≡ gives v) × IsOversized v × IsSubstitute v w
+-- a value is a list (own)
+abbrev pub IsList : Node → Type 0
+IsList v = (cs : Children) × (v ≡ list None cs)
+
+-- a judgement gives a list, and a small one is refused where that is (own)
+abbrev pub ReplacesList : Judgement Node → Node → Type 0
+ReplacesList j w = (v : Node) × (j ≡ gives v) × IsList v × IsSubstitute v w
 
 -- what a term gives, from a place (own)
 abbrev pub found_term : ℕ → place.FoundPlace → term.Term → Judgement Node
@@ -100,10 +104,6 @@ MakesThere d u p = MakesOversized d u (place_of p)
 abbrev pub MakesFirst : DocumentRoot → declared.Update → List place.FoundPlace → Type 0
 MakesFirst d u ps = FirstMakesOversized d u (places_of ps)
 
--- a value is a list (own)
-abbrev pub IsList : Node → Type 0
-IsList v = (cs : Children) × (v ≡ list None cs)
-
 -- A valid value is put, or is a list that is added, so many times that no text can hold all items and entries (own).
 pub record IsSpread (adds : Bool) (v : Node) (count : ℕ) : Type 0 where
   pub valid : IsValueTree v
@@ -120,9 +120,23 @@ pub record SpreadsTooMany (d : DocumentRoot) (u : declared.Update) (count : ℕ)
   pub found : right_value d.doc right (root_place (node_of d.root)) ≡ gives value
   pub spreads : IsSpread adds value count
 
+-- in the valid values of terms, each from one of the first of places, are so many items and entries at least (own)
+abbrev pub GiveItems : ℕ → List Term → List FoundPlace → ℕ → Type 0
+GiveItems doc right [] n = n ≡ 0
+GiveItems doc right (p ∷ ps) n = (n ≡ 0) ⊎ ((v : Node) × (m : ℕ) × (right_value doc right p ≡ gives v) × IsValueTree v × GiveItems doc right ps m × (n ≤ items_in v + m))
+
+-- An assignment puts at each of places what is found from there, too many items and entries for a text (own).
+pub record ModifiesTooMuch (d : DocumentRoot) (u : declared.Update) (ps : List place.FoundPlace) : Type 0 where
+  pub left : List Stage
+  pub right : List Term
+  pub count : ℕ
+  pub by : update_of u ≡ assign left operator.Modify right
+  pub found : GiveItems d.doc right (places_of ps) count
+  pub more : items_limit < count
+
 -- an update begins at places with what no text can hold (own)
 abbrev pub BeginsLarge : DocumentRoot → declared.Update → List place.FoundPlace → Type 0
-BeginsLarge d u ps = MakesFirst d u ps ⊎ SpreadsTooMany d u (length ps)
+BeginsLarge d u ps = MakesFirst d u ps ⊎ (ModifiesTooMuch d u ps ⊎ SpreadsTooMany d u (length ps))
 
 -- a key is UTF-8, if there is one (own)
 abbrev pub MayBeUtf8 : Option (List ℕ) → Type 0
@@ -173,6 +187,6 @@ pub record EndsPartAt (document : DocumentRoot) (update : declared.Update) (plac
 abbrev pub EndsPart : DocumentRoot → declared.Update → ℕ → OpenPart → OpenPart → Result (Option ℕ) ExprError → Type 0
 EndsPart document update place before after result = IfOk result (λ o. IfSome o (EndsPartAt document update place before after))
 
--- a small value is refused where the sum of terms is, which no text can hold (own)
+-- a small value is refused where the sum of terms is, a list (own)
 abbrev pub ReplacesSum : ℕ → place.FoundPlace → List term.Term → Value → Type 0
-ReplacesSum doc p ts w = ReplacesOversized (found_sum doc p ts) (value_node w)
+ReplacesSum doc p ts w = ReplacesList (found_sum doc p ts) (value_node w)

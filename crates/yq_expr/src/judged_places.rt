@@ -9,7 +9,7 @@ ghost use Rattle.yq_eval.specs.TreeScalars.{HasScalars, HaveScalars};
 use crate::at_places::push_effect;
 use crate::document::{DocumentEffect, DocumentPlaces};
 use crate::effect::Action;
-use crate::oversized::oversized;
+use crate::oversized::small_sum;
 use std::alloc::Global;
 use yq_documents::Documents;
 use yq_eval::{FoundPlace, FoundPlaces, at_place};
@@ -33,7 +33,7 @@ fn judge_effect<'a, 't>(
     at_place(alloc, place, pushed)
 }
 
-/// The same, where the value that a place gets is found from there: by a small value, if no text can hold it.
+/// The same, where the value that a place gets is found from there: by a small value, if that may be large.
 fn judge_place<'a, 't>(
     alloc: Global,
     cut: &mut CutText<'_, '_>,
@@ -49,7 +49,7 @@ fn judge_place<'a, 't>(
     };
     let text = cut.text();
     let length = text.front.len().saturating_add(text.back.len());
-    match oversized(alloc, effect.doc, terms, place, length)? {
+    match small_sum(alloc, effect.doc, terms, place, length)? {
         None => judge_effect(alloc, cut, effect, place),
         Some(small) => {
             let put = DocumentEffect::of(effect.doc, effect.aliases, Action::Put(&small));

@@ -15,7 +15,7 @@ use crate::changes::left;
 use crate::document::{DocumentPlaces, DocumentRoot};
 use crate::effect::Action;
 use crate::judged_places::judge_found;
-use crate::oversized::oversized;
+use crate::oversized::small_sum;
 use crate::right_value::right_value;
 use bumpalo::Bump;
 use std::alloc::{AllocError, Global};
@@ -144,7 +144,7 @@ fn judge_right<'a, 't>(
 {
     let from = FoundPlace::of_root(&found.document.root);
     let length = found.document.text_length();
-    if let Some(small) = oversized(alloc, found.document.doc, right, &from, length)? {
+    if let Some(small) = small_sum(alloc, found.document.doc, right, &from, length)? {
         return judge_one(alloc, found, aliases, adds, &small);
     }
     let value = right_value(alloc, found.document.doc, right, &from)?;

@@ -8,6 +8,7 @@ mod document;
 mod effect;
 mod fixed;
 mod heavy;
+mod item_counts;
 mod judged_places;
 mod judging;
 mod many_keys;

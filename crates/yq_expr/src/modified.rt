@@ -7,19 +7,72 @@ ghost use Rattle.yq_expr.specs.Parts.{values_limit};
 ghost use Rattle.yq_failure.specs.declared.failure.Failure.TheVariants as failure;
 
 use crate::document::DocumentRoot;
-use crate::oversized::oversized;
+use crate::oversized::may_be_large;
 use crate::path_weights::path_weight;
-use crate::right_value::right_value;
+use crate::right_value::{right_value, term_value};
+use crate::same_term::{count_same, stays};
 use crate::weights::{VALUES_LIMIT, ValueWeight, weight};
 use bumpalo::Bump;
-use std::alloc::Global;
+use std::alloc::{AllocError, Global};
+use yq_core::{Kind, Value};
 use yq_documents::Documents;
 use yq_eval::{FoundPlace, find};
-use yq_nodes::Node;
+use yq_nodes::{Node, NodeKind};
 use yq_semantics::{Assignment, ExprError, Stage, Term};
 
-/// How many bytes the value takes that terms give from a place in a document: as many as a number may say, where
-/// no text can hold it; nothing, where they are refused.
+/// How many bytes the value of a term takes; nothing, where it is refused.
+fn term_weight<'a, 't>(
+    alloc: Global,
+    doc: usize,
+    term: &'a Term,
+    place: &FoundPlace<'a, 't>,
+) -> Result<usize, AllocError>
+    requires { HasScalars (place_of place.now).node }
+{
+    if let Term::Literal(value) = term {
+        return Ok(weight(value));
+    }
+    match term_value(alloc, doc, term, place) {
+        Ok(value) => Ok(weight(&value)),
+        Err(ExprError::Fault(_)) => Ok(0),
+        Err(ExprError::Memory) => Err(AllocError),
+    }
+}
+
+/// How many bytes the values of terms take together. Terms that are known to be the same are weighed once.
+fn terms_weight<'a, 't>(
+    alloc: Global,
+    doc: usize,
+    terms: &'a [Term],
+    place: &FoundPlace<'a, 't>,
+) -> Result<usize, AllocError>
+    requires { HasScalars (place_of place.now).node }
+{
+    let mut sum = 0usize;
+    let mut rest = terms;
+    'terms: while let [term, after @ ..] = rest {
+        let again = count_same(term, after);
+        let weight = term_weight(alloc, doc, term, place)?;
+        sum = sum.saturating_add(weight.saturating_mul(again + 1));
+        rest = &after[again..];
+    }
+    Ok(sum)
+}
+
+/// Whether the sum of terms takes as much as their values, more or less: the first one is a list, or a string.
+fn adds_up<'a>(terms: &[Term], place: &FoundPlace<'a, '_>) -> bool {
+    match terms {
+        [Term::Literal(Value::List(_)), ..] => true,
+        [Term::Pipe(pipe), ..] if stays(pipe) => match place.found() {
+            Some(node) => matches!(node.kind(), NodeKind::List | NodeKind::Scalar(Kind::Text)),
+            None => false,
+        },
+        _ => false,
+    }
+}
+
+/// How many bytes the value takes that terms give from a place in a document, more or less; nothing, where they are
+/// refused.
 fn value_there<'a, 't>(
     alloc: Global,
     document: &DocumentRoot<'a, 't>,
@@ -29,8 +82,8 @@ fn value_there<'a, 't>(
     requires { HasScalars (place_of place.now).node }
     ensures { IfErr result (λ e. e ≡ failure.Memory) }
 {
-    if let Some(_small) = oversized(alloc, document.doc, right, place, document.text_length())? {
-        return Ok(usize::MAX);
+    if may_be_large(right, document.text_length()) && adds_up(right, place) {
+        return Ok(terms_weight(alloc, document.doc, right, place)?);
     }
     match right_value(alloc, document.doc, right, place) {
         Ok(value) => Ok(weight(&value)),

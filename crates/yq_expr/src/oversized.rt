@@ -1,11 +1,16 @@
 //! Sums that no text can hold: lists of more items than a text may have, known by their sizes and never made.
-ghost use Rattle.std.specs.Prelude.{◌≡◌, IfOk, true};
-ghost use Rattle.yq_expr.{specs.FixedPaths.IfAny, specs.Oversized.{AddsItems, GivesList, MakesFirst, MakesThere, SumsFrom}};
+ghost use Rattle.std.specs.Prelude.{◌≡◌, IfOk, None, true};
+ghost use Rattle.yq_core.{specs.Tree.list, specs.Values.value_node};
+ghost use Rattle.yq_flow_edits.specs.Valued.{IsValueTree};
+ghost use Rattle.yq_planner.specs.ListSizes.{HasSize};
+ghost use Rattle.yq_semantics.{specs.Judgement.gives, specs.RightValues.as_items};
+ghost use Rattle.yq_expr.{specs.FixedPaths.IfAny, specs.Oversized.{AddsItems, GivesList, GivesOversized, MakesFirst, MakesThere, SumsFrom}};
 ghost use Rattle.yq_nodes.specs.Nodes.{node_of};
 ghost use Rattle.yq_eval.{specs.PlaceView.{place_of, places_of}, specs.TreeScalars.{HasScalars, HaveScalars}};
 ghost use Rattle.yq_expr.specs.Oversized as spec;
 
 use crate::document::DocumentRoot;
+use crate::item_counts::count_in;
 use crate::right_value::term_value;
 use crate::same_term::is_same_term;
 use crate::weights::assignment;
@@ -20,8 +25,40 @@ use yq_text::TEXT_LIMIT;
 /// How many items a text may have: each takes two bytes at least.
 pub(crate) const ITEMS_LIMIT: usize = TEXT_LIMIT / 2;
 
-/// How large the list is of what a list gets from the value of a term; nothing, where the term is refused, or
-/// its value is null, or may not be written.
+/// How large the list is of what a list gets from a value, as far as that is known.
+fn size_of_items(alloc: Global, value: &Value) -> Result<Option<ListSize>, AllocError>
+    ensures size { IfAny result (HasSize (list None (as_items (value_node value.now)))) }
+    ensures valid { IfAny result (λ _. IsValueTree (value_node value.now)) }
+{
+    let Some(size) = added_size(alloc, value)? else {
+        return Ok(None);
+    };
+    Ok(Some(ListSize {
+        depth: size.depth,
+        items: size.items.max(count_in(value)),
+    }))
+}
+
+/// The same; nothing, where the value is null, may not be written, or is the first of a sum and no list.
+fn size_of_value(
+    alloc: Global,
+    value: &Value,
+    is_first: bool,
+) -> Result<Option<ListSize>, AllocError>
+    ensures adds { IfAny result (AddsItems (gives (value_node value.now))) }
+    ensures list { is_first ≡ true → IfAny result (GivesList (gives (value_node value.now))) }
+{
+    let is_list = match value {
+        Value::List(_) => true,
+        Value::Scalar(_) | Value::Map(_) => false,
+    };
+    if is_null(value) || (is_first && !is_list) {
+        return Ok(None);
+    }
+    size_of_items(alloc, value)
+}
+
+/// The same of the value of a term; nothing, where the term is refused.
 fn size_of_term<'a, 't>(
     alloc: Global,
     doc: usize,
@@ -33,19 +70,14 @@ fn size_of_term<'a, 't>(
     ensures adds { IfAny result (AddsItems (spec.found_term doc place.now term.now)) }
     ensures list { is_first ≡ true → IfAny result (GivesList (spec.found_term doc place.now term.now)) }
 {
-    let value = match term_value(alloc, doc, term, place) {
-        Ok(value) => value,
-        Err(ExprError::Fault(_)) => return Ok(None),
-        Err(ExprError::Memory) => return Err(AllocError),
-    };
-    let is_list = match value {
-        Value::List(_) => true,
-        Value::Scalar(_) | Value::Map(_) => false,
-    };
-    if is_null(&value) || (is_first && !is_list) {
-        return Ok(None);
+    if let Term::Literal(value) = term {
+        return size_of_value(alloc, value, is_first);
     }
-    added_size(alloc, &value)
+    match term_value(alloc, doc, term, place) {
+        Ok(value) => size_of_value(alloc, &value, is_first),
+        Err(ExprError::Fault(_)) => Ok(None),
+        Err(ExprError::Memory) => Err(AllocError),
+    }
 }
 
 /// The same of a term, where the size is known for the term before it.
@@ -109,9 +141,38 @@ fn size_of_sum<'a, 't>(
     size_with_terms(alloc, doc, (first, size), others, place)
 }
 
-/// A small list that is refused where the sum of terms is, if that is a list that no text can hold. The terms
-/// are looked at only where so many of them may make one, in a text of that length.
-pub(crate) fn oversized<'a, 't>(
+/// Whether a term is a list or a mapping.
+fn is_collection(term: &Term) -> bool {
+    match term {
+        Term::Literal(Value::List(_) | Value::Map(_)) => true,
+        Term::Literal(Value::Scalar(_)) | Term::Pipe(_) => false,
+    }
+}
+
+/// Whether the sum of terms may be so large that it is worth a look before it is made, in a text of that length.
+pub(crate) fn may_be_large(terms: &[Term], length: usize) -> bool {
+    terms.len().saturating_mul(length) > TEXT_LIMIT || terms.iter().any(|term| is_collection(term))
+}
+
+/// How large the sum of terms is, where that is a list that may be large.
+pub(crate) fn sum_size<'a, 't>(
+    alloc: Global,
+    doc: usize,
+    terms: &'a [Term],
+    place: &FoundPlace<'a, 't>,
+    length: usize,
+) -> Result<Option<ListSize>, AllocError>
+    requires { HasScalars (place_of place.now).node }
+    ensures { IfAny result (GivesList (spec.found_sum doc place.now terms.now)) }
+{
+    if !may_be_large(terms, length) {
+        return Ok(None);
+    }
+    size_of_sum(alloc, doc, terms, place)
+}
+
+/// A small list that is refused where the sum of terms is, if that is a list that may be large, in a text of that length.
+pub(crate) fn small_sum<'a, 't>(
     alloc: Global,
     doc: usize,
     terms: &'a [Term],
@@ -121,17 +182,29 @@ pub(crate) fn oversized<'a, 't>(
     requires { HasScalars (place_of place.now).node }
     ensures { IfAny result (spec.ReplacesSum doc place.now terms.now) }
 {
-    if terms.len().saturating_mul(length) <= TEXT_LIMIT {
-        return Ok(None);
-    }
-    let Some(size) = size_of_sum(alloc, doc, terms, place)? else {
+    let Some(size) = sum_size(alloc, doc, terms, place, length)? else {
         return Ok(None);
     };
-    if size.items <= ITEMS_LIMIT {
-        return Ok(None);
-    }
     let small = list_of_size(alloc, &size)?;
     Ok(Some(small))
+}
+
+/// Whether the sum of terms is a list that no text can hold, in a text of that length.
+pub(crate) fn is_oversized<'a, 't>(
+    alloc: Global,
+    doc: usize,
+    terms: &'a [Term],
+    place: &FoundPlace<'a, 't>,
+    length: usize,
+) -> Result<bool, AllocError>
+    requires { HasScalars (place_of place.now).node }
+    ensures { IfOk result (λ b. b ≡ true →
+        GivesOversized (spec.found_sum doc place.now terms.now)) }
+{
+    match sum_size(alloc, doc, terms, place, length)? {
+        Some(size) => Ok(size.items > ITEMS_LIMIT),
+        None => Ok(false),
+    }
 }
 
 /// The place from which the value of an assignment is found that a place gets.
@@ -165,10 +238,8 @@ fn is_oversized_at<'a, 't>(
     };
     let from = value_start(assignment.operator, &document.root, place);
     let right: &[Term] = &assignment.right;
-    match oversized(alloc, document.doc, right, &from, document.text_length())? {
-        None => Ok(false),
-        Some(_small) => Ok(true),
-    }
+    let is_large = is_oversized(alloc, document.doc, right, &from, document.text_length())?;
+    Ok(is_large)
 }
 
 /// The same at the first of places, if there is one.

@@ -1,13 +1,14 @@
 //! Values that are added, or put, at so many places that no text can hold all their items and entries.
-ghost use Rattle.std.specs.Prelude.{◌≡◌, ◌<◌, ◌≤◌, ◌*◌, IfOk, true};
-ghost use Rattle.yq_core.specs.Values.{entries_of, items_of, value_node};
-ghost use Rattle.yq_semantics.specs.Sizes.{items_among, items_in};
+ghost use Rattle.std.specs.Prelude.{◌≡◌, ◌<◌, ◌*◌, IfOk, map, true};
+ghost use Rattle.yq_core.specs.Values.{value_node};
 ghost use Rattle.yq_nodes.specs.Nodes.{node_of};
 ghost use Rattle.yq_eval.{specs.PlaceView.places_of, specs.TreeScalars.{HasScalars, HaveScalars}};
-ghost use Rattle.yq_expr.specs.Oversized.{BeginsLarge, IsList, IsSpread, SpreadsTooMany, items_limit};
+ghost use Rattle.yq_semantics.specs.View.{term_of};
+ghost use Rattle.yq_expr.specs.Oversized.{BeginsLarge, GiveItems, IsList, IsSpread, ModifiesTooMuch, SpreadsTooMany, items_limit};
 
 use crate::document::DocumentRoot;
-use crate::oversized::{ITEMS_LIMIT, begins_oversized};
+use crate::item_counts::count_in;
+use crate::oversized::{ITEMS_LIMIT, begins_oversized, sum_size};
 use crate::right_value::right_value;
 use crate::weights::assignment;
 use std::alloc::{AllocError, Global};
@@ -16,42 +17,6 @@ use yq_eval::FoundPlace;
 use yq_flow_edits::value_holds;
 use yq_semantics::{ExprError, Operator, Term, Update};
 use yq_text::TEXT_LIMIT;
-
-/// How many items and entries are in a value, at any depth: so many at least.
-#[cycle(count)]
-fn count_in(value: &Value) -> usize
-    ensures { result ≤ items_in (value_node value.now) }
-{
-    match value {
-        Value::Scalar(_) => 0,
-        Value::List(items) => count_items(items),
-        Value::Map(entries) => count_entries(entries),
-    }
-}
-
-/// How many these items are, with what is in them: so many at least.
-#[cycle(count)]
-fn count_items(items: &Vec<Value>) -> usize
-    ensures { result ≤ items_among (items_of items.now.items) }
-{
-    let mut count = 0usize;
-    'each: for item in items {
-        count = count.saturating_add(count_in(item)).saturating_add(1);
-    }
-    count
-}
-
-/// The same of entries.
-#[cycle(count)]
-fn count_entries(entries: &Vec<(String, Value)>) -> usize
-    ensures { result ≤ items_among (entries_of entries.now.items) }
-{
-    let mut count = 0usize;
-    'each: for entry in entries {
-        count = count.saturating_add(count_in(&entry.1)).saturating_add(1);
-    }
-    count
-}
 
 /// Whether a value is a list.
 fn is_list(value: &Value) -> bool
@@ -112,6 +77,55 @@ fn spreads_too_many<'a>(
     }
 }
 
+/// How many items and entries are in the sums of terms, each from one of the first of places: so many at least, and no
+/// more are counted where they are more than a text may have, or a sum is no list of known size.
+fn count_sums<'a, 't>(
+    alloc: Global,
+    document: &DocumentRoot<'a, 't>,
+    right: &'a [Term],
+    places: &[FoundPlace<'a, 't>],
+) -> Result<usize, AllocError>
+    requires { HaveScalars (places_of places.now) }
+    ensures { IfOk result (GiveItems document.now.doc (map term_of right.now) (places_of places.now)) }
+{
+    let length = document.text_length();
+    let mut count = 0usize;
+    'places: for place in places {
+        if count > ITEMS_LIMIT {
+            return Ok(count);
+        }
+        let Some(size) = sum_size(alloc, document.doc, right, place, length)? else {
+            return Ok(count);
+        };
+        count = count.saturating_add(size.items);
+    }
+    Ok(count)
+}
+
+/// Whether the values of an assignment that are found from places are lists with more items and entries than a text
+/// may have, those of the first places together.
+fn modifies_too_much<'a, 't>(
+    alloc: Global,
+    update: &'a Update,
+    document: &DocumentRoot<'a, 't>,
+    places: &[FoundPlace<'a, 't>],
+) -> Result<bool, AllocError>
+    requires { HaveScalars (places_of places.now) }
+    ensures { IfOk result (λ b. b ≡ true → ModifiesTooMuch document.now update.now places.now) }
+{
+    let Some(assignment) = assignment(update) else {
+        return Ok(false);
+    };
+    match assignment.operator {
+        Operator::Set | Operator::Add => Ok(false),
+        Operator::Modify => {
+            let right: &[Term] = &assignment.right;
+            let count = count_sums(alloc, document, right, places)?;
+            Ok(count > ITEMS_LIMIT)
+        }
+    }
+}
+
 /// Whether an update begins at places with what no text can hold.
 pub(crate) fn begins_large<'a, 't>(
     alloc: Global,
@@ -124,6 +138,9 @@ pub(crate) fn begins_large<'a, 't>(
     ensures { IfOk result (λ b. b ≡ true → BeginsLarge document.now update.now places.now) }
 {
     if begins_oversized(alloc, update, document, places)? {
+        return Ok(true);
+    }
+    if modifies_too_much(alloc, update, document, places)? {
         return Ok(true);
     }
     spreads_too_many(alloc, update, document, places.len())

@@ -7,7 +7,7 @@ ghost use Rattle.yq_expr.specs.Parts.{IsInOrder};
 ghost use Rattle.yq_failure.specs.declared.failure.Failure.TheVariants as failure;
 
 use crate::document::DocumentRoot;
-use crate::oversized::oversized;
+use crate::oversized::is_oversized;
 use crate::right_value::right_value;
 use std::alloc::{AllocError, Global};
 use yq_core::Value;
@@ -127,7 +127,7 @@ fn value_weight<'a>(
         return Ok(0);
     };
     let from = FoundPlace::of_root(&document.root);
-    if let Some(_small) = oversized(alloc, document.doc, right, &from, document.text_length())? {
+    if is_oversized(alloc, document.doc, right, &from, document.text_length())? {
         return Ok(usize::MAX);
     }
     let value = right_value(alloc, document.doc, right, &from)?;
@@ -166,8 +166,8 @@ pub(crate) fn sole_weight<'a>(
         return Ok(0);
     };
     let from = FoundPlace::of_root(&document.root);
-    match oversized(alloc, document.doc, right, &from, document.text_length())? {
-        Some(_) => Ok(usize::MAX),
-        None => Ok(0),
+    if is_oversized(alloc, document.doc, right, &from, document.text_length())? {
+        return Ok(usize::MAX);
     }
+    Ok(0)
 }

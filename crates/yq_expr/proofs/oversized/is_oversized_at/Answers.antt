@@ -3,9 +3,9 @@ use Rattle.yq_nodes.specs.Nodes.{node_of}
 use Rattle.yq_expr.proofs.OversizedLaws.{missing_keys}
 use Rattle.yq_expr.proofs.oversized.is_oversized_at.Goals as goal
 
-pub returns-in-Some-2 : goal.returns-in-Some-2
-returns-in-Some-2 c = λ _.
+pub returns : goal.returns
+returns c = λ is.
     let root = node_of c.args.document.now.root in
     let a = c.in-Some.assignment.now in
-    let large = rw c.in-Some-2.is at c.in_ok-oversized.ensures in
+    let large = c.in_ok-is_large.ensures is in
     search (rules, missing_keys c.args.place.now.missing, c.assignment.ensures, c.value_start-from.ensures, large)

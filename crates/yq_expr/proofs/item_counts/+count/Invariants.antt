@@ -1,7 +1,7 @@
 use Rattle.std.proofs.Common.{◌+◌, ◌≤◌, drop}
 use Rattle.yq_core.specs.Values.{entries_of, items_of}
 use Rattle.yq_semantics.specs.Sizes.{items_among}
-use Rattle.yq_expr.proofs.spread.+count.Given as goal
+use Rattle.yq_expr.proofs.item_counts.+count.Given as goal
 
 abbrev pub invariant-count_items-each : goal.invariant-count_items-each
 invariant-count_items-each l = l.count + items_among (items_of (drop l.item-index l.item-items)) ≤ items_among (items_of l.item-items)
