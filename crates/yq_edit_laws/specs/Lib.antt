@@ -1,4 +1,5 @@
 pub mod EditPlaces
+pub mod FlowRemovals
 pub mod Emptying
 pub mod PartPuts
 pub mod NearParts

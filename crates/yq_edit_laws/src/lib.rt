@@ -21,6 +21,6 @@ pub use edit::{last_step, unchanged};
 pub use near::{collection_near, part_index, part_near};
 pub use operands::operand_holds;
 pub use put::{put_in_flow, put_in_node};
-pub use remove::{read_above, remove_in_flow};
+pub use remove::remove_or_read;
 pub use sole::emptying;
 pub use ways::on_the_way;

@@ -1,20 +1,21 @@
 //! Items and entries removed from flow collections.
-ghost use Rattle.std.specs.Prelude.{◌≡◌, ◌-◌, IfOk, IfSome, IsTrue, None, Some, false, if◌then◌else◌, length, option_map};
+ghost use Rattle.std.specs.Prelude.{◌≡◌, ◌-◌, IfOk, IfSome, IsTrue, None, Some, false, if◌then◌else◌, length, map, option_map};
+ghost use Rattle.yq_core.specs.Entries.{tree_step};
 ghost use Rattle.yq_flow_edits.specs.FlowPlaces.{edit_view};
-ghost use Rattle.yq_documents.{specs.Located.steps_of, specs.Reading.cut_of};
-ghost use Rattle.yq_edit_rules.{specs.Answers.GivesSegments, specs.Edits.part_removed};
-ghost use Rattle.yq_lookup.specs.RowFronts.{found_summary};
+ghost use Rattle.yq_lookup.specs.RowFronts.{found_summary, summary_along};
 ghost use Rattle.yq_places.specs.NodesAt.{node_view};
+ghost use Rattle.yq_core.specs.Paths as path;
 ghost use Rattle.yq_inline.specs.Neighbours as inline;
 ghost use Rattle.yq_places.specs.NodesAt as nodes;
-ghost use Rattle.yq_places.specs.Placements as placements;
+ghost use Rattle.yq_edit_laws.specs.FlowRemovals as removals;
 ghost use Rattle.yq_edit_laws.specs.EditPlaces as spec;
 
 use crate::edit::{edit_at, last_step, place_in};
 use std::alloc::{AllocError, Global};
+use yq_core::Step;
 use yq_documents::Path;
 use yq_flow_edits::{EditPlace, remove_between};
-use yq_inline::{Neighbours, PassedPart, collection_end, part_neighbours};
+use yq_inline::{LeadingNode, Neighbours, PassedPart, collection_end, part_neighbours};
 use yq_lookup::{CutText, FoundNode};
 use yq_places::NodeAt;
 use yq_text::Segments;
@@ -51,38 +52,6 @@ fn place_between(piece: &str, part: Neighbours<'_>) -> Option<EditPlace>
     remove_between(piece, before, start, end, next_in(total, part.next))
 }
 
-/// An item or entry removed from a flow collection, by what is found above it, with the white space and comma that go
-/// with it; `None` where the path leads to no part of a flow collection, or to a sole one.
-///
-/// # Errors
-/// [`AllocError`] where memory is refused.
-pub fn remove_in_flow<'d>(
-    alloc: Global,
-    cut: &CutText<'_, 'd>,
-    path: &Path,
-    above: &FoundNode<'_, 'd>,
-) -> Result<Option<Segments<'d>>, AllocError>
-    requires { spec.IsFoundAbove cut.now path.now above.now }
-    ensures { GivesSegments result (part_removed path.now.doc (cut_of cut.now)
-        (placements.last_step (steps_of path.now))) }
-{
-    let Some((_, last)) = last_step(&path.steps) else {
-        return Ok(None);
-    };
-    let FoundNode::InFlow(front, before, left) = above else {
-        return Ok(None);
-    };
-    let Some(part) = part_neighbours(*front, left, last) else {
-        return Ok(None);
-    };
-    let text = cut.text();
-    let Some(place) = place_between(front.text, part) else {
-        return Ok(None);
-    };
-    let nothing = String::new(alloc);
-    edit_at(alloc, text, *before, place, nothing)
-}
-
 /// Whether nothing is beside an item or entry.
 fn is_alone(part: Neighbours<'_>) -> bool
     ensures before { IsTrue result → part.entry.before ≡ None }
@@ -102,37 +71,74 @@ fn sole_kind<'t>(keyed: bool) -> NodeAt<'t>
     }
 }
 
-/// What is known of the flow collection in which a path ends, by where it is found, if nothing is beside the item or
-/// entry at the path.
-fn sole_in_flow<'t>(path: &Path, above: &FoundNode<'_, '_>) -> Option<NodeAt<'t>>
-    ensures { IfSome result (λ node. Some (node_view node) ≡ found_summary above.now) }
+/// What is known of the flow collection to which steps lead in the node in front of a text, if the only item or entry in
+/// it is this one.
+fn sole_in_flow<'t>(
+    front: LeadingNode<'_>,
+    left: &[Step],
+    part: Neighbours<'_>,
+) -> Option<NodeAt<'t>>
+    ensures { (s : path.Step) → inline.FindsAround (map tree_step left.now) s front.entry (Some part.entry) →
+        IfSome result (λ node. Some (node_view node) ≡ summary_along (map tree_step left.now) front.entry) }
 {
-    let (_, last) = last_step(&path.steps)?;
-    let FoundNode::InFlow(front, _before, left) = above else {
-        return None;
-    };
-    let part = part_neighbours(*front, left, last)?;
     if !is_alone(part) {
         return None;
     }
-    let end = collection_end(*front, left)?;
+    let end = collection_end(front, left)?;
     Some(sole_kind(end.keyed))
 }
 
-/// What the node is in which a path ends, by where it is found, if there is one. A flow collection is not read where
-/// nothing is beside the item or entry at the path.
+/// An item or entry removed from a flow collection, by what is found above it, with the white space and comma that go
+/// with it; `None` where the path leads to no part of a flow collection, or to a sole one. Of the collection of a sole
+/// one it comes with what is known.
+fn removed_or_sole<'d>(
+    alloc: Global,
+    cut: &CutText<'_, 'd>,
+    path: &Path,
+    above: &FoundNode<'_, 'd>,
+) -> Result<(Option<Segments<'d>>, Option<NodeAt<'d>>), AllocError>
+    requires { spec.IsFoundAbove cut.now path.now above.now }
+    ensures removed { IfOk result (λ x. removals.removed_at cut.now path.now ≡ x.0) }
+    ensures sole { IfOk result (λ x. IfSome x.1 (λ node.
+        Some (node_view node) ≡ found_summary above.now)) }
+{
+    let Some((_, last)) = last_step(&path.steps) else {
+        return Ok((None, None));
+    };
+    let FoundNode::InFlow(front, before, left) = above else {
+        return Ok((None, None));
+    };
+    let Some(part) = part_neighbours(*front, left, last) else {
+        return Ok((None, None));
+    };
+    let text = cut.text();
+    let Some(place) = place_between(front.text, part) else {
+        return Ok((None, sole_in_flow(*front, left, part)));
+    };
+    let nothing = String::new(alloc);
+    let segments = edit_at(alloc, text, *before, place, nothing)?;
+    Ok((segments, None))
+}
+
+/// An item or entry removed from a flow collection, by what is found above it; or else what the node there is, if there
+/// is one. A flow collection is not read where nothing is beside the item or entry at the path.
 ///
 /// # Errors
 /// [`AllocError`] where memory is refused.
-pub fn read_above<'t>(
+pub fn remove_or_read<'d>(
     alloc: Global,
+    cut: &CutText<'_, 'd>,
     path: &Path,
-    above: FoundNode<'_, 't>,
-) -> Result<Option<NodeAt<'t>>, AllocError>
-    ensures { IfOk result (λ o. option_map node_view o ≡ found_summary above.entry) }
+    above: FoundNode<'_, 'd>,
+) -> Result<(Option<Segments<'d>>, Option<NodeAt<'d>>), AllocError>
+    requires { spec.IsFoundAbove cut.now path.now above }
+    ensures removed { IfOk result (λ x. removals.removed_at cut.now path.now ≡ x.0) }
+    ensures above { IfOk result (λ x. x.0 ≡ None → option_map node_view x.1 ≡ found_summary above.entry) }
 {
-    if let Some(node) = sole_in_flow(path, &above) {
-        return Ok(Some(node));
+    let (segments, sole) = removed_or_sole(alloc, cut, path, &above)?;
+    if segments.is_some() || sole.is_some() {
+        return Ok((segments, sole));
     }
-    above.read(alloc)
+    let node = above.read(alloc)?;
+    Ok((None, node))
 }

@@ -18,9 +18,7 @@ use yq_block_edits::{
 };
 use yq_core::Value;
 use yq_documents::Path;
-use yq_edit_laws::{
-    append_in_flow, emptying, last_step, put_in_flow, read_above, remove_in_flow, unchanged,
-};
+use yq_edit_laws::{append_in_flow, emptying, last_step, put_in_flow, remove_or_read, unchanged};
 use yq_lookup::{CutText, NodeAt};
 use yq_semantics::Op;
 use yq_text::Segments;
@@ -149,11 +147,10 @@ fn removed<'d>(
         return Ok(None);
     };
     let found = cut.node_found(alloc, path.doc, steps)?;
-    let inside = remove_in_flow(alloc, cut, path, &found)?;
+    let (inside, above) = remove_or_read(alloc, cut, path, found)?;
     if let Some(segments) = inside {
         return Ok(Some(segments));
     }
-    let above = read_above(alloc, path, found)?;
     match above {
         Some(above) => rows_or_sole(alloc, cut, path, &above),
         None => Ok(None),

@@ -1,27 +1,23 @@
-use Rattle.std.proofs.Common.{◌∙◌, List, ℕ, map, Some, sym, ap, subst, rules}
+use Rattle.std.proofs.Common.{◌∙◌, List, ℕ, map, Some, sym, ap}
 use Rattle.yq_text.specs.Halves.{whole}
 use Rattle.yq_core.specs.Entries.{tree_step}
 use Rattle.yq_flow_edits.specs.FlowPlaces.{edit_view}
 use Rattle.yq_documents.specs.Located.{steps_of}
 use Rattle.yq_places.specs.Placements.{last_step}
 use Rattle.yq_lookup.specs.RowFronts.{flow_found}
-use Rattle.yq_edit_rules.specs.Answers.{GivesSegments}
 use Rattle.yq_edit_laws.{specs.EditPlaces.{edit_segments, moved_on}, proofs.FlowAnswers.whole_text, proofs.PiecePlaces.Front}
-use Rattle.yq_edit_laws.proofs.RemoveAnswers.{before_offset, no_part, outside_flow, removal_found, removal_missing}
-use Rattle.yq_edit_laws.proofs.remove.remove_in_flow.Goals as goal
+use Rattle.yq_edit_laws.proofs.RemoveAnswers.{before_offset, no_part, removal_found, removal_missing}
+use Rattle.yq_edit_laws.proofs.remove.removed_or_sole.Goals as goal
 
-pub returns-in_default-above : goal.returns-in_default-above
-returns-in_default-above c = search (rules, outside_flow)
-
-pub returns-in_default-part_neighbours : goal.returns-in_default-part_neighbours
-returns-in_default-part_neighbours c =
+pub returns-in_default-part_neighbours-clause-removed : goal.returns-in_default-part_neighbours-clause-removed
+returns-in_default-part_neighbours-clause-removed c =
     let last = c.in-Some.ensures ∙ ap (λ ss. last_step (map tree_step ss)) c.deref.ensures.value in
     let x : Front = (c.in-InFlow.front, c.in-InFlow.before, c.in-InFlow.left) in
     let w = before_offset c.args.cut.now c.args.path.now _ (tree_step c.in-Some.last.now) c.args.above.now x last c.requires (ap flow_found c.in-InFlow.is) in
     no_part c.args.cut.now c.args.path.now.doc (steps_of c.args.path.now) _ (tree_step c.in-Some.last.now) last x w c.in_default-part_neighbours.ensures
 
-pub returns-in_default-place_between : goal.returns-in_default-place_between
-returns-in_default-place_between c =
+pub returns-in_default-place_between-clause-removed : goal.returns-in_default-place_between-clause-removed
+returns-in_default-place_between-clause-removed c =
     let last = c.in-Some.ensures ∙ ap (λ ss. last_step (map tree_step ss)) c.deref.ensures.value in
     let x : Front = (c.in-InFlow.front, c.in-InFlow.before, c.in-InFlow.left) in
     let w = before_offset c.args.cut.now c.args.path.now _ (tree_step c.in-Some.last.now) c.args.above.now x last c.requires (ap flow_found c.in-InFlow.is) in
@@ -39,8 +35,8 @@ edit_at-requires c =
           c.in-Some-part_neighbours.part c.in-Some-part_neighbours.ensures (whole c.text-text.result) (edit_view c.in-Some-place_between.place) all c.in-Some-place_between.ensures).lies;
     }
 
-pub returns : goal.returns
-returns c =
+pub returns-clause-removed : goal.returns-clause-removed
+returns-clause-removed c =
     let last = c.in-Some.ensures ∙ ap (λ ss. last_step (map tree_step ss)) c.deref.ensures.value in
     let x : Front = (c.in-InFlow.front, c.in-InFlow.before, c.in-InFlow.left) in
     let w = before_offset c.args.cut.now c.args.path.now _ (tree_step c.in-Some.last.now) c.args.above.now x last c.requires (ap flow_found c.in-InFlow.is) in
@@ -48,4 +44,4 @@ returns c =
     let u = removal_found c.args.cut.now c.args.path.now.doc (steps_of c.args.path.now) _ (tree_step c.in-Some.last.now) last x w c.text-text.ensures.read
     c.in-Some-part_neighbours.part c.in-Some-part_neighbours.ensures (whole c.text-text.result) (edit_view c.in-Some-place_between.place) all c.in-Some-place_between.ensures in
     let nothing = ap (λ (l : List ℕ). Some (edit_segments (whole c.text-text.result) (moved_on c.in-InFlow.before (edit_view c.in-Some-place_between.place)) l)) (sym c.new-nothing.ensures.bytes) in
-    subst (GivesSegments c.edit_at.result) (sym (u.is ∙ nothing)) c.edit_at.ensures
+    u.is ∙ (nothing ∙ c.in_ok-segments.ensures)
