@@ -4,7 +4,7 @@ pub mod LeftPlaceLaws
 pub mod LeftLoops
 pub mod RunEdits
 pub mod ErasedLines
-pub mod GivenRows
+pub mod ExchangedRows
 pub mod RowRunLaws
 pub mod RowRunAnswers
 pub mod HeadRowLaws

@@ -18,7 +18,7 @@ use Rattle.yq_edit_laws.{proofs.CutLaws.{cut_read, text_read}, proofs.EntryNodeL
 use Rattle.yq_edit_laws.{proofs.LoneRows.{PutsLone, lone_puts_root, lone_puts_under}, proofs.RowEditLaws.{lone_edits, lone_puts}}
 use Rattle.yq_batch.specs.RowRuns.{IsLoneRow, IsRowsPlace, IsWrittenSo, PutsInRow, PutsSo, PutsText, RowsPlace, StaysThere, bytes_in}
 use Rattle.yq_batch.{specs.RowRuns.{first_at, of_lone, of_root, place_rows, rows_now}, specs.declared.row_put.RowPut.RowPut}
-use Rattle.yq_batch.{proofs.GivenRows.exchanges_row, proofs.RowHeadLaws.row_number}
+use Rattle.yq_batch.{proofs.ExchangedRows.exchanges_row, proofs.RowHeadLaws.row_number}
 use Rattle.yq_batch.proofs.LonePlaces.{IsLoneRoot, IsLoneUnder, lone_root, lone_under, root_node, root_is_there, under_is_there}
 
 -- In a cut a node is alone on its line, and is the one of the first cut, as are the texts from it on.

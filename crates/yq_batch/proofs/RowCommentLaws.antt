@@ -18,7 +18,7 @@ use Rattle.yq_semantics.specs.Operations.{line_comment}
 use Rattle.yq_edit_laws.{proofs.LineCommentLaws.line_comments_change_rows, proofs.RowEditLaws.row_edits}
 use Rattle.yq_edit_laws.{proofs.CutLaws.{cut_read, text_read}, proofs.HeldRows.{mark_end, mark_tail}, proofs.EditsHold.edit_is}
 use Rattle.yq_batch.specs.RowRuns.{PutsInRow, PutsSo, PutsText, bytes_in, of_entry, rows_still, white_left}
-use Rattle.yq_batch.{specs.declared.row_put.RowPut.RowPut, proofs.GivenRows.exchanges_row}
+use Rattle.yq_batch.{specs.declared.row_put.RowPut.RowPut, proofs.ExchangedRows.exchanges_row}
 
 module _ (n : ℕ) (s : Step) (ss : List Step) (text : List ℕ) (c : Cut) (e : RowsOfEntry) (read : read_at (cut_text c) ≡ Some c) (at : rows_of_entry n (s ∷ ss) c ≡ Some e) (last : e.line ≡ length e.row.dashes) where
   abbrev lower : List ℕ

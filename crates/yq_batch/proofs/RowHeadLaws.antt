@@ -18,7 +18,7 @@ use Rattle.yq_semantics.{specs.Meaning.head_comment_lines, specs.Operations.head
 use Rattle.yq_edit_laws.{proofs.HeadCommentLaws.head_comments_change_rows, proofs.RowEditLaws.row_edits}
 use Rattle.yq_edit_laws.{proofs.CutLaws.{cut_read, text_read}, proofs.EditsHold.edit_is}
 use Rattle.yq_batch.{specs.RowRuns.{PutsInRow, PutsSo, PutsText, bytes_in, of_entry, rows_still}, specs.declared.row_put.RowPut.RowPut}
-use Rattle.yq_batch.proofs.GivenRows.{exchanges_row}
+use Rattle.yq_batch.proofs.ExchangedRows.{exchanges_row}
 use Rattle.yq_documents.specs.LinesInRows as lines
 
 -- an empty head comment has no lines, and others end alike by the same break

@@ -19,7 +19,7 @@ use Rattle.yq_semantics.{specs.Fits.Fits, specs.Operations.replace, specs.Rooms.
 use Rattle.yq_edit_laws.{proofs.RowEditLaws.row_edits, proofs.CutLaws.{cut_read, text_read}, proofs.HeldRows.{head_there, headless_there}}
 use Rattle.yq_edit_laws.{proofs.InlineChangeLaws.inline_values_change_rows, proofs.MarkHeads.no_raw, proofs.EditsHold.edit_is}
 use Rattle.yq_batch.specs.RowRuns.{IsWrittenSo, PutsInRow, PutsSo, PutsText, bytes_in, of_entry, rows_still}
-use Rattle.yq_batch.{specs.declared.row_put.RowPut.RowPut, proofs.GivenRows.exchanges_row}
+use Rattle.yq_batch.{specs.declared.row_put.RowPut.RowPut, proofs.ExchangedRows.exchanges_row}
 
 is_there : (o : Option Node) → is_some o ≡ true → (x : Node) × (o ≡ Some x)
 is_there None e = absurd (false≢true e)

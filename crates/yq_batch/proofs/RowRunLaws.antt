@@ -15,7 +15,7 @@ use Rattle.yq_edit_laws.{proofs.CutLaws.{cut_read, text_read}, specs.Carried.{ca
 use Rattle.yq_edit_laws.{specs.Edit.{by_reading, edit_of_segments, exchange_edit, gives, refuses}, specs.Theorems.IsFitting}
 use Rattle.yq_edit_laws.proofs.ApplyLaws.{fits}
 use Rattle.yq_batch.{specs.RowRuns.{DocumentsStayFrom, ExchangesRow, IsRowRun, PutsText}, specs.Runs.text_with_run}
-use Rattle.yq_batch.proofs.GivenRows.{given_documents, given_entries}
+use Rattle.yq_batch.proofs.ExchangedRows.{exchanged_documents, exchanged_entries}
 use Rattle.yq_text.specs.Exchanging as exchange
 
 -- what is after one row after another is after that
@@ -142,13 +142,13 @@ module _ (c : Cut) (k n : ℕ) (out : List ℕ) (done : ℕ) (run : IsRowRun c k
             read = ap read_at (sym new_is) ∙ y.read;
             stays = λ l path f found after.
                 let first : StaysInRows f l path run.cut = run.stays l path f found (after_both k n m i l (length f.front) later after) in
-                let z = given_entries run.cut m e ss read_now y l path (record f { start = first.start; front = first.front }) first.found
+                let z = exchanged_entries run.cut m e ss read_now y l path (record f { start = first.start; front = first.front }) first.found
                 (past front_size (sized m (suc i) l (length f.front) (length first.front) (sym first.size) after)) in
                 record { start = z.start; front = z.front; found = z.found; size = z.size ∙ first.size };
           },
           λ l d placed after.
               let first : StaysPlaced d l run.cut = others l d placed (after_both k n m i l 0 later after) in
-              let z = given_documents run.cut m e ss read_now y l (record d { before = first.start }) first.found (in_later m i l after) in
+              let z = exchanged_documents run.cut m e ss read_now y l (record d { before = first.start }) first.found (in_later m i l after) in
               record { start = z.start; found = z.found },
         )
       where

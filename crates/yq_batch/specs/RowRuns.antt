@@ -104,7 +104,7 @@ rows_now (of_entry steps e) m c s = record e { start = s.start; front = s.front 
 rows_now (of_root d r rs) m c s = root_rows (record d { before = s.start }) r rs
 rows_now (of_lone steps e r rs) m c s = lone_rows (record e { start = s.start; front = s.front }) r rs
 
--- In the cut of the text that segments make, the row of an item or entry of document n has given way to another one, with the same key and dashes (own).
+-- In the cut of the text that segments make, the row of an item or entry of document n is replaced by another one, with the same key and dashes (own).
 pub record ExchangesRow (n : ℕ) (c : Cut) (e : RowsOfEntry) (ss : List Segment) : Type 0 where
   pub part : Part
   pub there : slice_get (document_parts c) n ≡ Some part

@@ -92,7 +92,7 @@ module _ (op : Operation) (c : Cut) (h : RowIn (op_document op) c) (new : Row) w
     pub row_made : read_at (new_text us) ≡ Some (put_document (op_document op) row_put c)
     row_made = ap read_at k.text ∙ changed.read
 
-    -- in it the row of an item or entry has given way to that one
+    -- in it the row of an item or entry is replaced by that one
     pub row_changes : (e : RowsOfEntry) → length h.front ≡ length e.front → row_shape new ≡ row_shape h.row → ChangesRow (op_document op) c e us
     row_changes e front shape = search (rules, row_made) depth 9
 

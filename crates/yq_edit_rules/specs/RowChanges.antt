@@ -13,7 +13,7 @@ use Rattle.yq_edit_rules.{specs.PiecePuts.piece_replaced, specs.Edits.op_edits, 
 use Rattle.yq_edit_rules.{specs.Replacing.keeps_scalar, specs.WrittenValues.{inline, value_text}}
 use Rattle.yq_semantics.{specs.Fits.Fits, specs.Operations.{head_comment, line_comment, replace}, specs.Rooms.room_of}
 
--- In the cut of the text that segments make, the row of an item or entry of document n has given way to another one of its shape (own).
+-- In the cut of the text that segments make, the row of an item or entry of document n is replaced by another one of its shape (own).
 pub record ChangesRow (n : ℕ) (c : Cut) (e : RowsOfEntry) (ss : List Segment) : Type 0 where
   pub part : Part
   pub there : slice_get (document_parts c) n ≡ Some part

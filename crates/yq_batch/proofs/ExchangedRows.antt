@@ -1,4 +1,4 @@
--- What comes after a row that has given way to another one with the same key and dashes: paths lead to the rows to which they led.
+-- What comes after a row that is replaced by another one with the same key and dashes: paths lead to the rows to which they led.
 use Rattle.std.proofs.Common.{◌≡◌, inl, inr, ℕ, zero, suc, ◌+◌, ◌-◌, ◌≤◌, ◌<◌, nat_lt, Bool, true, false, not, ◌||◌, cond, List, [], ◌∷◌}
 use Rattle.std.proofs.Common.{◌++◌, drop, length, take, Option, Some, None, option_map, refl, sym, ap, ◌∙◌, subst, arith, rules}
 use Rattle.std.{proofs.Common.length-append, proofs.lemmas.List.{drop-drop, length-take-le}}
@@ -109,7 +109,7 @@ module _ (c : Cut) (k : ℕ) (p q : Part) (there : slice_get (document_parts c) 
       placed_document m (put_document k q c) ≡ Some (record { before = before_part (part_number m c) (put_document k q c); part = d.part; after = d.after })
   document_there m d placed later = search (rules, placed, document_put, nth_other, first_stays, keeps, number_stays, part_there, past_other, numbers_rise, later)
 
--- ---- a row that has given way
+-- ---- a row that is replaced
 
 module _ (c : Cut) (k : ℕ) (e0 : RowsOfEntry) (ss : List Segment) (read : read_at (cut_text c) ≡ Some c) (y : ExchangesRow k c e0 ss) where
   abbrev p : Part
@@ -192,8 +192,8 @@ module _ (c : Cut) (k : ℕ) (e0 : RowsOfEntry) (ss : List Segment) (read : read
     }
 
   -- a later document
-  pub given_documents : (m : ℕ) (d : PlacedPart) → placed_document m c ≡ Some d → k < m → StaysPlaced d m new
-  given_documents m d placed later = record { start = before_part (part_number m c) new; found = document_there c k y.part given y.there keeps m d placed later }
+  pub exchanged_documents : (m : ℕ) (d : PlacedPart) → placed_document m c ≡ Some d → k < m → StaysPlaced d m new
+  exchanged_documents m d placed later = record { start = before_part (part_number m c) new; found = document_there c k y.part given y.there keeps m d placed later }
 
   -- the rows of an item or entry in one
   module _ (m : ℕ) (steps : List Step) (e : RowsOfEntry) (is : rows_of_entry m steps c ≡ Some e) (later : k < m) where
@@ -207,17 +207,17 @@ module _ (c : Cut) (k : ℕ) (e0 : RowsOfEntry) (ss : List Segment) (read : read
     line = map_some (entry_rows_at other.0) (row_line_of steps other.0.part.rows) e other.2
 
     other_stays : StaysInRows e m steps new
-    unfolding given_documents
+    unfolding exchanged_documents
     other_stays = record {
       start = start;
       front = e.front;
-      found = ap (λ (o : Option PlacedPart). o >>= λ x. option_map (entry_rows_at x) (row_line_of steps x.part.rows)) (given_documents m other.0 other.1 later).found
+      found = ap (λ (o : Option PlacedPart). o >>= λ x. option_map (entry_rows_at x) (row_line_of steps x.part.rows)) (exchanged_documents m other.0 other.1 later).found
           ∙ (ap (option_map (entry_rows_at (record other.0 { before = start }))) line.1 ∙ (λ u. Some (record (line.2 u) { start = start; front = (line.2 u).front })));
       size = refl;
     }
 
   -- an item or entry after it
-  pub given_entries : (m : ℕ) (steps : List Step) (e : RowsOfEntry) → rows_of_entry m steps c ≡ Some e → IsAfter k (suc (length y.front)) m (length e.front) → StaysInRows e m steps new
-  given_entries m steps e is (inl later) = other_stays m steps e is later
-  given_entries m steps e is (inr same) =
+  pub exchanged_entries : (m : ℕ) (steps : List Step) (e : RowsOfEntry) → rows_of_entry m steps c ≡ Some e → IsAfter k (suc (length y.front)) m (length e.front) → StaysInRows e m steps new
+  exchanged_entries m steps e is (inl later) = other_stays m steps e is later
+  exchanged_entries m steps e is (inr same) =
       subst (λ (x : ℕ). StaysInRows e x steps new) same.0 (entry_stays steps e (ap (λ (x : ℕ). rows_of_entry x steps c) same.0 ∙ is) same.1)
