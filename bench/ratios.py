@@ -3,8 +3,8 @@
 usage: ratios.py PATH_OF_YQ [PLACES [PART/PARTS]]
 
 A shape is a text with so many places (4,000) and the path to them; the updates are those that fit what is at the places. Each is carried
-out without `-i` and counted by valgrind's callgrind, next to `.` on the larger of the old text and the new. A line has the shape, the update,
-the instructions of both and the quotient; PART/PARTS, as 0/4, has a share of the lines, for runs side by side. The last line is
+out without `-i` and counted by valgrind's callgrind, next to `.` on the old text or the new one, whichever takes more. A line has the shape,
+the update, the instructions of both and the quotient; PART/PARTS, as 0/4, has a share of the lines, for runs side by side. The last line is
 `N at most 4, N above`. A program with checks takes more, so this is for the linked one.
 """
 
@@ -153,7 +153,7 @@ def main():
     places = int(sys.argv[2]) if len(sys.argv) > 2 else PLACES
     part, parts = map(int, sys.argv[3].split("/")) if len(sys.argv) > 3 else (0, 1)
     runs = [(shape, update) for shape, (_, _, kind) in SHAPES.items() for update in OF_ALL + OF_KIND[kind]]
-    within = above = 0
+    within, above, reads = 0, 0, {}
     with tempfile.TemporaryDirectory(prefix="yq-bench-") as folder:
         for shape, update in runs[part::parts]:
             make, path, _ = SHAPES[shape]
@@ -161,7 +161,10 @@ def main():
             status, spent, new = counted(yq, folder, update.replace("@", path), old)
             if status != 0:
                 continue
-            _, read, _ = counted(yq, folder, ".", max(old, new, key=len))
+            if shape not in reads:
+                reads[shape] = counted(yq, folder, ".", old)[1]
+            # A text of a fourth of the length isn't the dearer one.
+            read = max(reads[shape], counted(yq, folder, ".", new)[1] if len(new) > len(old) // 4 else 0)
             above += spent > MOST * read
             within += spent <= MOST * read
             print(f"{shape:<28}{update:<28}{spent:>13,}{read:>13,}{spent / read:>7.2f}", flush=True)
