@@ -92,11 +92,11 @@ bench: $(YQ)
 	python3 bench/reads.py $(YQ)
 	python3 bench/edit.py $(YQ)
 	python3 bench/updates.py $(YQ)
-	python3 bench/ratios.py $(YQ)
 	python3 bench/journal.py $(YQ)
 	python3 bench/cost.py $(YQ) $(DIR)
 	python3 bench/expressions.py $(YQ)
 	python3 bench/hostile.py $(YQ)
+	python3 bench/ratios.py $(YQ)
 
 corpus: $(if $(DIR),,no-folder) $(YQ)
 	python3 tests/cli/corpus.py $(YQ) "$(DIR)"

@@ -1,17 +1,18 @@
 """Counts the instructions of each kind of update on each shape of text, and says how many times those of a read and print it takes.
 
-usage: ratios.py PATH_OF_YQ [PLACES [PART/PARTS]]
+usage: ratios.py PATH_OF_YQ [PLACES]
 
 A shape is a text with so many places (4,000) and the path to them; the updates are those that fit what is at the places. Each is carried
 out without `-i` and counted by valgrind's callgrind, next to `.` on the old text or the new one, whichever takes more. A line has the shape,
-the update, the instructions of both and the quotient; PART/PARTS, as 0/4, has a share of the lines, for runs side by side. The last line is
-`N at most 4, N above`. A program with checks takes more, so this is for the linked one.
+the update, the instructions of both and the quotient. All processors are used: instructions don't depend on what runs beside them. The last
+line is `N at most 4, N above`. A program with checks takes more, so this is for the linked one.
 """
 
 import os
 import subprocess
 import sys
 import tempfile
+from concurrent.futures import ThreadPoolExecutor
 
 MOST = 4
 PLACES = 4_000
@@ -137,34 +138,40 @@ OF_KIND = {
 }
 
 
-def counted(yq, folder, expression, text):
+def counted(yq, expression, text):
     """The status of a run, its instructions, and what it prints."""
-    with open(os.path.join(folder, "f"), "wb") as out:
-        out.write(text)
-    line = ["valgrind", "--tool=callgrind", "--callgrind-out-file=counts", yq, expression, "f"]
-    done = subprocess.run(line, cwd=folder, stdout=subprocess.PIPE, stderr=subprocess.DEVNULL, check=False)
-    with open(os.path.join(folder, "counts"), encoding="utf-8") as rows:
-        total = next(int(row.split()[1]) for row in rows if row.startswith(("summary:", "totals:")))
+    with tempfile.TemporaryDirectory(prefix="yq-bench-") as folder:
+        with open(os.path.join(folder, "f"), "wb") as out:
+            out.write(text)
+        line = ["valgrind", "--tool=callgrind", "--callgrind-out-file=counts", yq, expression, "f"]
+        done = subprocess.run(line, cwd=folder, stdout=subprocess.PIPE, stderr=subprocess.DEVNULL, check=False)
+        with open(os.path.join(folder, "counts"), encoding="utf-8") as rows:
+            total = next(int(row.split()[1]) for row in rows if row.startswith(("summary:", "totals:")))
     return done.returncode, total, done.stdout
+
+
+def both(yq, places, shape, update):
+    """The instructions of an update and of the dearer read; nothing, where the update is refused."""
+    make, path, _ = SHAPES[shape]
+    old = make(places).encode()
+    status, spent, new = counted(yq, update.replace("@", path), old)
+    if status != 0:
+        return None
+    # A text of a fourth of the length isn't the dearer one.
+    texts = [old] + [new] * (len(new) > len(old) // 4)
+    return spent, max(counted(yq, ".", text)[1] for text in texts)
 
 
 def main():
     yq = os.path.realpath(sys.argv[1])
     places = int(sys.argv[2]) if len(sys.argv) > 2 else PLACES
-    part, parts = map(int, sys.argv[3].split("/")) if len(sys.argv) > 3 else (0, 1)
     runs = [(shape, update) for shape, (_, _, kind) in SHAPES.items() for update in OF_ALL + OF_KIND[kind]]
-    within, above, reads = 0, 0, {}
-    with tempfile.TemporaryDirectory(prefix="yq-bench-") as folder:
-        for shape, update in runs[part::parts]:
-            make, path, _ = SHAPES[shape]
-            old = make(places).encode()
-            status, spent, new = counted(yq, folder, update.replace("@", path), old)
-            if status != 0:
+    within = above = 0
+    with ThreadPoolExecutor(os.cpu_count()) as pool:
+        for (shape, update), found in zip(runs, pool.map(lambda run: both(yq, places, *run), runs)):
+            if not found:
                 continue
-            if shape not in reads:
-                reads[shape] = counted(yq, folder, ".", old)[1]
-            # A text of a fourth of the length isn't the dearer one.
-            read = max(reads[shape], counted(yq, folder, ".", new)[1] if len(new) > len(old) // 4 else 0)
+            spent, read = found
             above += spent > MOST * read
             within += spent <= MOST * read
             print(f"{shape:<28}{update:<28}{spent:>13,}{read:>13,}{spent / read:>7.2f}", flush=True)
