@@ -120,10 +120,15 @@ pub record SpreadsTooMany (d : DocumentRoot) (u : declared.Update) (count : ℕ)
   pub found : right_value d.doc right (root_place (node_of d.root)) ≡ gives value
   pub spreads : IsSpread adds value count
 
+-- in the valid value of terms from a place, with those of other places, are so many items and entries at least (own)
+abbrev pub GivesMore : ℕ → List Term → FoundPlace → (others : ℕ → Type 0) → ℕ → Type 0
+GivesMore doc right p others n =
+    (v : Node) × (m : ℕ) × (right_value doc right p ≡ gives v) × IsValueTree v × others m × (n ≤ items_in v + m)
+
 -- in the valid values of terms, each from one of the first of places, are so many items and entries at least (own)
 abbrev pub GiveItems : ℕ → List Term → List FoundPlace → ℕ → Type 0
 GiveItems doc right [] n = n ≡ 0
-GiveItems doc right (p ∷ ps) n = (n ≡ 0) ⊎ ((v : Node) × (m : ℕ) × (right_value doc right p ≡ gives v) × IsValueTree v × GiveItems doc right ps m × (n ≤ items_in v + m))
+GiveItems doc right (p ∷ ps) n = (n ≡ 0) ⊎ GivesMore doc right p (GiveItems doc right ps) n
 
 -- An assignment puts at each of places what is found from there, too many items and entries for a text (own).
 pub record ModifiesTooMuch (d : DocumentRoot) (u : declared.Update) (ps : List place.FoundPlace) : Type 0 where
