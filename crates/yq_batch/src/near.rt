@@ -9,6 +9,14 @@ use yq_edit_laws::last_step;
 /// Of a collection with no more entries each is looked for from the last one on.
 const FEW: usize = 16;
 
+/// The indexes of the keys of a collection.
+#[derive(Drop)]
+struct KeyNumbers<'s> {
+    /// The steps that lead to it in its head.
+    steps: &'s [Step],
+    numbers: BTreeMap<String, usize>,
+}
+
 /// Where entries are looked for: near the ones that were found last, or by their keys.
 #[derive(Drop)]
 pub(crate) struct Near<'s> {
@@ -18,9 +26,7 @@ pub(crate) struct Near<'s> {
     pub(crate) last: usize,
     /// Whether its entries come in any order.
     any_order: bool,
-    /// The steps in its head to a collection of which each key's index is known.
-    known: Option<&'s [Step]>,
-    numbers: BTreeMap<String, usize>,
+    known: Option<KeyNumbers<'s>>,
 }
 
 /// The indexes of the keys of a node, if it has many.
@@ -48,14 +54,13 @@ impl<'s> Near<'s> {
             last: 0,
             any_order,
             known: None,
-            numbers: BTreeMap::new(alloc),
         })
     }
 
     /// Whether the keys of the collection to which steps lead are known.
     fn knows(&self, steps: &[Step]) -> bool {
-        match self.known {
-            Some(known) => are_same_steps(known, steps),
+        match &self.known {
+            Some(known) => are_same_steps(known.steps, steps),
             None => false,
         }
     }
@@ -75,10 +80,13 @@ impl<'s> Near<'s> {
             return Ok(());
         }
         if !self.knows(steps) {
-            self.numbers = key_numbers(alloc, node)?;
-            self.known = Some(steps);
+            let numbers = key_numbers(alloc, node)?;
+            self.known = Some(KeyNumbers { steps, numbers });
         }
-        if let Some(number) = self.numbers.get(key.as_str()) {
+        let Some(known) = &self.known else {
+            return Ok(());
+        };
+        if let Some(number) = known.numbers.get(key.as_str()) {
             self.last = *number;
         }
         Ok(())
