@@ -5,7 +5,7 @@ ghost use Rattle.yq_eval.{specs.FoundView.found_places, specs.PlaceView.places_o
 ghost use Rattle.yq_eval.specs.PlaceAnswers.{pipe_places, EndsInEach, HaveChildrenOf};
 ghost use Rattle.yq_semantics.specs.Places as steps;
 
-use crate::matching::pipe::find;
+use crate::matching::pipe::{find, root_alone};
 use crate::matching::place::{FoundPlace, Missing};
 use crate::matching::traverse::{step_each, traverse};
 use bumpalo::Bump;
@@ -81,7 +81,10 @@ fn all_of<'a, 't>(
         let place = bump.try_alloc(*place)?;
         return Ok(FoundPlaces::Children(place));
     }
-    step_each(alloc, bump, last, places).map(FoundPlaces::Listed)
+    match step_each(alloc, bump, last, places) {
+        Ok(next) => Ok(FoundPlaces::Listed(next)),
+        Err(e) => Err(e),
+    }
 }
 
 /// Where a pipe leads in document `doc`, which has that root.
@@ -95,9 +98,14 @@ pub fn find_places<'a, 't>(
     ensures { Judges found_places result (pipe_places doc pipe.now root.entry) }
 {
     let Some((front, last)) = before_each(pipe) else {
-        return find(alloc, bump, doc, pipe, root).map(FoundPlaces::Listed);
+        return match find(alloc, bump, doc, pipe, root) {
+            Ok(places) => Ok(FoundPlaces::Listed(places)),
+            Err(e) => Err(e),
+        };
     };
-    let start = FoundPlace::of_root(&root).alone(alloc)?;
-    let places = traverse(alloc, bump, front, start)?;
-    all_of(alloc, bump, last, &places)
+    let start = root_alone(alloc, root)?;
+    match traverse(alloc, bump, front, start) {
+        Ok(places) => all_of(alloc, bump, last, &places),
+        Err(e) => Err(e),
+    }
 }

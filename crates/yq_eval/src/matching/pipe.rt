@@ -1,6 +1,7 @@
 //! Where a pipe leads, as if each stage acted on all places before the next one does.
-ghost use Rattle.std.specs.Prelude.{map};
-ghost use Rattle.yq_semantics.{specs.Places.for_each, specs.View.stage_of};
+ghost use Rattle.std.specs.Prelude.{◌≡◌, ◌∷◌, [], IfOk, map};
+ghost use Rattle.yq_nodes.specs.Nodes.{node_of};
+ghost use Rattle.yq_semantics.{specs.Places.{for_each, root_place}, specs.View.stage_of};
 ghost use Rattle.yq_eval.specs.PlaceView.{place_of, places_of};
 ghost use Rattle.yq_eval.specs.PlaceAnswers.{JudgesPlaces, AddsPlaces, FillsPlaces, places_in, pipe_places, pipe_places_from, kept_if};
 ghost use Rattle.yq_semantics.specs.Pipes as spec;
@@ -10,7 +11,7 @@ use crate::matching::place::FoundPlace;
 use crate::matching::together::{count_keeping, keep_each};
 use crate::matching::traverse::traverse;
 use bumpalo::Bump;
-use std::alloc::Global;
+use std::alloc::{AllocError, Global};
 use std::mem;
 use yq_nodes::Node;
 use yq_semantics::{Condition, ExprError, Stage};
@@ -26,7 +27,7 @@ fn push_kept<'a, 't>(
     ensures { AddsPlaces result places.old places.new (kept_if doc condition.now (place_of place.now)) }
 {
     if holds(alloc, doc, condition, place)? {
-        places.push(*place)?;
+        place.put(places)?;
     }
     Ok(())
 }
@@ -93,7 +94,10 @@ fn stages_on<'a, 't>(
     let mut places = start;
     let mut unused = Vec::new(alloc);
     'stages: for stage in stages {
-        places = stage_on(alloc, bump, doc, stage, places, &mut unused)?;
+        places = match stage_on(alloc, bump, doc, stage, places, &mut unused) {
+            Ok(next) => next,
+            Err(e) => return Err(e),
+        };
     }
     Ok(places)
 }
@@ -112,11 +116,10 @@ fn run_on<'a, 't>(
     if let [] = run {
         return Ok(places);
     }
-    let mut kept = Vec::new(alloc);
-    if keep_each(alloc, doc, run, &places, &mut kept)? {
-        return Ok(kept);
+    match keep_each(alloc, doc, run, &places)? {
+        Some(kept) => Ok(kept),
+        None => stages_on(alloc, bump, doc, run, places),
     }
-    stages_on(alloc, bump, doc, run, places)
 }
 
 /// Where a part of a pipe leads from places: a stage, and a run after it.
@@ -133,8 +136,10 @@ fn part_on<'a, 't>(
         return Ok(places);
     };
     let mut unused = Vec::new(alloc);
-    let places = stage_on(alloc, bump, doc, stage, places, &mut unused)?;
-    run_on(alloc, bump, doc, run, places)
+    match stage_on(alloc, bump, doc, stage, places, &mut unused) {
+        Ok(next) => run_on(alloc, bump, doc, run, next),
+        Err(e) => Err(e),
+    }
 }
 
 /// Where a pipe leads from places.
@@ -157,6 +162,16 @@ pub fn pipe_on<'a, 't>(
     Ok(places)
 }
 
+/// The place of a root alone.
+pub(crate) fn root_alone<'a, 't>(
+    alloc: Global,
+    root: Node<'a, 't>,
+) -> Result<Vec<FoundPlace<'a, 't>>, AllocError>
+    ensures { IfOk result (λ v. places_in v ≡ root_place (node_of root.entry) ∷ []) }
+{
+    FoundPlace::of_root(&root).alone(alloc)
+}
+
 /// Where a pipe leads in document `doc`, which has that root.
 pub fn find<'a, 't>(
     alloc: Global,
@@ -167,6 +182,6 @@ pub fn find<'a, 't>(
 ) -> Result<Vec<FoundPlace<'a, 't>>, ExprError>
     ensures { JudgesPlaces result (pipe_places doc pipe.now root.entry) }
 {
-    let start = FoundPlace::of_root(&root).alone(alloc)?;
+    let start = root_alone(alloc, root)?;
     pipe_on(alloc, bump, doc, pipe, start)
 }

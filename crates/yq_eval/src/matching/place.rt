@@ -3,7 +3,7 @@
 ghost use Rattle.std.specs.Prelude.{◌≡◌, ◌++◌, ◌∷◌, [], IfOk};
 ghost use Rattle.yq_nodes.specs.Nodes.{label_of, node_of};
 ghost use Rattle.yq_eval.specs.PlaceView.{missing_of, node_step_of, node_or_null, place_of, places_of};
-ghost use Rattle.yq_eval.specs.PlaceAnswers.{IsChildPlace, IsFurther, child_after};
+ghost use Rattle.yq_eval.specs.PlaceAnswers.{IsChildPlace, IsFurther, PutsPlaces, child_after};
 ghost use Rattle.yq_semantics.specs.View.{program_step};
 ghost use Rattle.yq_semantics.specs.Conditions as conditions;
 ghost use Rattle.yq_semantics.specs.Places as spec;
@@ -129,5 +129,14 @@ impl<'a, 't> FoundPlace<'a, 't> {
         ensures { IfOk result (λ v. places_of v.items ≡ place_of self.now ∷ []) }
     {
         Ok(vec![in alloc; *self]?)
+    }
+
+    /// Puts this place after others.
+    #[inline(always)]
+    pub(crate) fn put(&self, places: &mut Vec<FoundPlace<'a, 't>>) -> Result<(), AllocError>
+        ensures { PutsPlaces result places.old places.new (place_of self.now ∷ []) }
+    {
+        places.push(*self)?;
+        Ok(())
     }
 }

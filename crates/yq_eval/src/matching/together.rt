@@ -1,5 +1,5 @@
 //! Stages that are judged together: all of them at one place before the next place.
-ghost use Rattle.std.specs.Prelude.{◌≡◌, ◌≤◌, IfOk, length, true};
+ghost use Rattle.std.specs.Prelude.{◌≤◌, IfOk, IfSome, length};
 ghost use Rattle.yq_semantics.specs.Pipes.{kept_place};
 ghost use Rattle.yq_eval.{specs.PlaceView.place_of, specs.PlaceAnswers.{KeepsPlaces, KnowsKept, PutsPlaces, pipe_from, stage_from}};
 
@@ -79,29 +79,27 @@ fn push_if<'a, 't>(
 ) -> Result<(), AllocError>
     ensures { PutsPlaces result kept.old kept.new (kept_place (place_of place.now) keeps) }
 {
-    if keeps {
-        kept.push(*place)?;
+    if !keeps {
+        return Ok(());
     }
-    Ok(())
+    place.put(kept)
 }
 
-/// Puts the places that stages keep into a list, in the place of what was there. The answer is whether that is known
-/// of each.
+/// The places that stages keep, if that is known of each.
 pub(crate) fn keep_each<'a, 't>(
     alloc: Global,
     doc: usize,
     stages: &'a [Stage],
     places: &[FoundPlace<'a, 't>],
-    kept: &mut Vec<FoundPlace<'a, 't>>,
-) -> Result<bool, AllocError>
-    ensures { IfOk result (λ b. b ≡ true → KeepsPlaces doc stages.now places.now kept.new.items) }
+) -> Result<Option<Vec<FoundPlace<'a, 't>>>, AllocError>
+    ensures { IfOk result (λ o. IfSome o (λ v. KeepsPlaces doc stages.now places.now v.items)) }
 {
-    kept.clear();
+    let mut kept = Vec::new(alloc);
     'places: for place in places {
         let Some(keeps) = stages_keep(alloc, doc, stages, place) else {
-            return Ok(false);
+            return Ok(None);
         };
-        push_if(keeps, place, kept)?;
+        push_if(keeps, place, &mut kept)?;
     }
-    Ok(true)
+    Ok(Some(kept))
 }

@@ -6,7 +6,7 @@ use Rattle.yq_eval.proofs.matching.together.keep_each.Goals as goal
 
 pub places-init : goal.places-init
 places-init c =
-    pipe_none c.args.doc (map stage_of c.args.stages.now) ∙ ap (λ (ps : List declared.FoundPlace). gives (places_of ps)) (sym c.clear.ensures.items)
+    pipe_none c.args.doc (map stage_of c.args.stages.now) ∙ ap (λ (ps : List declared.FoundPlace). gives (places_of ps)) (sym c.new-kept.ensures.items)
 
 pub places-preserved : goal.places-preserved
 places-preserved c =
