@@ -5,7 +5,7 @@ use Rattle.yq_core.{specs.Answers.◌>>=◌, specs.Collections.CollPieces, specs
 use Rattle.yq_core.specs.Nodes.{FlowNode, Items, alias, anchored, begins_content, begins_with, coll, empty, is_empty_node, scalar}
 use Rattle.yq_core.{specs.Nodes.takes_anchor, proofs.GapLaws.gap_takes, proofs.NodeTakes.items_takes, proofs.NodesPieceLaws.front_not}
 use Rattle.yq_core.specs.Reading.{Kids, all_items, all_node, kids_of, lead_at, name_at, read_collection, read_core, read_gap, read_node}
-use Rattle.yq_inline.{specs.Along.{after_anchor, front_read, past_bracket}, specs.Measured.closing_byte}
+use Rattle.yq_inline.{specs.Along.{after_anchor, front_read}, specs.Measured.{HasBracket, HasNoBracket, closing_byte}}
 use Rattle.yq_inline.{specs.declared.before_offset.LeadingNode.LeadingNode, specs.declared.before_offset.LeadingParts.LeadingParts}
 use Rattle.yq_inline.{specs.Neighbours.{IsCollectionOf, coll_read}, proofs.FirstParts.some_of}
 use denote.Bor.{Bor}
@@ -101,15 +101,9 @@ record Bracket (flow : Bool) (spaces : Option ℕ) (d : ℕ) (u : List ℕ) (cur
   pub read : read_core flow spaces (kids_of d) u ≡ read_collection (kids_of d) (closing_byte curly) (drop 1 u)
   pub after : v ≡ drop 1 u
 
-bracket : (flow : Bool) (spaces : Option ℕ) (d : ℕ) (u : List ℕ) (curly : Bool) (v : List ℕ) → past_bracket u ≡ Some (curly, v) → Bracket flow spaces d u curly v
-bracket flow spaces d u curly v past = go (begins_with 91 u) (begins_with 123 u) refl refl past where
-  by_bits : Bool → Bool → Option (Bool × List ℕ)
-  by_bits b c = cond b (Some (false, drop 1 u)) (cond c (Some (true, drop 1 u)) None)
-
-  go : (b c : Bool) → begins_with 91 u ≡ b → begins_with 123 u ≡ c → by_bits b c ≡ Some (curly, v) → Bracket flow spaces d u curly v
-  go true c list map e = subst (λ (y : Bool × List ℕ). Bracket flow spaces d u y.0 y.1) (same_Some _ _ e) (record { read = list_read flow spaces (kids_of d) u list; after = refl })
-  go false true list map e = subst (λ (y : Bool × List ℕ). Bracket flow spaces d u y.0 y.1) (same_Some _ _ e) (record { read = map_read flow spaces (kids_of d) u list map; after = refl })
-  go false false list map e = cc
+bracket : (flow : Bool) (spaces : Option ℕ) (d : ℕ) (u : List ℕ) (curly : Bool) (v : List ℕ) → HasBracket u curly v → Bracket flow spaces d u curly v
+bracket flow spaces d u true v h = record { read = map_read flow spaces (kids_of d) u (front_not (begins_with 123) 91 (λ bs. refl) u h.0) h.0; after = h.1 }
+bracket flow spaces d u false v h = record { read = list_read flow spaces (kids_of d) u h.0; after = h.1 }
 
 -- the items or entries after the bracket and the gap after that
 record Opened (flow : Bool) (spaces : Option ℕ) (d k : ℕ) (u g r : List ℕ) : Type 0 where
@@ -155,18 +149,10 @@ module _ (n : LeadingNode) where
     content : Content n.flow n.spaces n.depth text u
     content = content_at n.flow n.spaces n.depth text u past n.node
 
-    pub none_opened : past_bracket u ≡ None → coll_of (front_read n) ≡ None
-    none_opened opens = content.same ∙ go (begins_with 91 u) (begins_with 123 u) refl refl opens
-      where
-        by_bits : Bool → Bool → Option (Bool × List ℕ)
-        by_bits b c = cond b (Some (false, drop 1 u)) (cond c (Some (true, drop 1 u)) None)
+    pub none_opened : HasNoBracket u → coll_of (front_read n) ≡ None
+    none_opened h = content.same ∙ plain_none n.flow n.spaces (kids_of n.depth) u h.0 h.1
 
-        go : (b c : Bool) → begins_with 91 u ≡ b → begins_with 123 u ≡ c → by_bits b c ≡ None → coll_of (read_core n.flow n.spaces (kids_of n.depth) u) ≡ None
-        go true c list map e = cc
-        go false true list map e = cc
-        go false false list map e = plain_none n.flow n.spaces (kids_of n.depth) u list map
-
-    module _ (curly : Bool) (v : List ℕ) (opens : past_bracket u ≡ Some (curly, v)) where
+    module _ (curly : Bool) (v : List ℕ) (opens : HasBracket u curly v) where
       b : Bracket n.flow n.spaces n.depth u curly v
       b = bracket n.flow n.spaces n.depth u curly v opens
 

@@ -305,10 +305,3 @@ part_shorter false d t u s r a k at less is le past short =
     let y = found (placed_node true (Some 0) 0 d u) a k s is in
     let some : bare_placed y.node ≡ false = bare_measure y.node ∙ (ap is_no_node y.measured_as ∙ some_item (is_no_node (a, k)) (past_sep 93 s) r past) in
     omega (arith, node_shorter 0 d u y.node s y.read some, ap length (same_Some _ _ at), short)
-
--- the steps of measuring a node, one that is no collection, and items or entries
-pub ruleset node_steps = (node_content, node_nameless, node_leadless, node_none, node_apart, node_some)
-
-pub ruleset leaf_steps = (named_none, named_some, scalar_none, scalar_some, nothing_here)
-
-pub ruleset part_steps = (no_value, no_measure, no_sep, items_last)

@@ -1,5 +1,5 @@
 -- Nodes to which steps lead in the node in front of a text (own; a reader may skip it).
-use Rattle.std.specs.Prelude.{◌≡◌, ℕ, Bool, true, false, List, [], ◌∷◌, ◌++◌, drop, length, None, Option, Some, option_map, if◌then◌else◌}
+use Rattle.std.specs.Prelude.{◌≡◌, ℕ, Bool, List, [], ◌∷◌, ◌++◌, drop, length, None, Option, Some, option_map, if◌then◌else◌}
 use Rattle.yq_core.{specs.Answers.◌>>=◌, specs.Entries.{EntryPieces, entry_pieces_at, path_inside}}
 use Rattle.yq_core.{specs.Nodes.{FlowNode, Items, bare, begins_content, begins_with, node_text}, specs.Paths.Step}
 use Rattle.yq_core.{specs.Places.{Placed, locate}, specs.Reading.{all_items, all_node, lead_at, name_at}, specs.View.inline_view}
@@ -67,7 +67,3 @@ ReadsPart ss s n o = ReadsAlong (ss ++ (s ∷ [])) n o
 -- what follows the anchor of the node in front and the gap after it, if it has one (own)
 abbrev pub after_anchor : Bool → List ℕ → Option (List ℕ)
 after_anchor flow t = if begins_with 38 t then (name_at (drop 1 t) >>= λ n. lead_at flow (begins_content flow) n.1 >>= λ g. Some g.1) else Some t
-
--- whether a mapping, or else a sequence, begins so, and what follows its bracket (own)
-abbrev pub past_bracket : List ℕ → Option (Bool × List ℕ)
-past_bracket t = if begins_with 91 t then Some (false, drop 1 t) else (if begins_with 123 t then Some (true, drop 1 t) else None)

@@ -1,5 +1,5 @@
 -- Items and entries of a collection that are passed one after the other: the last one, and those next to one (YAML 1.2.2, 7.4; own).
-use Rattle.std.specs.Prelude.{◌≡◌, ℕ, ◌<◌, ◌==◌, Bool, true, List, [], ◌∷◌, ◌++◌, length, Option, Some, None, is_some, option_map}
+use Rattle.std.specs.Prelude.{◌≡◌, ℕ, ◌<◌, ◌==◌, Bool, true, List, ◌∷◌, ◌++◌, length, Option, Some, None, is_some, option_map}
 use Rattle.std.specs.Prelude.{if◌then◌else◌}
 use Rattle.yq_core.{specs.Answers.◌>>=◌, specs.Collections.{CollPieces, coll_along}, specs.Paths.{Nth, Step, To, further, is_here}}
 use Rattle.yq_core.specs.Nodes.{FlowNode, Items, Key, Sep, flow_items_text, item, key_text, node_text, none, sep_text}

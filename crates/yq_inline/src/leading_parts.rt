@@ -5,6 +5,7 @@ ghost use Rattle.yq_inline.specs.Neighbours as collections;
 
 use crate::before_offset::{LeadingNode, LeadingParts};
 use crate::lead::read_gap;
+use crate::measuring::split_opening;
 use crate::pieces::{read_lead, read_name};
 use yq_core::strip;
 
@@ -24,17 +25,6 @@ fn after_anchor(flow: bool, text: &str) -> Option<&str>
     Some(rest)
 }
 
-/// Whether a mapping, or else a sequence, is in front, and what follows its bracket.
-fn past_bracket(text: &str) -> Option<(bool, &str)>
-    ensures { option_map (λ x. (x.0, x.1.now)) result ≡ spec.past_bracket text.now }
-{
-    if let Some(after) = strip(b'[', text) {
-        return Some((false, after));
-    }
-    let after = strip(b'{', text)?;
-    Some((true, after))
-}
-
 /// What follows the bracket of the collection in front, after its anchor if it has one, and its items or entries.
 pub(crate) fn leading_parts<'t>(node: LeadingNode<'t>) -> Option<(&'t str, LeadingParts<'t>)>
     ensures { collections.FindsCollection (collections.coll_read [] (spec.front_read node.entry)) result }
@@ -42,7 +32,7 @@ pub(crate) fn leading_parts<'t>(node: LeadingNode<'t>) -> Option<(&'t str, Leadi
     let Some(content) = after_anchor(node.flow, node.text) else {
         return None;
     };
-    let Some((keyed, inside)) = past_bracket(content) else {
+    let Some((keyed, inside)) = split_opening(content) else {
         return None;
     };
     let Ok((_, text)) = read_gap(inside, inside) else {

@@ -89,7 +89,6 @@ fn measure_scalar(text: &str) -> Option<Measured<'_>>
 
 /// The node in front, with at most `depth` collections nested.
 #[cycle(ends)]
-#[tactic(auto, using(crate::proofs::MeasureSteps::node_steps))]
 pub fn measure_node<'t>(
     flow: bool,
     spaces: Option<usize>,
@@ -119,7 +118,6 @@ pub fn measure_node<'t>(
 
 /// The node in front, where it has no anchor and is no collection.
 #[inline(always)]
-#[tactic(auto, using(crate::proofs::MeasureSteps::leaf_steps))]
 fn measure_leaf<'t>(
     flow: bool,
     spaces: Option<usize>,
@@ -145,7 +143,7 @@ fn measure_leaf<'t>(
 
 /// Whether a mapping, or else a sequence, is in front, and what follows its bracket.
 #[inline(always)]
-fn split_opening(text: &str) -> Option<(bool, &str)>
+pub(crate) fn split_opening(text: &str) -> Option<(bool, &str)>
     ensures { MatchOption result (spec.HasNoBracket text.now) (λ x. spec.HasBracket text.now x.0 x.1.now) }
 {
     if let Some(rest) = strip(b'[', text) {
@@ -158,7 +156,6 @@ fn split_opening(text: &str) -> Option<(bool, &str)>
 /// The node in front, which has no anchor.
 #[inline(always)]
 #[cycle(ends)]
-#[tactic(auto, using(crate::proofs::MeasureSteps::coll_none, crate::proofs::MeasureSteps::coll_some))]
 fn measure_content<'t>(
     flow: bool,
     spaces: Option<usize>,
@@ -236,7 +233,6 @@ fn past_value<'t>(
 
 /// What follows a mapping, or else a sequence, of which the `{` or `[` came before the text.
 #[cycle(ends)]
-#[tactic(auto, using(crate::proofs::MeasureSteps::unopened, crate::proofs::MeasureSteps::part_steps))]
 fn measure_parts<'t>(
     whole: &str,
     depth: usize,

@@ -1,12 +1,55 @@
-use Rattle.std.proofs.Common.{rules, arith, sym, ap, ◌∙◌, ◌-◌, List, Option, subst, ℕ}
-use Rattle.yq_core.{specs.Places.Placed, specs.Reading.name_at}
-use Rattle.yq_inline.{specs.InlineAnswers.MeasuresNode, specs.Measured.{closing_byte, measured_view}}
-use Rattle.yq_inline.proofs.MeasureSteps.{node_apart, node_some, inside, leaf_deep, part_shorter, parts_on}
+use Rattle.std.proofs.Common.{rules, arith, sym, ap, ◌∙◌, ◌-◌, List, Option, Some, subst, ℕ}
+use Rattle.yq_core.{specs.Places.Placed, specs.PlacedReading.placed_coll, specs.Reading.name_at}
+use Rattle.yq_inline.{specs.InlineAnswers.MeasuresNode, specs.Measured.{closing_byte, measured_view, past_node}}
+use Rattle.yq_inline.proofs.MeasureSteps.{coll_none, coll_some, inside, items_last, leaf_deep, no_measure, no_sep, no_value, node_apart}
+use Rattle.yq_inline.proofs.MeasureSteps.{node_content, node_leadless, node_nameless, node_none, node_some, part_shorter, parts_on}
+use Rattle.yq_inline.{proofs.MeasureSteps.unopened, proofs.ScalarSteps.reads_same}
 use Rattle.yq_inline.proofs.measuring.+ends.Goals as goal
 
 pub measure_content-returns-in_default-clause-read : goal.measure_content-returns-in_default-clause-read
 measure_content-returns-in_default-clause-read t c =
     subst (λ (o : Option (Placed × List ℕ)). MeasuresNode c.measure_leaf.result o) (leaf_deep c.args.flow c.args.spaces c.args.depth c.args.text.now c.in_default.ensures.0 c.in_default.ensures.1) c.measure_leaf.ensures.read
+
+pub measure_content-returns-in_err-rest-clause-read : goal.measure_content-returns-in_err-rest-clause-read
+measure_content-returns-in_err-rest-clause-read t c = search (rules, coll_none)
+
+pub measure_content-returns-clause-read : goal.measure_content-returns-clause-read
+measure_content-returns-clause-read t c =
+    coll_some c.args.flow c.args.spaces c.args.depth c.args.text.now c.in_ok-rest.rest.now c.in-Some.keyed c.in-Some.ensures.0
+    (ap (λ (u : List ℕ). past_node (placed_coll 0 c.args.depth (closing_byte c.in-Some.keyed) u)) (sym c.in-Some.ensures.1) ∙ c.in_ok-rest.ensures.read)
+    ∙ ap Some (sym c.unanchored.ensures)
+
+pub measure_value-returns-in-Some-clause-read : goal.measure_value-returns-in-Some-clause-read
+measure_value-returns-in-Some-clause-read t c = c.in-Some.ensures.read c.args.depth
+
+pub measure_parts-returns-in_err-first-clause-read : goal.measure_parts-returns-in_err-first-clause-read
+measure_parts-returns-in_err-first-clause-read t c = search (rules, unopened)
+
+pub measure_parts-returns-in-Some-clause-read : goal.measure_parts-returns-in-Some-clause-read
+measure_parts-returns-in-Some-clause-read t c = search (rules, items_last)
+
+pub measure_parts-returns-in_err-value-clause-read : goal.measure_parts-returns-in_err-value-clause-read
+measure_parts-returns-in_err-value-clause-read t c = search (rules, no_value)
+
+pub measure_parts-returns-in_err-node-clause-read : goal.measure_parts-returns-in_err-node-clause-read
+measure_parts-returns-in_err-node-clause-read t c = search (rules, no_measure)
+
+pub measure_parts-returns-in_err-rest-clause-read : goal.measure_parts-returns-in_err-rest-clause-read
+measure_parts-returns-in_err-rest-clause-read t c = search (rules, no_sep)
+
+pub measure_node-returns-in_default-clause-read : goal.measure_node-returns-in_default-clause-read
+measure_node-returns-in_default-clause-read t c =
+    reads_same _ c.measure_content.result _ _ (sym (node_content c.args.flow c.args.spaces c.args.depth c.args.text.now c.in_default.ensures))
+    c.measure_content.ensures.read
+
+pub measure_node-returns-in_err-rest-clause-read : goal.measure_node-returns-in_err-rest-clause-read
+measure_node-returns-in_err-rest-clause-read t c = search (rules, node_nameless)
+
+pub measure_node-returns-in_err-gap-clause-read : goal.measure_node-returns-in_err-gap-clause-read
+measure_node-returns-in_err-gap-clause-read t c = search (rules, node_leadless)
+
+pub measure_node-returns-in_err-node-clause-read : goal.measure_node-returns-in_err-node-clause-read
+measure_node-returns-in_err-node-clause-read t c = search (rules, node_none)
 
 pub measure_parts-each-init : goal.measure_parts-each-init
 measure_parts-each-init t c = record {
