@@ -48,15 +48,24 @@ fn push_text(text: &mut String, more: &str) -> Result<(), AllocError>
     Ok(())
 }
 
+/// Adds bytes to others.
+#[inline(never)]
+fn extend_bytes(bytes: &mut Vec<u8>, more: &[u8]) -> Result<(), AllocError>
+    ensures { OnOk result (bytes.new.items ≡ bytes.old.items ++ more.now) }
+{
+    bytes.extend_from_slice(more)?;
+    Ok(())
+}
+
 /// Adds bytes to others, if there are some.
+#[inline(always)]
 fn push_bytes(bytes: &mut Vec<u8>, more: &[u8]) -> Result<(), AllocError>
     ensures { OnOk result (bytes.new.items ≡ bytes.old.items ++ more.now) }
 {
     if more.is_empty() {
         return Ok(());
     }
-    bytes.extend_from_slice(more)?;
-    Ok(())
+    extend_bytes(bytes, more)
 }
 
 /// Adds what stays to a text.
@@ -68,6 +77,7 @@ fn push_kept(text: &mut String, kept: Halves<'_>) -> Result<(), AllocError>
 }
 
 /// Adds what is replaced by bytes.
+#[inline(always)]
 fn push_gone(bytes: &mut Vec<u8>, gone: Halves<'_>) -> Result<(), AllocError>
     ensures { OnOk result (bytes.new.items ≡ bytes.old.items ++ whole gone.entry) }
 {
