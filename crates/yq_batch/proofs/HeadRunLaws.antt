@@ -11,7 +11,7 @@ use Rattle.yq_places.{specs.FlowNodes.flow_collection, specs.FlowViews.LeadsToHe
 use Rattle.yq_places.{specs.Placements.{RowsOfEntry, after_entry, rows_of_entry}, specs.PlacementViews.IsHeldRow}
 use Rattle.yq_places.{specs.declared.places.held_row.HeldRow.HeldRow, proofs.HeldRowLaws.no_root_rows}
 use Rattle.yq_places.proofs.FlowViewLaws.{head_found, numbered}
-use Rattle.yq_edit_rules.{specs.Changed.put_document, specs.FlowRows.{FlowAt, InlineRow, text_after_node, with_node}}
+use Rattle.yq_edit_rules.{specs.Changed.put_document, specs.FlowRows.{FlowAt, InlineRow, text_after_node, with_node}, specs.Rooms.row_shape}
 use Rattle.yq_edit_rules.{specs.RowStays.{IsAfter, StaysInRows, StaysFrom}, proofs.FlowRowLaws.node_holds}
 use Rattle.yq_edit_rules.{proofs.RowStayLaws.{rows_stay_there, there_still}, proofs.ShapeLaws.line_by_shape}
 use Rattle.yq_edit_rules.{proofs.PlacementMarks.row_there, proofs.PlacementRows.rows_located}
@@ -45,12 +45,15 @@ module _ (c d : Cut) (k : ℕ) (steps : List Step) (w : CollPieces) (at : FlowAt
   rows_are : q.rows ≡ i.front ++ (r ∷ i.back)
   rows_are = ap (λ (rs : List Row). i.front ++ (r ∷ rs)) (own_gap i.back p.end)
 
-  stays : StaysFrom (suc (length i.front)) p q
-  stays =
+  pub same_shape : row_shape r ≡ row_shape i.row
+  same_shape =
       let holds = node_holds at.rest i.node (text_after_node d k p i) w gap is at.at.along in
       let headed : is_some (head_of (Inline i.space m i.tail)) ≡ is_some (head_of i.row.content) =
       ap is_some holds.head.1 ∙ (sym (ap is_some holds.old_head.1) ∙ sym (ap (λ (x : Content). is_some (head_of x)) at.at.content_is)) in
-      rows_stay_there.exchanges p i.front i.back i.row r at.at.rows_are (λ j. record { column = i.row.column; dashes = i.row.dashes; mark = i.row.mark; headed = headed j })
+      λ j. record { column = i.row.column; dashes = i.row.dashes; mark = i.row.mark; headed = headed j }
+
+  stays : StaysFrom (suc (length i.front)) p q
+  stays = rows_stay_there.exchanges p i.front i.back i.row r at.at.rows_are same_shape
 
   -- the head's row is the one in which the collection is
   module _ (n : ℕ) (x : IsHeadInRow d k stem n) where
@@ -71,13 +74,13 @@ module _ (c d : Cut) (k : ℕ) (steps : List Step) (w : CollPieces) (at : FlowAt
     same_part : x.part ≡ p
     same_part = same_Some _ _ (sym x.there ∙ at.there)
 
-    own_row : n ≡ length i.front
+    pub own_row : n ≡ length i.front
     own_row =
         sym x.row
         ∙ ap (λ (y : RowLine). y.before)
         (same_Some _ _ (sym own.2 ∙ ((λ j. row_line (line_number j) (same_part j).rows) ∙ mark_between p.rows i.front i.row i.back at.at.rows_are)))
 
-    head_on : IsHeadInRow next k stem n
+    pub head_on : IsHeadInRow next k stem n
     head_on = record {
       part = q;
       there = there_still d k (suc (length i.front)) p q at.there stays;

@@ -9,6 +9,7 @@ pub mod RowRunLaws
 pub mod RowRunAnswers
 pub mod HeadRowLaws
 pub mod HeadRunLaws
+pub mod HeadsBefore
 pub mod RunLaws
 pub mod CollectionLeft
 pub mod MoreRuns
@@ -23,6 +24,8 @@ pub mod RemovalRunLaws
 pub mod SoleRemovals
 pub mod Exchanges
 pub mod RemovalAnswers
+pub mod EmptiedHeads
+pub mod HeadRemovalLaws
 pub mod RowPutLaws
 pub mod EmptyHeadLaws
 pub mod LonePlaces

@@ -16,7 +16,7 @@ use Rattle.yq_places.{specs.declared.places.flow_node.FlowHead.FlowHead, proofs.
 use Rattle.yq_semantics.specs.Operations.{Operation, remove}
 use Rattle.yq_edit_laws.{proofs.CutLaws.text_read, proofs.TextFaults.text_utf8, proofs.FlowAnswers.{CollFound, coll_found}}
 use Rattle.yq_edit_laws.{specs.Theorems.IsFitting, specs.NearParts.LeadsToPart}
-use Rattle.yq_batch.specs.LeftItems.{closing, count_items, count_parts}
+use Rattle.yq_batch.{specs.HeadRows.CollectionsStay, specs.LeftItems.{closing, count_items, count_parts}}
 use Rattle.yq_batch.specs.RemovalRuns.{AreFirstLeft, GoesInHead, IsKnownLeft, IsLeftIn, IsLeftOf, IsRemovalRun, PartGoes, SoleGoes}
 use Rattle.yq_batch.{specs.RemovalRuns.{content_of, empty_text, RemovesSo, left_coll, text_exchanged}, specs.LeftPlaces.IsLeftPlace}
 use Rattle.yq_batch.{specs.declared.left.LeftPlace.LeftPlace, specs.Runs.EndsAt, specs.declared.gone.LeftOf.LeftOf}
@@ -27,22 +27,37 @@ use Rattle.yq_batch.{proofs.LeftRemovals.parts_are, proofs.Exchanges.{CanExchang
 use Rattle.yq_batch.proofs.RemovalRunLaws as laws
 use Rattle.yq_batch.proofs.SoleRemovals as sole
 
+-- all collections are there where nothing was taken out
+pub none_gone : (t : List ℕ) (n keep : ℕ) → length (cut_text (cut_of t)) ≤ keep → (stem : List Step) → CollectionsStay (cut_of t) (cut_of t) n stem keep []
+none_gone t n keep all stem left w mid found rest =
+    found ∙ ap (λ (l : List ℕ). Some (record w { rest = l })) (rest ∙ ap (λ (l : List ℕ). mid ++ l) (drop_all keep (cut_text (cut_of t)) all))
+
 -- a run of nothing
-pub removals_begin : (t : List ℕ) (n : ℕ) (stem : List Step) (r : RemovalRun) → read_at t ≡ Some (cut_of t) → LeadsToHead (cut_of t) n stem → buffer_text r.text ≡ t → r.keep ≡ length t → RemovesSo (cut_of t) n stem None r
-removals_begin t n stem r read leads text keep =
+pub nothing_gone : (t : List ℕ) (r : RemovalRun) → read_at t ≡ Some (cut_of t) → buffer_text r.text ≡ t → r.keep ≡ length t →
+    (r.keep ≡ length (cut_text (cut_of t))) × (buffer_text r.text ≡ take r.keep (cut_text (cut_of t)) ++ []) × (read_at (take r.keep (cut_text (cut_of t)) ++ []) ≡ Some (cut_of t))
+nothing_gone t r read text keep =
     let same : cut_text (cut_of t) ≡ t = text_read t (cut_of t) read in
     let all : r.keep ≡ length (cut_text (cut_of t)) = keep ∙ ap length (sym same) in
-    let whole : take r.keep (cut_text (cut_of t)) ≡ cut_text (cut_of t) = take_all r.keep (cut_text (cut_of t)) (omega (arith, all)) in
-    let none : drop r.keep (cut_text (cut_of t)) ≡ [] = drop_all r.keep (cut_text (cut_of t)) (omega (arith, all)) in
+    let whole : take r.keep (cut_text (cut_of t)) ≡ cut_text (cut_of t) = take_all r.keep (cut_text (cut_of t)) (omega (arith, all)) in (
+      all,
+      text ∙ (sym same ∙ (sym whole ∙ sym (append-nil (take r.keep (cut_text (cut_of t)))))),
+      ap read_at (append-nil (take r.keep (cut_text (cut_of t))) ∙ (whole ∙ same)) ∙ read,
+    )
+
+pub removals_begin : (t : List ℕ) (n : ℕ) (stem : List Step) (r : RemovalRun) → read_at t ≡ Some (cut_of t) → LeadsToHead (cut_of t) n stem → buffer_text r.text ≡ t → r.keep ≡ length t → RemovesSo (cut_of t) n stem None r
+removals_begin t n stem r read leads text keep =
+    let h = nothing_gone t r read text keep in
+    let all : length (cut_text (cut_of t)) ≤ r.keep = omega (arith, h.0) in
     record {
       tail = [];
-      text = text ∙ (sym same ∙ (sym whole ∙ sym (append-nil (take r.keep (cut_text (cut_of t))))));
+      text = h.1;
       run = record {
-        within = omega (arith, all);
+        within = omega (arith, h.0);
         cut = cut_of t;
-        read = ap read_at (append-nil (take r.keep (cut_text (cut_of t))) ∙ (whole ∙ same)) ∙ read;
+        read = h.2;
         leads = leads;
-        stays = λ left w mid found rest. found ∙ ap (λ (l : List ℕ). Some (record w { rest = l })) (rest ∙ ap (λ (l : List ℕ). mid ++ l) none);
+        stays = none_gone t n r.keep all stem;
+        row = λ i x. (x, λ other j y less. (y, none_gone t n r.keep all other));
       };
       known_is = tt;
     }
@@ -56,7 +71,7 @@ module _ (c : Cut) (n : ℕ) (stem left path : List Step) (s : Step) (last : las
   abbrev now : List ℕ
   now = take before.keep t ++ run.tail
 
-  abbrev w : CollPieces
+  abbrev pub w : CollPieces
   w = with_more (more c n (stem ++ left) x q f) (own c n (stem ++ left) x q f)
 
   found : flow_collection n (stem ++ left) c ≡ Some w
@@ -325,10 +340,10 @@ module _ (t : List ℕ) (n : ℕ) (stem path : List Step) (x : FlowHead) (r : Re
       let first = are_left own_cut n stem own_left path ends.0 ends.1 x gone.node found_in before known run (x.before + end_of gone.node) gone.left refl gone.first in
       let coll : CollPieces = w own_cut n stem own_left path ends.0 ends.1 x gone.node found_in before known run in
       let one : AreFirstLeft coll own_cut run.run.cut n (stem ++ own_left) before.keep 1 None gone.left.following =
-      subst (λ (o : Option Bool). AreFirstLeft coll own_cut run.run.cut n (stem ++ own_left) before.keep 1 o gone.left.following) h.alone
-      (subst (λ (k : ℕ). AreFirstLeft coll own_cut run.run.cut n (stem ++ own_left) before.keep k gone.left.after gone.left.following) h.sole first) in
-      subst (CanExchange (remove n path) own_cut n stem before r.start r.end r.new.now) (sym h.known)
-      (can_empty own_cut n stem own_left path ends.0 ends.1 x gone.node found_in before known run h.own (sym h.inner) gone.left.following one r.start r.end r.new.now h.start h.finish h.new)
+      subst (λ (o : Option Bool). AreFirstLeft coll own_cut run.run.cut n (stem ++ own_left) before.keep 1 o gone.left.following) h.empty.alone
+      (subst (λ (k : ℕ). AreFirstLeft coll own_cut run.run.cut n (stem ++ own_left) before.keep k gone.left.after gone.left.following) h.empty.sole first) in
+      subst (CanExchange (remove n path) own_cut n stem before r.start r.end r.new.now) (sym h.empty.known)
+      (can_empty own_cut n stem own_left path ends.0 ends.1 x gone.node found_in before known run h.own (sym h.inner) gone.left.following one r.start r.end r.new.now h.empty.start h.empty.finish h.empty.new)
 
   either : PartGoes path x gone.node gone.left r ⊎ SoleGoes x gone.node gone.left before r → Can
   either (inl h) = part_out h

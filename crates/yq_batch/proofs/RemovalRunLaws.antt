@@ -9,11 +9,11 @@ use Rattle.yq_documents.specs.Reading.{read_at}
 use Rattle.yq_places.{specs.FlowNodes.flow_collection, specs.Placements.last_step}
 use Rattle.yq_semantics.{specs.Operations.remove, specs.declared.refusal.Refusal.TheVariants.TooLarge}
 use Rattle.yq_edit_rules.{specs.Edits.{op_edits, or_stay, part_removed, rows_or_sole}, specs.FlowParts.{flow_removed, flow_segments}}
-use Rattle.yq_edit_laws.proofs.CutLaws.{text_read}
-use Rattle.yq_edit_laws.proofs.FlowRemoveLaws.{bounds, bytes, collection_before, head_after, next, removed_reads}
+use Rattle.yq_edit_laws.{proofs.CutLaws.text_read, proofs.FlowPlacements.at}
+use Rattle.yq_edit_laws.proofs.FlowRemoveLaws.{bounds, bytes, collection_before, head_after, next, removed_reads, texts}
 use Rattle.yq_edit_laws.{specs.Carried.{carried, carry_one}, specs.Edit.{by_reading, edit_of_segments, gives, refuses}}
 use Rattle.yq_edit_laws.specs.Theorems.{IsFitting}
-use Rattle.yq_batch.{specs.RemovalRuns.{IsRemovalRun, text_exchanged}, proofs.RunEdits.fits_now}
+use Rattle.yq_batch.{specs.RemovalRuns.{IsRemovalRun, text_exchanged}, proofs.HeadsBefore.row_keeps, proofs.RunEdits.fits_now}
 use Rattle.yq_batch.proofs.BackEdits.{back_finish, back_large, back_new, back_order, back_start, back_text, back_there, drop_is, gone_first}
 use Rattle.yq_batch.proofs.BackEdits.{gone_is, own_front}
 
@@ -99,6 +99,11 @@ module _ (c : Cut) (n : ℕ) (stem left path : List Step) (s : Step) (keep : ℕ
               let rest : (m ++ first) ++ tail ≡ m ++ (g.old ++ g.after) = append_assoc m first tail ∙ ap (λ (l : List ℕ). m ++ l) (gone_is c n stem keep tail run g before now_is start finish start_is finish_is short) in
               collection_before run.cut n path (stem ++ left) s z g read last found gone stem left refl run.leads ss (record u { rest = (m ++ first) ++ tail }) m (run.stays ss u (m ++ first) at_end own) rest
               ∙ ap (λ (l : List ℕ). Some (record u { rest = m ++ (l ++ g.after) })) nothing;
+          row =
+              let now_read : read_at (cut_text next_cut) ≡ Some next_cut = ap read_at (text_read _ next_cut reads) ∙ reads in
+              row_keeps c run.cut n (stem ++ left) z (at run.cut n (stem ++ left) z read found) g stem left refl run.leads read (texts run.cut n path (stem ++ left) s z g read last found gone) now_read
+              keep start tail first g.after run.row (ap (λ (l : List ℕ). l ++ g.after) nothing) (drop_is c n stem keep tail run g before now_is start finish start_is finish_is short)
+              (gone_is c n stem keep tail run g before now_is start finish start_is finish_is short);
         },
         refl,
       )

@@ -3,23 +3,25 @@ use Rattle.std.proofs.Common.{◌≡◌, ℕ, suc, ◌+◌, ◌-◌, ◌≤◌, 
 use Rattle.std.{proofs.Common.{refl, sym, ap, ◌∙◌, subst, append_assoc, arith, length-append}, proofs.lemmas.List.append_cancel_right}
 use Rattle.std.{specs.Prelude.nat_lt, specs.Str.IsCharBoundary}
 use Rattle.yq_text.{specs.Limit.text_limit, specs.Script.splice_at}
-use Rattle.yq_core.{specs.Paths.Step, specs.Collections.CollPieces, specs.Nodes.{coll, flow_items_text, node_text}, specs.Trees.items_tree}
-use Rattle.yq_core.{proofs.NodesWrittenLaws.node_then, proofs.NodeAgain.items_longer}
+use Rattle.yq_core.{specs.Paths.{Step, change_child}, specs.Tree.Node, specs.Collections.CollPieces}
+use Rattle.yq_core.{specs.Nodes.{coll, flow_items_text, node_text}, specs.Trees.items_tree, proofs.NodesWrittenLaws.node_then}
+use Rattle.yq_core.proofs.NodeAgain.{items_longer}
 use Rattle.yq_flow_edits.{specs.FlowEdits.{FlowEdit, after_appended}, specs.Valued.IsValueTree}
 use Rattle.yq_outline.specs.Counts.{count}
 use Rattle.yq_row_table.specs.Rows.{Cut, cut_text}
-use Rattle.yq_documents.specs.Reading.{read_at}
+use Rattle.yq_documents.{specs.Reading.read_at, specs.TreeEdits.replaced_node}
 use Rattle.yq_places.{specs.FlowNodes.flow_collection, specs.Placements.last_step}
 use Rattle.yq_semantics.{specs.Operations.{remove, replace}, specs.declared.refusal.Refusal.TheVariants.TooLarge}
-use Rattle.yq_edit_rules.specs.FlowParts.{flow_segments}
-use Rattle.yq_edit_laws.{proofs.CutLaws.text_read, proofs.EarlierPuts.coll_before_put}
-use Rattle.yq_edit_laws.{proofs.FlowPutLaws.{bounds, head_after, next, replaced_reads, there}, proofs.FlowSoundLaws.last_is}
+use Rattle.yq_edit_rules.{specs.FlowParts.flow_segments, specs.FlowRows.FlowAt}
+use Rattle.yq_edit_laws.{proofs.FlowEditLaws.flow_texts, proofs.CutLaws.text_read, proofs.EarlierPuts.coll_before_put}
+use Rattle.yq_edit_laws.{proofs.FlowPutLaws.{bounds, edited, head_after, next, replaced_reads, there}, proofs.FlowSoundLaws.last_is}
 use Rattle.yq_edit_laws.{proofs.LaterEnds.last_longer, proofs.SoleLaws.empty_value}
 use Rattle.yq_edit_laws.proofs.SoleParts.{IsEmptiedBy, sole_comes, sole_fitting}
 use Rattle.yq_edit_laws.proofs.SoleEntries.{InnerEntry, coll_size, empty_bytes, g, inner_entry, node_emptied, sole_after, sole_old}
 use Rattle.yq_edit_laws.{proofs.SoleEntries.{sole_other, sole_written, v}, proofs.FlowWholeLaws.IsPlacedBefore, specs.Carried.carried}
 use Rattle.yq_edit_laws.{specs.Edit.{edit_of_segments, gives, refuses}, specs.Theorems.IsFitting}
-use Rattle.yq_batch.{specs.RemovalRuns.{IsRemovalRun, text_exchanged}, proofs.PutComes.put_comes, proofs.RunEdits.fits_now}
+use Rattle.yq_batch.{proofs.HeadsBefore.row_keeps, specs.RemovalRuns.{IsRemovalRun, text_exchanged}, proofs.PutComes.put_comes}
+use Rattle.yq_batch.proofs.RunEdits.{fits_now}
 use Rattle.yq_batch.proofs.BackEdits.{back_finish, back_large, back_new, back_order, back_start, back_text, back_there, drop_is, gone_first}
 use Rattle.yq_batch.proofs.BackEdits.{gone_is}
 
@@ -148,6 +150,15 @@ module _ (c : Cut) (n : ℕ) (stem left path : List Step) (s : Step) (keep : ℕ
     abbrev first : List ℕ
     first = gone_first c n stem keep tail run e before now_is start finish start_is finish_is short
 
+    abbrev new_value : Node
+    new_value = v run.cut n steps z read y.entry y.inside
+
+    abbrev at : FlowAt run.cut n y.entry.init y.entry.coll
+    at = Rattle.yq_edit_laws.proofs.FlowPutLaws.at run.cut n steps new_value read y.entry
+
+    abbrev next_cut : Cut
+    next_cut = next run.cut n steps new_value read y.entry stem own.0 y.init run.leads
+
     -- the run goes on after it
     pub sole_goes_on : IsFitting (remove n path) now → length (text_exchanged now start finish new) ≤ text_limit → IsRemovalRun c n stem start (new ++ e.after)
     sole_goes_on fitting small =
@@ -170,4 +181,8 @@ module _ (c : Cut) (n : ℕ) (stem left path : List Step) (s : Step) (keep : ℕ
               let longer : length (e.old ++ e.after) < length (after_appended u2) = omega (arith, last_longer u2.close u2.gap u2.items u2.rest, ap length rest, length-append m (e.old ++ e.after)) in
               let b = coll_before_put run.cut n steps (v run.cut n steps z read y.entry y.inside) read y.entry stem own.0 y.init run.leads value fits ss u2 (run.stays ss u (m ++ first) at_end own_rest) longer in
               b.2 ∙ ap (λ (l : List ℕ). Some (record u { rest = l ++ (new ++ e.after) })) (append_cancel_right b.0 m (e.old ++ e.after) (sym b.1 ∙ rest));
+          row = row_keeps c run.cut n y.entry.init y.entry.coll at e stem own.0 y.init run.leads read
+              (flow_texts run.cut n y.entry.init y.entry.coll at e (change_child y.entry.step (replaced_node new_value)) (edited run.cut n steps new_value read y.entry value fits))
+              (ap read_at (text_read _ next_cut reads) ∙ reads) keep start tail first (new ++ e.after) run.row refl
+              (drop_is c n stem keep tail run e before now_is start finish start_is finish_is short) (gone_is c n stem keep tail run e before now_is start finish start_is finish_is short);
         }

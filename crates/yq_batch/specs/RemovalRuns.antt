@@ -9,8 +9,11 @@ use Rattle.yq_row_table.specs.Rows.{Cut, cut_text}
 use Rattle.yq_documents.specs.Reading.{read_at}
 use Rattle.yq_places.{specs.FlowNodes.flow_collection, specs.FlowViews.{LeadsToHead, following_anchor, collection_view}}
 use Rattle.yq_places.{specs.Placements.last_step, specs.declared.places.flow_node.FlowHead.FlowHead}
-use Rattle.yq_semantics.{specs.Operations.Operation, specs.declared.refusal.Refusal.TheVariants.TooLarge, specs.Judgement.ExprError}
-use Rattle.yq_edit_laws.{specs.Carried.carried, specs.Edit.gives, specs.Theorems.IsApplied, specs.NearParts.{LeadsToPart, head_with}}
+use Rattle.yq_semantics.{specs.Operations.{Operation, operations_of}, specs.declared.op.Op.Op}
+use Rattle.yq_semantics.{specs.declared.refusal.Refusal.TheVariants.TooLarge, specs.Judgement.ExprError}
+use Rattle.yq_edit_laws.{specs.Carried.{carried, carry_all}, specs.Edit.{Edit, edit_after, gives}, specs.Valid.AreServed}
+use Rattle.yq_edit_laws.{specs.Theorems.IsApplied, specs.NearParts.{LeadsToPart, head_with}}
+use Rattle.yq_batch.{specs.HeadRows.{CollectionsStay, HeadRowKeeps}, specs.Runs.{cut_with, stem_of}}
 use Rattle.yq_batch.specs.LeftItems.{Ending, closing, count_parts, others, left_items, upto_text}
 use Rattle.yq_batch.{specs.declared.removals.RemovalRun.RemovalRun, specs.LeftPlaces.IsLeftPlace, specs.declared.left.LeftPlace.LeftPlace}
 use Rattle.yq_batch.{specs.declared.gone.LeftOf.LeftOf, specs.declared.gone.Removed.Removed, specs.declared.head.HeadInText.HeadInText}
@@ -21,14 +24,14 @@ use Rattle.yq_failure.specs.declared.failure.Failure.TheVariants as failure
 -- ---- runs
 
 -- The last bytes of a cut's text were replaced by others, since items and entries were taken out of the collections of the head to which steps lead: the
--- text reads, the steps lead to a head in it, and each collection that ends in the bytes that stay is there, before the others (own).
+-- text reads, the steps lead to a head in it, and each collection that ends in the bytes that stay is there, before the others, and so are heads in front of it (own).
 pub record IsRemovalRun (c : Cut) (n : ℕ) (stem : List Step) (keep : ℕ) (tail : List ℕ) : Type 0 where
   pub within : keep ≤ length (cut_text c)
   pub cut : Cut
   pub read : read_at (take keep (cut_text c) ++ tail) ≡ Some cut
   pub leads : LeadsToHead cut n stem
-  pub stays : (left : List Step) (w : CollPieces) (mid : List ℕ) → flow_collection n (stem ++ left) c ≡ Some w → w.rest ≡ mid ++ drop keep (cut_text c) →
-      flow_collection n (stem ++ left) cut ≡ Some (record w { rest = mid ++ tail })
+  pub stays : CollectionsStay c cut n stem keep tail
+  pub row : HeadRowKeeps c cut n stem keep tail
 
 -- others are left after the first items, and perhaps begin with a document marker, or none (own)
 abbrev pub AreAfter : Option Bool → Ending → Type 0
@@ -116,20 +119,41 @@ pub record PartGoes (steps : List Step) (x : FlowHead) (node : Placed) (left : L
   pub after : known.after ≡ place.after
   pub following : known.following ≡ left.following
 
--- The only one that is left of a collection in another one goes, and an empty one comes in the place of that (own).
-pub record SoleGoes (x : FlowHead) (node : Placed) (left : LeftOf) (r : RemovalRun) (z : Removed) : Type 0 where
-  pub own : List Step × Step
-  pub inner : Some own ≡ last_step (map tree_step x.left.now)
+-- Of a collection one item or entry is left, and an empty one comes in the place of that (own).
+pub record EmptyComes (before : ℕ) (node : Placed) (left : LeftOf) (r : RemovalRun) (z : Removed) : Type 0 where
   pub sole : left.count ≡ 1
   pub alone : left.after ≡ None
-  pub start : z.start ≡ x.before + content_of node
+  pub start : z.start ≡ before + content_of node
   pub finish : z.end + left.following ≡ length (buffer_text r.text)
   pub new : empty_text node ≡ Some z.new.now
   pub known : z.known ≡ None
 
 -- the same of a node of the code in a head (own)
+abbrev pub IsEmptied : HeadInText → Inline → LeftOf → RemovalRun → Removed → Type 0
+IsEmptied x m left r = EmptyComes x.head.before (inline_view m) left r
+
+-- The only one that is left of a collection in another one goes, and an empty one comes in the place of that (own).
+pub record SoleGoes (x : FlowHead) (node : Placed) (left : LeftOf) (r : RemovalRun) (z : Removed) : Type 0 where
+  pub own : List Step × Step
+  pub inner : Some own ≡ last_step (map tree_step x.left.now)
+  pub empty : EmptyComes x.before node left r z
+
+-- the same of a node of the code in a head (own)
 abbrev pub SoleGone : HeadInText → Bor (List declared.Step) → Inline → LeftOf → RemovalRun → Removed → Type 0
 SoleGone x steps m left r = SoleGoes (head_with x.head steps) (inline_view m) left r
+
+-- The only one that is left of a head's own collection goes, and an empty one comes in the place of that (own).
+pub record OwnEmptied (x : FlowHead) (known : Option LeftOf) (r : RemovalRun) (z : Removed) : Type 0 where
+  pub node : Placed
+  pub there : Some (following_anchor node) ≡ collection_view x
+  pub left : LeftOf
+  pub first : IsLeftIn (map tree_step x.left.now) known (x.before + end_of node) r.keep (length (buffer_text r.text)) (count_parts (parts_of node)) left
+  pub own : x.left.now ≡ []
+  pub empty : EmptyComes x.before node left r z
+
+-- the same of a head of the code, in which steps lead on (own)
+abbrev pub OwnGoes : HeadInText → Bor (List declared.Step) → Option LeftOf → RemovalRun → Removed → Type 0
+OwnGoes x steps known r = OwnEmptied (head_with x.head steps) known r
 
 -- What an operation exchanges in the text of a run, whose path ends in a collection of a head, and what is left of that then (own).
 pub record GoesInHead (steps : List Step) (x : FlowHead) (known : Option LeftOf) (r : RemovalRun) (z : Removed) : Type 0 where
@@ -164,3 +188,16 @@ pub record RemovesOn (op : Operation) (c : Cut) (n : ℕ) (stem : List Step) (be
   pub applied : IsApplied op (buffer_text before.text) (buffer_text after.text) new_bytes
   pub splices : after.splices.items ≡ before.splices.items ++ new_bytes
   pub run : RemovesSo c n stem known after
+
+-- what operations give on the text of a run, after its splices (own)
+abbrev pub all_left : List Op → RemovalRun → Edit
+all_left ops r = edit_after r.splices.items (carry_all (operations_of ops) (buffer_text r.text))
+
+-- The first ones of operations on the text of a run were carried out, and the others may follow: all give what they gave (own).
+pub record HasRemoved (ops : List Op) (before : RemovalRun) (left : List Op) (after : RemovalRun) : Type 0 where
+  pub whole : all_left left after ≡ all_left ops before
+  pub serves : AreServed (operations_of left) (buffer_text after.text)
+
+-- the run then goes on in the head (own)
+abbrev pub RemovesInHead : List Op → HeadInText → (before after : RemovalRun) → Bor (List Op) × Option LeftOf → Type 0
+RemovesInHead ops x before after y = HasRemoved ops before y.0.now after × RemovesSo (cut_with x) x.doc (stem_of x) y.1 after

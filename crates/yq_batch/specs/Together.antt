@@ -3,7 +3,7 @@ use Rattle.std.specs.Prelude.{◌≡◌, ⊤, ℕ, List, Option, IfSome, string_
 use Rattle.yq_semantics.{specs.Operations.operations_of, specs.declared.op.Op.Op}
 use Rattle.yq_edit_laws.{specs.Carried.carry_all, specs.Edit.{Edit, edit_after}, specs.Valid.AreServed}
 use Rattle.yq_batch.{specs.Runs.IsFoundHead, specs.declared.together.Together.Together, specs.declared.together.HowCarried.HowCarried}
-use Rattle.yq_batch.specs.declared.together.HowCarried.TheVariants.{InHeads, OutOfHead}
+use Rattle.yq_batch.specs.declared.together.HowCarried.TheVariants.{InHeads, OutOfHeads}
 
 -- what operations give of which the first ones were carried out together, with those that are left (own)
 abbrev pub all_of : Together → Edit
@@ -25,5 +25,5 @@ CarriesTogether ops t o = IfSome o (CarriesFirst ops t)
 -- a head that was found for operations is in a text (own)
 abbrev pub IsHow : List ℕ → HowCarried → Type 0
 IsHow t (InHeads x) = IsFoundHead t x
-IsHow t (OutOfHead x) = IsFoundHead t x
+IsHow t (OutOfHeads x) = IsFoundHead t x
 IsHow t _ = ⊤

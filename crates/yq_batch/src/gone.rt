@@ -110,7 +110,29 @@ fn empty_of(node: &Inline<'_>) -> Option<&'static str>
     }
 }
 
-/// The place of a collection in another one, of which one item or entry is left, and what comes there: an empty one.
+/// The place of a collection of which one item or entry is left, and what comes there: an empty one.
+fn emptied<'s>(
+    at: &HeadInText<'_, '_, '_, '_, '_, '_>,
+    node: &Inline<'_>,
+    left: LeftOf<'s>,
+    run: &RemovalRun,
+) -> Option<Removed<'s>>
+    requires sole { left.count ≡ 1 }
+    requires alone { left.after ≡ None }
+    ensures { IfSome result (spec.IsEmptied at.now node.now left.entry run.now) }
+{
+    let new = empty_of(node)?;
+    let start = at.head.before.checked_add(content_of(node))?;
+    let end = run.text.len().checked_sub(left.following)?;
+    Some(Removed {
+        start,
+        end,
+        new,
+        known: None,
+    })
+}
+
+/// The same of a collection in another one.
 fn sole_gone<'s>(
     at: &HeadInText<'_, '_, '_, '_, '_, '_>,
     steps: &'s [Step],
@@ -123,15 +145,27 @@ fn sole_gone<'s>(
     ensures { IfSome result (spec.SoleGone at.now steps.entry node.now left.entry run.now) }
 {
     let _own = last_step(steps)?;
-    let new = empty_of(node)?;
-    let start = at.head.before.checked_add(content_of(node))?;
-    let end = run.text.len().checked_sub(left.following)?;
-    Some(Removed {
-        start,
-        end,
-        new,
-        known: None,
-    })
+    emptied(at, node, left, run)
+}
+
+/// The same of a head's own collection, to which no steps lead on.
+pub(crate) fn own_gone<'s>(
+    at: &HeadInText<'_, '_, '_, '_, '_, '_>,
+    steps: &'s [Step],
+    known: Option<LeftOf<'s>>,
+    run: &RemovalRun,
+) -> Option<Removed<'s>>
+    ensures { IfSome result (spec.OwnGoes at.now steps.entry known.entry run.now) }
+{
+    if !steps.is_empty() {
+        return None;
+    }
+    let node = collection_along(&at.head.node, steps)?;
+    let left = left_in(steps, at.head.before, node, known, run)?;
+    if left.count != 1 || left.after.is_some() {
+        return None;
+    }
+    emptied(at, node, left, run)
 }
 
 /// What goes where the item or entry is taken out in which a path ends, if steps lead on to its collection in a head,

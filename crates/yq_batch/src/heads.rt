@@ -78,7 +78,7 @@ fn put_in_found<'s>(
 }
 
 /// The row of the item or entry to which steps lead, if the node of that is inline in it.
-fn row_at(
+pub(crate) fn row_at(
     alloc: Global,
     cut: &mut CutText<'_, '_>,
     doc: usize,

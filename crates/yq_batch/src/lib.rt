@@ -10,6 +10,7 @@ mod emptied_rows;
 mod empty_heads;
 mod gone;
 mod head;
+mod head_removals;
 mod heads;
 mod in_rows;
 mod kept_breaks;

@@ -4,9 +4,8 @@ ghost use Rattle.std.specs.Prelude.{◌≡◌, ◌-◌, ◌≤◌, [], length, I
 ghost use Rattle.std.specs.Str.{IsCharBoundary, IsUtf8};
 ghost use Rattle.yq_text.{specs.Halves.whole, specs.TextGapBuffer.buffer_text};
 ghost use Rattle.yq_semantics.specs.Operations.{operation_of, operations_of};
-ghost use Rattle.yq_edit_laws.{specs.Answers.EditFails, specs.Carried.{carry_all, carried}, specs.Theorems.IsFitting};
-ghost use Rattle.yq_edit_laws.specs.Valid.{AreServed};
-ghost use Rattle.yq_batch.{specs.Runs.{IsInText, cut_with, stem_of}, specs.Together.CarriesFirst};
+ghost use Rattle.yq_edit_laws.{specs.Answers.EditFails, specs.Carried.carried, specs.Theorems.IsFitting, specs.Valid.AreServed};
+ghost use Rattle.yq_batch.specs.Runs.{IsInText, cut_with, stem_of};
 ghost use Rattle.yq_batch.specs.RemovalRuns as spec;
 
 use crate::change::steps_in_head;
@@ -125,29 +124,30 @@ pub(crate) fn ended<'s>(run: RemovalRun, left: &'s [Op]) -> Together<'s>
     }
 }
 
-/// Carries out operations that take items and entries out of the collections of a head, up to the first one that
-/// does something else, or isn't before one that was carried out.
+/// Carries out operations on the text of a run that take items and entries out of the collections of a head, up to the
+/// first one that does something else, or isn't before one that was carried out; and reports which are left, and what is
+/// left of the last collection.
 pub(crate) fn remove_each<'s>(
     alloc: Global,
     at: &HeadInText<'_, '_, '_, '_, '_, '_>,
     ops: &'s [Op],
-) -> Result<Together<'s>, ExprError>
+    run: &mut RemovalRun,
+) -> Result<(&'s [Op], Option<LeftOf<'s>>), ExprError>
     requires there { IsInText at.now }
-    requires serves { AreServed (operations_of ops.now) at.now.cut.now }
-    ensures ok { IfOk result (CarriesFirst ops.now at.now.cut.now) }
-    ensures err { IfErr result (λ e. EditFails e
-        (carry_all (operations_of ops.now) at.now.cut.now)) }
+    requires run { spec.RemovesSo (cut_with at.now) at.now.doc (stem_of at.now) None run.old }
+    requires serves { AreServed (operations_of ops.now) (buffer_text run.old.text) }
+    ensures ok { IfOk result (spec.RemovesInHead ops.now at.now run.old run.new) }
+    ensures err { IfErr result (λ e. EditFails e (spec.all_left ops.now run.old)) }
 {
-    let mut run = untouched(alloc, at.cut.text())?;
     let mut known = None;
     let mut rest = ops;
     'operations: while let [op, after @ ..] = rest {
-        let found = remove_one(alloc, at, op, known, &mut run)?;
+        let found = remove_one(alloc, at, op, known, run)?;
         let Some(left) = found else {
-            return Ok(ended(run, rest));
+            return Ok((rest, known));
         };
         known = left;
         rest = after;
     }
-    Ok(ended(run, rest))
+    Ok((rest, known))
 }

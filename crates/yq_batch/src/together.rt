@@ -6,10 +6,10 @@ ghost use Rattle.yq_batch.{specs.Runs.IsFoundHead, specs.Under.MayCarryUnder};
 ghost use Rattle.yq_batch.specs.Together as spec;
 
 use crate::any_row::carry_in_any_row;
-use crate::head::{FoundHead, HeadInText, head_for, is_in_head};
+use crate::head::{FoundHead, head_for, is_in_head};
+use crate::head_removals::remove_in_heads;
 use crate::heads::put_in_heads;
 use crate::in_rows::{carry_in_rows, put_under};
-use crate::removals::remove_each;
 use crate::row_removals::{remove_rows, remove_under};
 use std::alloc::{AllocError, Global};
 use yq_core::Step;
@@ -30,8 +30,8 @@ pub struct Together<'o> {
 pub(crate) enum HowCarried<'o, 't> {
     /// They put values in flow collections, and items and entries into these: the first one in a head.
     InHeads(FoundHead<'o, 't>),
-    /// They take items and entries out of the flow collections of a head.
-    OutOfHead(FoundHead<'o, 't>),
+    /// They take items and entries out of flow collections of a document: the first one in a head.
+    OutOfHeads(FoundHead<'o, 't>),
     /// The first ones take lines out of block collections of a document.
     OutOfRows(usize),
     /// Each changes one row.
@@ -40,10 +40,17 @@ pub(crate) enum HowCarried<'o, 't> {
     InMapping,
 }
 
-/// Whether operations, all but perhaps the last one, may change collections of a head.
-fn are_in_head(ops: &[Op], head: &FoundHead<'_, '_>) -> bool {
+/// Whether operations, all but perhaps the last one, take items and entries out of a document, and the second one changes a
+/// collection of a head of it, if there are more.
+fn take_out_of(ops: &[Op], head: &FoundHead<'_, '_>) -> bool {
+    if ops.len() > 2 && !is_in_head(&ops[1], head.doc, head.stem) {
+        return false;
+    }
     'operations: for i in 0..ops.len() {
-        if !is_in_head(&ops[i], head.doc, head.stem) {
+        let Op::Remove(path) = &ops[i] else {
+            return i + 1 == ops.len();
+        };
+        if path.doc != head.doc {
             return i + 1 == ops.len();
         }
     }
@@ -57,10 +64,10 @@ fn how_in_head<'o, 't>(head: FoundHead<'o, 't>, ops: &[Op]) -> Option<HowCarried
     let [Op::Remove(_), ..] = ops else {
         return Some(HowCarried::InHeads(head));
     };
-    if !are_in_head(ops, &head) {
+    if !take_out_of(ops, &head) {
         return None;
     }
-    Some(HowCarried::OutOfHead(head))
+    Some(HowCarried::OutOfHeads(head))
 }
 
 /// How operations are carried out that change rows, if none takes something out.
@@ -113,29 +120,6 @@ fn how_carried<'o, 't>(
     Ok(how_outside(ops))
 }
 
-/// Carries out operations that take items and entries out of the collections of a head.
-fn remove_in_head<'o>(
-    alloc: Global,
-    cut: &CutText<'_, '_>,
-    found: FoundHead<'o, '_>,
-    ops: &'o [Op],
-) -> Result<Option<Together<'o>>, ExprError>
-    requires head { IsFoundHead cut.now found }
-    requires serves { AreServed (operations_of ops.now) cut.now }
-    ensures ok { IfOk result (spec.CarriesTogether ops.now cut.now) }
-    ensures err { IfErr result (λ e. EditFails e (carry_all (operations_of ops.now) cut.now)) }
-{
-    let FoundHead { doc, stem, head } = found;
-    let _text = cut.text();
-    let at = HeadInText {
-        cut,
-        doc,
-        stem,
-        head,
-    };
-    Ok(Some(remove_each(alloc, &at, ops)?))
-}
-
 /// Carries out operations together, in one pass over the text: all, or the first ones. Nothing, where that isn't known of
 /// them, or one of them does something else than it seemed.
 pub fn carry_together<'d, 'o: 'd>(
@@ -153,7 +137,7 @@ pub fn carry_together<'d, 'o: 'd>(
     };
     match how {
         HowCarried::InHeads(head) => put_in_heads(alloc, cut, head, ops),
-        HowCarried::OutOfHead(head) => remove_in_head(alloc, cut, head, ops),
+        HowCarried::OutOfHeads(head) => Ok(Some(remove_in_heads(alloc, cut, head, ops)?)),
         HowCarried::OutOfRows(doc) => Ok(Some(remove_rows(alloc, cut, doc, ops)?)),
         HowCarried::InRows => carry_in_rows(alloc, cut, ops),
         HowCarried::InMapping => Ok(carry_in_any_row(alloc, cut, ops)?),

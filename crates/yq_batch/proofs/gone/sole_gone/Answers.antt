@@ -1,14 +1,5 @@
-use Rattle.std.proofs.Common.{ℕ, ◌+◌, ◌∙◌, ap, arith, refl}
+use Rattle.std.proofs.lemmas.Option.{IfSome_then}
 use Rattle.yq_batch.proofs.gone.sole_gone.Goals as goal
 
 pub returns : goal.returns
-returns c = record {
-  own = _;
-  inner = c.in_ok-_own.ensures;
-  sole = c.requires.sole;
-  alone = c.requires.alone;
-  start = c.in_ok-start.ensures.1 ∙ ap (λ (k : ℕ). c.args.at.now.head.before + k) c.content_of.ensures;
-  finish = omega (arith, c.in_ok-end.ensures.0, c.in_ok-end.ensures.1, c.len.ensures);
-  new = c.in_ok-new.ensures;
-  known = refl;
-}
+returns c = IfSome_then c.emptied.result c.emptied.ensures (λ z h. record { own = _; inner = c.in_ok-_own.ensures; empty = h })

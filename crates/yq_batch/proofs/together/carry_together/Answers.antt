@@ -7,7 +7,7 @@ put_in_heads-requires-clause-head c =
     let t : List ℕ = c.args.cut.now in
     subst (IsHow t) c.in-InHeads.is (some_is (IsHow t) c.in_ok-found.found c.in-Some.how c.in_ok-found.ensures c.in-Some.is)
 
-pub remove_in_head-requires-clause-head : goal.remove_in_head-requires-clause-head
-remove_in_head-requires-clause-head c =
+pub remove_in_heads-requires-clause-head : goal.remove_in_heads-requires-clause-head
+remove_in_heads-requires-clause-head c =
     let t : List ℕ = c.args.cut.now in
-    subst (IsHow t) c.in-OutOfHead.is (some_is (IsHow t) c.in_ok-found.found c.in-Some.how c.in_ok-found.ensures c.in-Some.is)
+    subst (IsHow t) c.in-OutOfHeads.is (some_is (IsHow t) c.in_ok-found.found c.in-Some.how c.in_ok-found.ensures c.in-Some.is)
