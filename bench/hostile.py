@@ -140,7 +140,6 @@ TEXTS["a list below long keys"] = lambda size: LONG_KEYS + " " * 60 + "a: [" + "
 ABOVE = [
     ("the string of a sum is made, however long", ["a long string"], SUMS[:1]),
     ("entries that are added to mappings are made, however many", ["mappings and nulls"], [ENTRIES]),
-    ("each removal has its path, with all keys", ["a list below long keys"], [BELOW]),
 ]
 KNOWN = {(name, expression): cause for cause, names, expressions in ABOVE for name in names for expression in expressions}
 

@@ -50,6 +50,7 @@ pub mod RowsEmptied
 pub mod RowRunEmpties
 pub mod EmptiedAnswers
 pub mod RowRemovalAnswers
+pub mod ChildRemovals
 pub mod SlotLaws
 pub mod SlotCounts
 pub mod SlotStills

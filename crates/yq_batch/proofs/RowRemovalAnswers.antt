@@ -258,7 +258,7 @@ two_apart (x ∷ []) a b some at be = absurd (omega (arith, some))
 two_apart (x ∷ (y ∷ os)) a b some at be = (os, λ i. sym at i ∷ (sym be i ∷ os))
 
 -- an operation that means a removal at a path removes what is there
-at_removal : (o : Op) (p : Path) (n : ℕ) (steps : List Step) → op_at p o ≡ remove n steps → (p.doc ≡ n) × (steps_of p ≡ steps)
+pub at_removal : (o : Op) (p : Path) (n : ℕ) (steps : List Step) → op_at p o ≡ remove n steps → (p.doc ≡ n) × (steps_of p ≡ steps)
 at_removal (ops.Replace own v) p n steps is = absurd (cc)
 at_removal (ops.Append own key v) p n steps is = absurd (cc)
 at_removal (ops.Remove own) p n steps is = search rules

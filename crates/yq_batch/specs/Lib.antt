@@ -6,6 +6,7 @@ pub mod Together
 pub mod Under
 pub mod HeadRuns
 pub mod RemovalRuns
+pub mod HeadPaths
 pub mod HeadRemovals
 pub mod LeftItems
 pub mod LeftPlaces

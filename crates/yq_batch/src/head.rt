@@ -1,7 +1,9 @@
 //! Heads in which operations are carried out together.
-ghost use Rattle.std.specs.Prelude.{◌≡◌, IfOk, IfSome};
+ghost use Rattle.std.specs.Prelude.{◌≡◌, map, IfOk, IfSome};
+ghost use Rattle.yq_core.specs.Entries.{tree_step};
 ghost use Rattle.yq_text.specs.Halves.{whole};
 ghost use Rattle.yq_row_table.specs.Rows.{cut_text};
+ghost use Rattle.yq_batch.specs.HeadPaths.{IsFoundFor};
 ghost use Rattle.yq_batch.specs.Runs as spec;
 
 use crate::change::steps_on;
@@ -59,6 +61,23 @@ pub(crate) fn is_in_head(op: &Op, doc: usize, stem: &[Step]) -> bool {
     }
 }
 
+/// The head of the flow collection to which steps lead in a document, if one is there.
+pub(crate) fn head_at<'s, 't>(
+    alloc: Global,
+    cut: &CutText<'_, 't>,
+    doc: usize,
+    steps: &'s [Step],
+) -> Result<Option<FoundHead<'s, 't>>, AllocError>
+    ensures head { IfOk result (λ o. IfSome o (spec.IsFoundHead cut.now)) }
+    ensures leads { IfOk result (λ o. IfSome o (IsFoundFor doc (map tree_step steps.now))) }
+{
+    let Some(head) = cut.flow_head(alloc, doc, steps)? else {
+        return Ok(None);
+    };
+    let (stem, _) = steps.split_at(steps.len() - head.left.len());
+    Ok(Some(FoundHead { doc, stem, head }))
+}
+
 /// The head of which an operation changes a collection, if it does.
 pub(crate) fn head_for<'s, 't>(
     alloc: Global,
@@ -70,9 +89,5 @@ pub(crate) fn head_for<'s, 't>(
     let Some((doc, steps)) = changed_collection(op) else {
         return Ok(None);
     };
-    let Some(head) = cut.flow_head(alloc, doc, steps)? else {
-        return Ok(None);
-    };
-    let (stem, _) = steps.split_at(steps.len() - head.left.len());
-    Ok(Some(FoundHead { doc, stem, head }))
+    head_at(alloc, cut, doc, steps)
 }

@@ -3,17 +3,22 @@
 ghost use Rattle.std.specs.Prelude.{◌≡◌, ◌-◌, ◌≤◌, [], length, IfErr, IfOk, IfSome, None, OnOk, string_bytes};
 ghost use Rattle.std.specs.Str.{IsCharBoundary, IsUtf8};
 ghost use Rattle.yq_text.{specs.Halves.whole, specs.TextGapBuffer.buffer_text};
-ghost use Rattle.yq_semantics.specs.Operations.{operation_of, operations_of};
-ghost use Rattle.yq_edit_laws.{specs.Answers.EditFails, specs.Carried.carried, specs.Theorems.IsFitting, specs.Valid.AreServed};
-ghost use Rattle.yq_batch.specs.Runs.{IsInText, cut_with, stem_of};
+ghost use Rattle.yq_semantics.{specs.Operations.{operation_of, operations_of}, specs.Under.ops_under};
+ghost use Rattle.yq_edit_laws.{specs.Answers.EditFails, specs.Carried.carry_all, specs.Theorems.IsFitting, specs.Valid.AreServed};
+ghost use Rattle.yq_batch.{specs.Runs.{IsInText, cut_with, stem_of}, specs.RowRemovals.{FailsOn, removal_of}};
+ghost use Rattle.yq_batch.{specs.HeadPaths.{EndsInHead, LeadsToCollection, MayRemoveOn}, specs.Under.CarriesUnder};
 ghost use Rattle.yq_batch.specs.RemovalRuns as spec;
 
 use crate::change::steps_in_head;
 use crate::gone::{LeftOf, Removed, gone_in_head};
 use crate::head::HeadInText;
+use crate::row_removals::takes_from;
 use crate::run::{between, bytes_of, push_splice};
 use crate::together::Together;
+use crate::under::{lead_on, path_to, placed};
 use std::alloc::{AllocError, Global};
+use yq_core::Step;
+use yq_documents::Path;
 use yq_semantics::{ExprError, Op, Refusal};
 use yq_text::{Edited, Halves, Splice, TEXT_LIMIT, TextGapBuffer};
 
@@ -71,6 +76,39 @@ pub(crate) fn exchange(
     Ok(push_splice(&mut run.splices, start, old, written)?)
 }
 
+/// Takes what is at a path out of the collection of a head, to which these steps lead on in that, on the text of a run,
+/// before what was taken out; and reports what is left of that collection then.
+#[inline(always)]
+fn remove_at<'s>(
+    alloc: Global,
+    at: &HeadInText<'_, '_, '_, '_, '_, '_>,
+    taken: (&Path, &'s [Step]),
+    known: Option<LeftOf<'s>>,
+    run: &mut RemovalRun,
+) -> Result<Option<Option<LeftOf<'s>>>, ExprError>
+    requires there { IsInText at.now }
+    requires run { spec.RemovesSo (cut_with at.now) at.now.doc (stem_of at.now) known run.old }
+    requires ends { EndsInHead at.now taken.1.now taken.0.now }
+    requires fits { IsFitting (removal_of taken.0.now) (buffer_text run.old.text) }
+    ensures ok { IfOk result (MayRemoveOn (removal_of taken.entry.0.now) at.now run.old
+        run.new) }
+    ensures stays { IfOk result (λ o. o ≡ None → run.new ≡ run.old) }
+    ensures err { IfErr result (λ e. FailsOn e (removal_of taken.entry.0.now) run.old) }
+{
+    let (path, steps) = taken;
+    let Some(gone) = gone_in_head(at, path, steps, known, run) else {
+        return Ok(None);
+    };
+    let Removed {
+        start,
+        end,
+        new,
+        known,
+    } = gone;
+    exchange(alloc, run, start, end, new)?;
+    Ok(Some(known))
+}
+
 /// Carries out an operation on the text of a run, if it takes an item or entry out of a collection of a
 /// head, before those that were taken out; and reports what is left of that collection then.
 fn remove_one<'s>(
@@ -83,11 +121,9 @@ fn remove_one<'s>(
     requires there { IsInText at.now }
     requires run { spec.RemovesSo (cut_with at.now) at.now.doc (stem_of at.now) known run.old }
     requires fits { IsFitting (operation_of op.now) (buffer_text run.old.text) }
-    ensures ok { IfOk result (λ o. IfSome o (λ next. spec.RemovesOn (operation_of op.now)
-        (cut_with at.now) at.now.doc (stem_of at.now) run.old next run.new)) }
+    ensures ok { IfOk result (MayRemoveOn (operation_of op.now) at.now run.old run.new) }
     ensures stays { IfOk result (λ o. o ≡ None → run.new ≡ run.old) }
-    ensures err { IfErr result (λ e. EditFails e (carried (operation_of op.now)
-        (buffer_text run.old.text))) }
+    ensures err { IfErr result (λ e. FailsOn e (operation_of op.now) run.old) }
 {
     let Op::Remove(path) = op else {
         return Ok(None);
@@ -95,17 +131,7 @@ fn remove_one<'s>(
     let Some(steps) = steps_in_head(path, at.doc, at.stem) else {
         return Ok(None);
     };
-    let Some(gone) = gone_in_head(at, path, steps, known, run) else {
-        return Ok(None);
-    };
-    let Removed {
-        start,
-        end,
-        new,
-        known,
-    } = gone;
-    exchange(alloc, run, start, end, new)?;
-    Ok(Some(known))
+    remove_at(alloc, at, (path, steps), known, run)
 }
 
 /// The text of a run with the operations that are left.
@@ -150,4 +176,39 @@ pub(crate) fn remove_each<'s>(
         rest = after;
     }
     Ok((rest, known))
+}
+
+/// The same of operations at and below a node that is a flow collection of a head: of those that take its own items and
+/// entries out. First come the steps to the node.
+pub(crate) fn remove_children<'s>(
+    alloc: Global,
+    at: &HeadInText<'_, '_, '_, '_, '_, '_>,
+    front: &[Step],
+    ops: &'s [Op],
+) -> Result<Together<'s>, ExprError>
+    requires there { IsInText at.now }
+    requires front { LeadsToCollection at.now front.now }
+    requires serves { AreServed (ops_under front.now ops.now) at.now.cut.now }
+    ensures ok { IfOk result (CarriesUnder front.now ops.now at.now.cut.now) }
+    ensures err { IfErr result (λ e. EditFails e
+        (carry_all (ops_under front.now ops.now) at.now.cut.now)) }
+{
+    let mut run = untouched(alloc, at.cut.text())?;
+    let mut path = path_to(alloc, front)?;
+    let mut known = None;
+    let mut rest = ops;
+    'operations: while let [op, after @ ..] = rest {
+        if !takes_from(op, at.doc, &[]) {
+            return Ok(ended(run, rest));
+        }
+        lead_on(alloc, front, &mut path, op)?;
+        let own = placed(front, &path, op);
+        let found = remove_at(alloc, at, (own.path, at.head.left), known, &mut run)?;
+        let Some(left) = found else {
+            return Ok(ended(run, rest));
+        };
+        known = left;
+        rest = after;
+    }
+    Ok(ended(run, rest))
 }

@@ -26,7 +26,7 @@ use yq_places::{Seam, is_text};
 use yq_semantics::{ExprError, Op};
 
 /// Whether an operation takes an item or entry out of the collection at some steps.
-fn takes_from(op: &Op, doc: usize, above: &[Step]) -> bool
+pub(crate) fn takes_from(op: &Op, doc: usize, above: &[Step]) -> bool
     ensures { IsTrue result → spec.TakesFrom op.now doc (map tree_step above.now) }
 {
     let Op::Remove(path) = op else {

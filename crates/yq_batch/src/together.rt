@@ -2,14 +2,15 @@
 ghost use Rattle.std.specs.Prelude.{IfErr, IfOk, IfSome, List, ℕ};
 ghost use Rattle.yq_semantics.{specs.Operations.operations_of, specs.Under.ops_under};
 ghost use Rattle.yq_edit_laws.{specs.Answers.EditFails, specs.Carried.carry_all, specs.Valid.AreServed};
-ghost use Rattle.yq_batch.{specs.Runs.IsFoundHead, specs.Under.MayCarryUnder};
+ghost use Rattle.yq_batch.{specs.Runs.IsFoundHead, specs.Under.{CarriesUnder, MayCarryUnder}};
 ghost use Rattle.yq_batch.specs.Together as spec;
 
 use crate::any_row::carry_in_any_row;
-use crate::head::{FoundHead, head_for, is_in_head};
+use crate::head::{FoundHead, HeadInText, head_at, head_for, is_in_head};
 use crate::head_removals::remove_in_heads;
 use crate::heads::put_in_heads;
 use crate::in_rows::{carry_in_rows, put_under};
+use crate::removals::remove_children;
 use crate::row_removals::{remove_rows, remove_under};
 use std::alloc::{AllocError, Global};
 use yq_core::Step;
@@ -144,8 +145,41 @@ pub fn carry_together<'d, 'o: 'd>(
     }
 }
 
-/// The same of operations at and below a node, to which these steps lead, where they change rows outside flow
-/// collections.
+/// Carries out operations at and below a node that take items and entries out: of block collections, with their lines, or
+/// its own ones, where it is a flow collection.
+fn remove_below<'d, 'o: 'd>(
+    alloc: Global,
+    cut: &CutText<'d, '_>,
+    front: &[Step],
+    doc: usize,
+    ops: &'o [Op],
+) -> Result<Together<'o>, ExprError>
+    requires { AreServed (ops_under front.now ops.now) cut.now }
+    ensures ok { IfOk result (CarriesUnder front.now ops.now cut.now) }
+    ensures err { IfErr result (λ e. EditFails e
+        (carry_all (ops_under front.now ops.now) cut.now)) }
+{
+    let together = remove_under(alloc, cut, front, doc, ops)?;
+    if together.left.len() < ops.len() {
+        return Ok(together);
+    }
+    let found = head_at(alloc, cut, doc, front)?;
+    let Some(found) = found else {
+        return Ok(together);
+    };
+    let FoundHead { doc, stem, head } = found;
+    let _text = cut.text();
+    let at = HeadInText {
+        cut,
+        doc,
+        stem,
+        head,
+    };
+    remove_children(alloc, &at, front, ops)
+}
+
+/// The same of operations at and below a node, to which these steps lead, where they take its items and entries out, or
+/// change rows outside flow collections.
 pub fn carry_under<'d, 'o: 'd>(
     alloc: Global,
     cut: &CutText<'d, '_>,
@@ -158,7 +192,7 @@ pub fn carry_under<'d, 'o: 'd>(
         (carry_all (ops_under front.now ops.now) cut.now)) }
 {
     match how_outside(ops) {
-        Some(HowCarried::OutOfRows(doc)) => { Ok(Some(remove_under(alloc, cut, front, doc, ops)?)) }
+        Some(HowCarried::OutOfRows(doc)) => { Ok(Some(remove_below(alloc, cut, front, doc, ops)?)) }
         Some(HowCarried::InRows) => put_under(alloc, cut, front, ops),
         _ => Ok(None),
     }

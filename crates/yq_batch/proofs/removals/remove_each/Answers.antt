@@ -1,9 +1,9 @@
-use Rattle.std.{proofs.Common.{◌∙◌, ℕ, List, Option, refl, sym, subst}, proofs.lemmas.Result.err_from_is_err_and, specs.Prelude.IfSome}
+use Rattle.std.{proofs.Common.{◌∙◌, ℕ, List, refl, sym, subst}, proofs.lemmas.Result.err_from_is_err_and}
 use Rattle.yq_text.specs.TextGapBuffer.{buffer_text}
 use Rattle.yq_semantics.specs.Operations.{operation_of}
 use Rattle.yq_edit_laws.{specs.Answers.EditFails, proofs.OperationsLaws.{first_fails, first_fits, others_come, others_served}}
-use Rattle.yq_batch.{specs.Runs.{cut_with, stem_of}, specs.RemovalRuns.{HasRemoved, RemovesOn, RemovesSo}}
-use Rattle.yq_batch.{specs.declared.gone.LeftOf.LeftOf, specs.declared.removals.RemovalRun.RemovalRun}
+use Rattle.yq_batch.{specs.Runs.{cut_with, stem_of}, specs.HeadPaths.MayRemoveOn, specs.RemovalRuns.{HasRemoved, RemovesSo}}
+use Rattle.yq_batch.specs.declared.removals.RemovalRun.{RemovalRun}
 use Rattle.yq_batch.proofs.removals.remove_each.Goals as goal
 
 pub operations-init : goal.operations-init
@@ -23,9 +23,7 @@ pub operations-preserved : goal.operations-preserved
 operations-preserved c =
     let t : List ℕ = buffer_text c.operations.run.text in
     let m : List ℕ = buffer_text c.remove_one.new.run.text in
-    let on = subst (λ (o : Option (Option LeftOf)). IfSome o
-    (λ k. RemovesOn (operation_of c.op-item.result) (cut_with c.args.at.now) c.args.at.now.doc (stem_of c.args.at.now) c.operations.run k
-    c.remove_one.new.run)) c.in-Some.is c.in_ok-found.ensures.ok in
+    let on = subst (MayRemoveOn (operation_of c.op-item.result) c.args.at.now c.operations.run c.remove_one.new.run) c.in-Some.is c.in_ok-found.ensures.ok in
     record {
       whole =
           others_come c.operations.rest.now c.op-item.result t m c.operations.run.splices.items on.new_bytes c.remove_one.new.run.splices.items c.in-len1-up.len_at_least c.op-item.is on.comes on.splices

@@ -1,0 +1,29 @@
+use Rattle.std.{proofs.Common.{map, refl}, proofs.lemmas.Result.err_from_is_err_and}
+use Rattle.yq_core.specs.Entries.{tree_step}
+use Rattle.yq_documents.specs.Located.{steps_of}
+use Rattle.yq_places.specs.declared.places.flow_node.FlowHead.{FlowHead}
+use Rattle.yq_edit_laws.specs.NearParts.{head_with}
+use Rattle.yq_batch.{specs.RowRemovals.removal_of, proofs.RemovalAnswers.out_of}
+use Rattle.yq_batch.proofs.removals.remove_at.Goals as goal
+
+pub exchange-requires : goal.exchange-requires
+exchange-requires c =
+    let x : FlowHead = head_with c.args.at.now.head c.args.taken.1 in
+    let out = out_of c.args.at.now.cut.now c.args.at.now.doc (map tree_step c.args.at.now.stem.now) (steps_of c.args.taken.0.now) x c.in-Some.gone c.args.run.now c.args.known c.requires.there.read
+    c.requires.ends.1 (c.requires.there.reports.reports x refl refl refl) c.in-Some.ensures c.requires.run c.args.taken.0.now.doc (removal_of c.args.taken.0.now) refl c.requires.ends.0 in
+    record { order = out.order; room = out.room; utf8 = out.utf8; start = out.starts; end = out.finishes }
+
+pub returns-in_err-exchange-clause-err : goal.returns-in_err-exchange-clause-err
+returns-in_err-exchange-clause-err c =
+    let p = err_from_is_err_and c.from_residual.result c.from_residual.ensures.1 in
+    let x : FlowHead = head_with c.args.at.now.head c.args.taken.1 in
+    let out = out_of c.args.at.now.cut.now c.args.at.now.doc (map tree_step c.args.at.now.stem.now) (steps_of c.args.taken.0.now) x c.in-Some.gone c.args.run.now c.args.known c.requires.there.read
+    c.requires.ends.1 (c.requires.there.reports.reports x refl refl refl) c.in-Some.ensures c.requires.run c.args.taken.0.now.doc (removal_of c.args.taken.0.now) refl c.requires.ends.0 in
+    rw (p.1, p.2) (out.fails c.in_err-exchange.field-0.0 c.in_err-exchange.ensures.err)
+
+pub returns-clause-ok : goal.returns-clause-ok
+returns-clause-ok c =
+    let x : FlowHead = head_with c.args.at.now.head c.args.taken.1 in
+    let out = out_of c.args.at.now.cut.now c.args.at.now.doc (map tree_step c.args.at.now.stem.now) (steps_of c.args.taken.0.now) x c.in-Some.gone c.args.run.now c.args.known c.requires.there.read
+    c.requires.ends.1 (c.requires.there.reports.reports x refl refl refl) c.in-Some.ensures c.requires.run c.args.taken.0.now.doc (removal_of c.args.taken.0.now) refl c.requires.ends.0 in
+    out.on c.requires.fits c.exchange.new.run c.in_ok-exchange.ensures.ok
