@@ -6,13 +6,12 @@ use Rattle.yq_core.specs.Entries.{EntryPieces, entry_pieces_at, item_at, path_in
 use Rattle.yq_core.specs.Nodes.{FlowNode, Items, anchored, flow_items_text, item, node_text, none, sep_text}
 use Rattle.yq_core.{specs.Paths.{Step, further, is_here}, specs.Places.{Placed, locate}, specs.PlacedReading.placed_node}
 use Rattle.yq_core.{specs.Reading.all_node, specs.Tree.key_label, specs.Trees.key_content, proofs.NodeLaws.all_takes}
-use Rattle.yq_inline.specs.Along.{all_in, as_item, located_along, located_from, node_and_rest, one_in}
-use Rattle.yq_inline.{specs.Measured.closing_byte, specs.declared.before_offset.LeadingParts.LeadingParts}
-use Rattle.yq_inline.specs.Neighbours.{IsCollectionOf, IsStepPart, IsPassed, PartTexts, PartsAround, around_part}
-use Rattle.yq_inline.specs.Neighbours.{coll_around, coll_end, coll_read, first_ends, first_read, first_text, from_read, last_ends}
-use Rattle.yq_inline.specs.Neighbours.{last_read, rest_from, passed_view, past_last, past_passed}
-use Rattle.yq_inline.{specs.declared.passing.FoundPart.FoundPart, specs.declared.passing.PassedPart.PassedPart}
-use Rattle.yq_inline.proofs.FirstParts.{following_is}
+use Rattle.yq_inline.{specs.Along.{all_in, as_item, located_along, located_from, node_and_rest, one_in}, specs.Measured.closing_byte}
+use Rattle.yq_inline.specs.declared.before_offset.LeadingParts.{LeadingParts}
+use Rattle.yq_inline.specs.Neighbours.{IsCollectionOf, IsStepPart, IsPassed, PartTexts, PartsAround, around_part, coll_around, coll_end}
+use Rattle.yq_inline.specs.Neighbours.{coll_read, first_ends, first_read, first_text, from_read, last_ends, last_read, rest_from}
+use Rattle.yq_inline.{specs.Neighbours.{passed_view, past_last, past_passed}, specs.declared.passing.FoundPart.FoundPart}
+use Rattle.yq_inline.{specs.declared.passing.PassedPart.PassedPart, proofs.FirstParts.following_is}
 use denote.Bor.{Bor}
 
 -- ---- steps

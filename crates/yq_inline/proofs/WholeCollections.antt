@@ -1,6 +1,6 @@
 -- A collection that was passed is one by itself, and is passed again before any rest.
-use Rattle.std.proofs.Common.{◌≡◌, ℕ, ◌-◌, ◌≤◌, Bool, true, false, cond, eqb, List, [], ◌++◌, length, take, Option, Some, refl}
-use Rattle.std.{proofs.Common.{sym, ap, ◌∙◌, subst, arith, length-append}, proofs.Math.Seq.take-append_seam}
+use Rattle.std.proofs.Common.{◌≡◌, ℕ, ◌-◌, ◌≤◌, Bool, true, false, cond, eqb, List, [], ◌++◌, length, take, Option, Some, refl, sym, ap}
+use Rattle.std.{proofs.Common.{◌∙◌, subst, arith, length-append}, proofs.Math.Seq.take-append_seam}
 use Rattle.yq_core.{specs.Answers.◌>>=◌, specs.Borrowed.{IsWholeCollection, borrows_node}, specs.FitKeys.has_fit_keys}
 use Rattle.yq_core.{specs.Inline.depth_limit, specs.Nodes.{FlowNode, coll, IsFlowNode, flow_items_text, node_text}}
 use Rattle.yq_core.{specs.Keys.has_unique_keys, specs.Places.{Parts, holder, locate, locate_items, mapping, placed_between, sequence}}
