@@ -23,26 +23,12 @@ use Rattle.yq_batch.specs.RemovalRuns.{AreFirstLeft, ExchangeFails, HasExchanged
 use Rattle.yq_batch.{specs.Runs.EndsAt, specs.declared.gone.LeftOf.LeftOf, specs.declared.gone.Removed.Removed}
 use Rattle.yq_batch.{specs.declared.removals.RemovalRun.RemovalRun, proofs.Exchanges.{exchange_fails, few_left}}
 use Rattle.yq_batch.{proofs.HeadRowLaws.{entry_head, leads_there, same_row}, proofs.HeadsBefore.heads_stay}
-use Rattle.yq_batch.proofs.LeftRemovals.{begins_at, empty_is, opened, opened_size, opening}
-use Rattle.yq_batch.proofs.RemovalAnswers.{are_left, none_gone, nothing_gone, w}
+use Rattle.yq_batch.{proofs.LeftRemovals.{begins_at, empty_is, opened, opened_size, opening}, proofs.RemovalAnswers.{are_left, w}}
 use Rattle.yq_batch.proofs.BackEdits as back
 use Rattle.yq_batch.proofs.EmptiedHeads as empty
 use Rattle.yq_core.specs.declared.path.Step as declared
 
--- a run of nothing
-pub heads_begin : (t : List ℕ) (n row : ℕ) (r : RemovalRun) → read_at t ≡ Some (cut_of t) → buffer_text r.text ≡ t → r.keep ≡ length t → RemovesHeads (cut_of t) n row r
-heads_begin t n row r read text keep =
-    let h = nothing_gone t r read text keep in
-    record {
-      tail = [];
-      text = h.1;
-      within = omega (arith, h.0);
-      cut = cut_of t;
-      read = h.2;
-      heads = λ stem j y less. (y, none_gone t n r.keep (omega (arith, h.0)) stem);
-    }
-
--- it goes on in a head in front of a row
+-- a run goes on in a head in front of a row
 pub head_goes_on : (t : List ℕ) (n row last : ℕ) (steps : List Step) (r : RemovalRun) → read_at t ≡ Some (cut_of t) → IsRowAt (cut_of t) n steps row → row < last → RemovesHeads (cut_of t) n last r → RemovesSo (cut_of t) n steps None r
 head_goes_on t n row last [] r read at less h = absurd (no_root_rows n (cut_of t) at.entry at.found)
 head_goes_on t n row last (s ∷ ss) r read at less h =

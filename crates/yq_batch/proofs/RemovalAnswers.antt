@@ -27,37 +27,25 @@ use Rattle.yq_batch.{proofs.LeftRemovals.parts_are, proofs.Exchanges.{CanExchang
 use Rattle.yq_batch.proofs.RemovalRunLaws as laws
 use Rattle.yq_batch.proofs.SoleRemovals as sole
 
--- all collections are there where nothing was taken out
-pub none_gone : (t : List ℕ) (n keep : ℕ) → length (cut_text (cut_of t)) ≤ keep → (stem : List Step) → CollectionsStay (cut_of t) (cut_of t) n stem keep []
-none_gone t n keep all stem left w mid found rest =
-    found ∙ ap (λ (l : List ℕ). Some (record w { rest = l })) (rest ∙ ap (λ (l : List ℕ). mid ++ l) (drop_all keep (cut_text (cut_of t)) all))
-
 -- a run of nothing
-pub nothing_gone : (t : List ℕ) (r : RemovalRun) → read_at t ≡ Some (cut_of t) → buffer_text r.text ≡ t → r.keep ≡ length t →
-    (r.keep ≡ length (cut_text (cut_of t))) × (buffer_text r.text ≡ take r.keep (cut_text (cut_of t)) ++ []) × (read_at (take r.keep (cut_text (cut_of t)) ++ []) ≡ Some (cut_of t))
-nothing_gone t r read text keep =
-    let same : cut_text (cut_of t) ≡ t = text_read t (cut_of t) read in
-    let all : r.keep ≡ length (cut_text (cut_of t)) = keep ∙ ap length (sym same) in
-    let whole : take r.keep (cut_text (cut_of t)) ≡ cut_text (cut_of t) = take_all r.keep (cut_text (cut_of t)) (omega (arith, all)) in (
-      all,
-      text ∙ (sym same ∙ (sym whole ∙ sym (append-nil (take r.keep (cut_text (cut_of t)))))),
-      ap read_at (append-nil (take r.keep (cut_text (cut_of t))) ∙ (whole ∙ same)) ∙ read,
-    )
-
 pub removals_begin : (t : List ℕ) (n : ℕ) (stem : List Step) (r : RemovalRun) → read_at t ≡ Some (cut_of t) → LeadsToHead (cut_of t) n stem → buffer_text r.text ≡ t → r.keep ≡ length t → RemovesSo (cut_of t) n stem None r
 removals_begin t n stem r read leads text keep =
-    let h = nothing_gone t r read text keep in
-    let all : length (cut_text (cut_of t)) ≤ r.keep = omega (arith, h.0) in
+    let same : cut_text (cut_of t) ≡ t = text_read t (cut_of t) read in
+    let all : r.keep ≡ length (cut_text (cut_of t)) = keep ∙ ap length (sym same) in
+    let whole : take r.keep (cut_text (cut_of t)) ≡ cut_text (cut_of t) = take_all r.keep (cut_text (cut_of t)) (omega (arith, all)) in
+    let none : drop r.keep (cut_text (cut_of t)) ≡ [] = drop_all r.keep (cut_text (cut_of t)) (omega (arith, all)) in
+    let kept : (other : List Step) → CollectionsStay (cut_of t) (cut_of t) n other r.keep [] =
+    λ other left w mid found rest. found ∙ ap (λ (l : List ℕ). Some (record w { rest = l })) (rest ∙ ap (λ (l : List ℕ). mid ++ l) none) in
     record {
       tail = [];
-      text = h.1;
+      text = text ∙ (sym same ∙ (sym whole ∙ sym (append-nil (take r.keep (cut_text (cut_of t))))));
       run = record {
-        within = omega (arith, h.0);
+        within = omega (arith, all);
         cut = cut_of t;
-        read = h.2;
+        read = ap read_at (append-nil (take r.keep (cut_text (cut_of t))) ∙ (whole ∙ same)) ∙ read;
         leads = leads;
-        stays = none_gone t n r.keep all stem;
-        row = λ i x. (x, λ other j y less. (y, none_gone t n r.keep all other));
+        stays = kept stem;
+        row = λ i x. (x, λ other j y less. (y, kept other));
       };
       known_is = tt;
     }

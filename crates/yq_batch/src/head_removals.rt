@@ -1,14 +1,12 @@
 //! Items and entries that an update takes out of the flow collections of heads, one before the other: they are carried out
 //! together, and each head is read once.
-ghost use Rattle.std.specs.Prelude.{◌≡◌, ◌<◌, false, map, true, IfErr, IfOk, IfSome, None};
-ghost use Rattle.yq_core.specs.Entries.{tree_step};
+ghost use Rattle.std.specs.Prelude.{◌≡◌, false, IfErr, IfOk, None};
 ghost use Rattle.yq_text.specs.TextGapBuffer.{buffer_text};
 ghost use Rattle.yq_documents.specs.Reading.{cut_of};
 ghost use Rattle.yq_semantics.specs.Operations.{operation_of, operations_of};
-ghost use Rattle.yq_edit_laws.{specs.Answers.EditFails, specs.Carried.{carry_all, carried}, specs.Theorems.IsFitting};
-ghost use Rattle.yq_edit_laws.specs.Valid.{AreServed};
-ghost use Rattle.yq_batch.{specs.HeadRuns.IsRowAt, specs.RemovalRuns.{RemovesSo, all_left}, specs.Together.CarriesFirst};
-ghost use Rattle.yq_batch.specs.Runs.{IsFoundHead, IsInText, cut_with, stem_of};
+ghost use Rattle.yq_edit_laws.{specs.Answers.EditFails, specs.Carried.carry_all, specs.Theorems.IsFitting, specs.Valid.AreServed};
+ghost use Rattle.yq_batch.{specs.HeadRuns.IsRowAt, specs.RemovalRuns.{HasRemoved, RemovesSo, all_left}, specs.RowRemovals.FailsOn};
+ghost use Rattle.yq_batch.{specs.Together.CarriesFirst, specs.Runs.{IsFoundHead, IsInText, cut_with, stem_of}};
 ghost use Rattle.yq_batch.specs.HeadRemovals as spec;
 
 use crate::change::steps_in_head;
@@ -28,20 +26,18 @@ fn empty_head<'s>(
     alloc: Global,
     at: &HeadInText<'_, '_, '_, '_, '_, '_>,
     row: usize,
-    op: &'s Op,
-    known: Option<LeftOf<'s>>,
+    taken: (&'s Op, Option<LeftOf<'s>>),
     run: &mut RemovalRun,
 ) -> Result<bool, ExprError>
     requires there { IsInText at.now }
     requires row { IsRowAt (cut_with at.now) at.now.doc (stem_of at.now) row }
-    requires run { RemovesSo (cut_with at.now) at.now.doc (stem_of at.now) known run.old }
-    requires fits { IsFitting (operation_of op.now) (buffer_text run.old.text) }
-    ensures ok { IfOk result (λ b. b ≡ true → spec.EmptiesOn (operation_of op.now)
-        (cut_with at.now) at.now.doc row run.old run.new) }
+    requires run { RemovesSo (cut_with at.now) at.now.doc (stem_of at.now) taken.1 run.old }
+    requires fits { IsFitting (operation_of taken.0.now) (buffer_text run.old.text) }
+    ensures ok { IfOk result (spec.MayEmpty taken.entry.0.now at.now row run.old run.new) }
     ensures stays { IfOk result (λ b. b ≡ false → run.new ≡ run.old) }
-    ensures err { IfErr result (λ e. EditFails e (carried (operation_of op.now)
-        (buffer_text run.old.text))) }
+    ensures err { IfErr result (λ e. FailsOn e (operation_of taken.entry.0.now) run.old) }
 {
+    let (op, known) = taken;
     let Op::Remove(path) = op else {
         return Ok(false);
     };
@@ -61,26 +57,49 @@ fn empty_head<'s>(
     Ok(true)
 }
 
-/// Carries out operations on the text of a run that take items and entries out of the collections of a head in a row,
-/// in front of the one that was changed last; and reports which are left.
-fn remove_in_row<'s>(
+/// Carries out operations on the text of a run that take items and entries out of the collections of a head; and reports
+/// which are left.
+fn remove_in_head<'s>(
     alloc: Global,
     cut: &CutText<'_, '_>,
     found: FoundHead<'s, '_>,
-    rows: (usize, usize),
     ops: &'s [Op],
     run: &mut RemovalRun,
 ) -> Result<&'s [Op], ExprError>
     requires head { IsFoundHead cut.now found }
-    requires row { IsRowAt (cut_of cut.now) found.doc (map tree_step found.stem.now) rows.0 }
-    requires earlier { rows.0 < rows.1 }
-    requires run { spec.RemovesHeads (cut_of cut.now) found.doc rows.1 run.old }
+    requires run { spec.RemovesFrom cut.now found run.old }
     requires serves { AreServed (operations_of ops.now) (buffer_text run.old.text) }
-    ensures ok { IfOk result (λ left. spec.RemovesToRow ops.now (cut_of cut.now) found.entry.doc
-        rows.0 run.old left.now run.new) }
+    ensures ok { IfOk result (λ left. HasRemoved ops.now run.old left.now run.new) }
     ensures err { IfErr result (λ e. EditFails e (all_left ops.now run.old)) }
 {
     let FoundHead { doc, stem, head } = found;
+    let _text = cut.text();
+    let at = HeadInText {
+        cut,
+        doc,
+        stem,
+        head,
+    };
+    let (left, _known) = remove_each(alloc, &at, ops, run)?;
+    Ok(left)
+}
+
+/// The same of a head in a row, whose own collection may become empty.
+fn remove_in_row<'s>(
+    alloc: Global,
+    cut: &CutText<'_, '_>,
+    found: (FoundHead<'s, '_>, usize),
+    ops: &'s [Op],
+    run: &mut RemovalRun,
+) -> Result<&'s [Op], ExprError>
+    requires head { IsFoundHead cut.now found.0 }
+    requires row { spec.IsRowOf cut.now found.0 found.1 }
+    requires run { spec.RemovesFrom cut.now found.0 run.old }
+    requires serves { AreServed (operations_of ops.now) (buffer_text run.old.text) }
+    ensures ok { IfOk result (spec.RemovesAt ops.now cut.now found.entry run.old run.new) }
+    ensures err { IfErr result (λ e. EditFails e (all_left ops.now run.old)) }
+{
+    let (FoundHead { doc, stem, head }, row) = found;
     let _text = cut.text();
     let at = HeadInText {
         cut,
@@ -92,7 +111,7 @@ fn remove_in_row<'s>(
     let [op, after @ ..] = left else {
         return Ok(left);
     };
-    if empty_head(alloc, &at, rows.0, op, known, run)? {
+    if empty_head(alloc, &at, row, (op, known), run)? {
         return Ok(after);
     }
     Ok(left)
@@ -110,8 +129,7 @@ fn remove_earlier<'o>(
     requires run { spec.RemovesHeads (cut_of cut.old) from.0 from.1 run.old }
     requires serves { AreServed (operations_of ops.now) (buffer_text run.old.text) }
     ensures same { cut.new ≡ cut.old }
-    ensures ok { IfOk result (λ o. IfSome o (λ x. spec.RemovesToRow ops.now (cut_of cut.old) from.0
-        x.1 run.old x.0.now run.new)) }
+    ensures ok { IfOk result (spec.RemovesEarlier ops.now cut.old from.0 run.old run.new) }
     ensures stays { IfOk result (λ o. o ≡ None → run.new ≡ run.old) }
     ensures err { IfErr result (λ e. EditFails e (all_left ops.now run.old)) }
 {
@@ -132,32 +150,9 @@ fn remove_earlier<'o>(
     if row >= last {
         return Ok(None);
     }
-    let left = remove_in_row(alloc, cut, found, (row, last), ops, run)?;
+    let _text = cut.text();
+    let left = remove_in_row(alloc, cut, (found, row), ops, run)?;
     Ok(Some((left, row)))
-}
-
-/// Carries out operations that take items and entries out of the collections of a head that is in no row.
-fn remove_in_head<'o>(
-    alloc: Global,
-    cut: &CutText<'_, '_>,
-    found: FoundHead<'o, '_>,
-    ops: &'o [Op],
-) -> Result<Together<'o>, ExprError>
-    requires head { IsFoundHead cut.now found }
-    requires serves { AreServed (operations_of ops.now) cut.now }
-    ensures ok { IfOk result (CarriesFirst ops.now cut.now) }
-    ensures err { IfErr result (λ e. EditFails e (carry_all (operations_of ops.now) cut.now)) }
-{
-    let FoundHead { doc, stem, head } = found;
-    let mut run = untouched(alloc, cut.text())?;
-    let at = HeadInText {
-        cut,
-        doc,
-        stem,
-        head,
-    };
-    let (left, _known) = remove_each(alloc, &at, ops, &mut run)?;
-    Ok(ended(run, left))
 }
 
 /// Carries out operations together that take items and entries out of flow collections of a document, those of one head
@@ -176,14 +171,13 @@ pub(crate) fn remove_in_heads<'o>(
 {
     let doc = found.doc;
     let mut way = cut.again();
-    let Some(first) = row_at(alloc, &mut way, doc, found.stem)? else {
-        return remove_in_head(alloc, cut, found, ops);
-    };
-    if first == usize::MAX {
-        return remove_in_head(alloc, cut, found, ops);
-    }
+    let row = row_at(alloc, &mut way, doc, found.stem)?;
     let mut run = untouched(alloc, cut.text())?;
-    let mut rest = remove_in_row(alloc, cut, found, (first, usize::MAX), ops, &mut run)?;
+    let Some(first) = row else {
+        let left = remove_in_head(alloc, cut, found, ops, &mut run)?;
+        return Ok(ended(run, left));
+    };
+    let mut rest = remove_in_row(alloc, cut, (found, first), ops, &mut run)?;
     let mut last = first;
     'heads: while !rest.is_empty() {
         let next = remove_earlier(alloc, &mut way, (doc, last), rest, &mut run)?;

@@ -4,17 +4,13 @@ use Rattle.yq_core.specs.Entries.{tree_step}
 use Rattle.yq_documents.specs.Reading.{cut_of}
 use Rattle.yq_edit_laws.proofs.OperationsLaws.{others_come, others_served}
 use Rattle.yq_batch.{specs.HeadRemovals.RemovesHeads, specs.RemovalRuns.HasRemoved, specs.declared.removals.RemovalRun.RemovalRun}
-use Rattle.yq_batch.proofs.HeadRemovalLaws.{head_ends, head_goes_on}
+use Rattle.yq_batch.proofs.HeadRemovalLaws.{head_ends}
 use Rattle.yq_batch.proofs.head_removals.remove_in_row.Goals as goal
-
-pub remove_each-requires-clause-run : goal.remove_each-requires-clause-run
-remove_each-requires-clause-run c =
-    head_goes_on c.args.cut.now c.args.found.doc c.args.rows.0 c.args.rows.1 (map tree_step c.args.found.stem.now) c.args.run.now c.text-text.ensures.read c.requires.row c.requires.earlier c.requires.run
 
 pub returns-in_default-clause-ok : goal.returns-in_default-clause-ok
 returns-in_default-clause-ok c =
     let h = c.in_ok-left.ensures.ok in
-    (h.0, head_ends c.args.cut.now c.args.found.doc c.args.rows.0 (map tree_step c.args.found.stem.now) c.in_ok-left.known c.remove_each.new.run c.text-text.ensures.read c.requires.row h.1)
+    (h.0, head_ends c.args.cut.now c.args.found.0.doc c.args.found.1 (map tree_step c.args.found.0.stem.now) c.in_ok-left.known c.remove_each.new.run c.text-text.ensures.read c.requires.row h.1)
 
 pub returns-then-branch-clause-ok : goal.returns-then-branch-clause-ok
 returns-then-branch-clause-ok c =
@@ -34,6 +30,6 @@ returns-then-branch-clause-ok c =
 pub returns-clause-ok : goal.returns-clause-ok
 returns-clause-ok c =
     let h = c.in_ok-left.ensures.ok in
-    subst (λ (r : RemovalRun). HasRemoved c.args.ops.now c.args.run.now c.in_ok-left.left.now r × RemovesHeads (cut_of c.args.cut.now) c.args.found.doc c.args.rows.0 r)
+    subst (λ (r : RemovalRun). HasRemoved c.args.ops.now c.args.run.now c.in_ok-left.left.now r × RemovesHeads (cut_of c.args.cut.now) c.args.found.0.doc c.args.found.1 r)
     (sym (c.in_ok-empty_head.ensures.stays c.if-branch.false))
-    (h.0, head_ends c.args.cut.now c.args.found.doc c.args.rows.0 (map tree_step c.args.found.stem.now) c.in_ok-left.known c.remove_each.new.run c.text-text.ensures.read c.requires.row h.1)
+    (h.0, head_ends c.args.cut.now c.args.found.0.doc c.args.found.1 (map tree_step c.args.found.0.stem.now) c.in_ok-left.known c.remove_each.new.run c.text-text.ensures.read c.requires.row h.1)
