@@ -1,7 +1,8 @@
 -- What calls that read and keep rows answer (own; a reader of the contracts may skip it).
 use Rattle.std.specs.Borrow.{Bor}
-use Rattle.std.specs.Prelude.{◌≡◌, ◌-◌, ◌==◌, ◌&&◌, ◌||◌, ℕ, Bool, List, Option, Some, None, IfOk, OnOk, Result, Ok, Err, Vec, [], is_ok}
-use Rattle.std.{specs.Prelude.{length, nat_lt, not, option_map, if◌then◌else◌, IfSome, ℤ, true, false}, specs.declared.alloc.Global.Global}
+use Rattle.std.specs.Prelude.{◌≡◌, ◌-◌, ◌==◌, ◌&&◌, ◌||◌, ◌++◌, ◌∷◌, ℕ, Bool, List, Option, Some, None, IfOk, OnOk, Result, Ok, Err, Vec}
+use Rattle.std.specs.Prelude.{[], is_ok, length, nat_lt, not, option_map, if◌then◌else◌, IfSome, ℤ, true, false}
+use Rattle.std.specs.declared.alloc.Global.{Global}
 use Rattle.yq_core.{specs.Answers.{Gives, IsOfText, ReadError}, specs.Text.{is_empty, is_marker}, specs.Piece.deeper}
 use Rattle.yq_core.{specs.Reading.read_scalar, specs.Scalars.begins_scalar}
 use Rattle.yq_row_table.{specs.Grammar.allows, specs.Items.{Item, items_text, view_of_items}, specs.Kept.{kept_rows, rows_placed}}
@@ -10,7 +11,7 @@ use Rattle.yq_row_table.{specs.Reading.{begins_block, read_row_key}, specs.Regio
 use Rattle.yq_row_table.specs.Slicing.{SlicedRow, begins_other, inline_sliced, marked_sliced, row_of, row_sliced, rows_sliced}
 use Rattle.yq_row_table.specs.WordRows.{AreOtherRows, KnowsHead, is_word_head, is_word_key, is_word_row}
 use Rattle.yq_row_table.{specs.View.{RowsView, Slices, colon_of, key_of_mark}, specs.declared.offsets.Offsets.Offsets}
-use Rattle.yq_row_table.specs.declared.places.Places.{Places}
+use Rattle.yq_row_table.{specs.declared.places.Places.Places, specs.declared.rows.Other.Other}
 use Rattle.yq_text.specs.TextGapBuffer.{TextGapView, buffer_text}
 use Rattle.yq_rows.{specs.Exchanging.TextChange, specs.Following.{CountsWritten, Follows, exchanged}}
 use Rattle.yq_rows.{specs.ReadPieces.{begin_view, filling_view, limit_view, read_slices}, specs.Sides.both_sides}
@@ -116,9 +117,13 @@ PlacesRows whole text rows r read = Gives (λ x. x.0.items) r (rows_placed rows.
 abbrev pub KnowsOthersOf : List ℕ → Vec Offsets Global → Notes → Type 0
 KnowsOthersOf whole rows notes = AreOtherRows (rows_in whole rows.items) 0 notes.others.items
 
--- where they are known before, they are known after
-abbrev pub KeepOthers : List ℕ → Vec Offsets Global → Notes → Result RowsRead ReadError → Notes → Type 0
-KeepOthers whole rows before r after = KnowsOthersOf whole rows before → IfOk r (λ x. KnowsOthersOf whole x.0 after)
+-- these with a row more, unless it is a word row
+abbrev pub with_other : List Other → Bool → Other → List Other
+with_other others is_word row = others ++ (if is_word then [] else row ∷ [])
+
+-- where they are noted, and known before, they are known after
+abbrev pub KeepOthers : Bool → List ℕ → Vec Offsets Global → Notes → Result RowsRead ReadError → Notes → Type 0
+KeepOthers noted whole rows before r after = noted ≡ true → KnowsOthersOf whole rows before → IfOk r (λ x. KnowsOthersOf whole x.0 after)
 
 -- the key after a dash and these spaces, with what comes after it up to its `:`, and what follows; a key needs spaces
 abbrev pub key_after : (spaces next : List ℕ) → Option (List ℕ × List ℕ × List ℕ)

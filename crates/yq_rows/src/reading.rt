@@ -1,9 +1,9 @@
 //! Rows, read one after the other.
-ghost use Rattle.std.specs.Prelude.{◌≡◌, ◌≢◌, ◌<◌, ◌≤◌, ◌+◌, ◌++◌, ◌^◌, ◌||◌, [], ◌∷◌, if◌then◌else◌, length, true, IfErr, IfOk, OnOk};
+ghost use Rattle.std.specs.Prelude.{◌≡◌, ◌≢◌, ◌<◌, ◌≤◌, ◌+◌, ◌++◌, ◌^◌, ◌||◌, length, true, IfErr, IfOk, OnOk};
 ghost use Rattle.yq_core.{specs.Answers.{IsOfText, ReadsAs}, specs.declared.fault.FaultKind.TheVariants.NotUtf8};
 ghost use Rattle.yq_row_table.{specs.Grammar.{unlimited, ends_part}, specs.Offsets.{Ends, AreRowsIn, IsCutIn}};
 ghost use Rattle.yq_rows.specs.RowAnswers.{BeginsAtFront, ReadsMarked, may_be_at, GivesRow, GivesRows, KeepOthers, KnowsContent};
-ghost use Rattle.yq_rows.specs.RowAnswers.{KnowsRowHead, MayBeWordRow, PlacesRows, row_at_front};
+ghost use Rattle.yq_rows.specs.RowAnswers.{KnowsRowHead, MayBeWordRow, PlacesRows, row_at_front, with_other};
 ghost use Rattle.yq_core.specs.Text;
 ghost use Rattle.yq_row_table.specs.Reading as spec;
 
@@ -38,6 +38,15 @@ pub(crate) struct Notes<'t> {
     pub(crate) others: Vec<Other>,
     /// Room for the keys of a head that is passed.
     pub(crate) keys: Keys<'t>,
+}
+
+/// What is asked of the rows of a part.
+#[derive(Clone, Copy)]
+pub(crate) struct PartStart {
+    /// Whether a document is open there.
+    pub(crate) open: bool,
+    /// Whether those that are no word rows are noted.
+    pub(crate) noted: bool,
 }
 
 /// What comes after the marks of a row that are read already, below a parent of this indentation.
@@ -115,12 +124,20 @@ fn ends_part(text: &[u8]) -> bool
     text.is_empty() || is_marker(text)
 }
 
-/// Notes a row among other rows, if it is one.
+/// Notes a row among other rows, if it is one and these are noted.
 #[inline(always)]
-fn push_other(others: &mut Vec<Other>, row: Other, is_word: bool) -> Result<(), AllocError>
-    ensures { OnOk result (others.new.items ≡ others.old.items ++
-        (if is_word then [] else row ∷ [])) }
+fn push_other(
+    others: &mut Vec<Other>,
+    row: Other,
+    is_word: bool,
+    noted: bool,
+) -> Result<(), AllocError>
+    ensures { OnOk result (noted ≡ true →
+        others.new.items ≡ with_other others.old.items is_word row) }
 {
+    if !noted {
+        return Ok(());
+    }
     if is_word {
         return Ok(());
     }
@@ -129,10 +146,11 @@ fn push_other(others: &mut Vec<Other>, row: Other, is_word: bool) -> Result<(), 
 }
 
 /// Adds where the rows in front are, up to a marker or the end, and the numbers of those that are no word
-/// rows; gives the gap after them, and what follows.
+/// rows, if these are noted; gives the gap after them, and what follows.
 fn read_rows<'t>(
     rows: Vec<Offsets>,
     notes: &mut Notes<'t>,
+    noted: bool,
     whole: &'t str,
     text: &'t str,
 ) -> Result<(Vec<Offsets>, &'t str, &'t str), ReadError>
@@ -143,7 +161,7 @@ fn read_rows<'t>(
     ensures placed { PlacesRows whole.now text.now rows result (spec.all_rows unlimited text.now) }
     ensures kept { IfOk result (λ x. AreRowsIn whole.now x.0.items) }
     ensures after { IfOk result (λ x. Ends x.2.now whole.now) }
-    ensures others { KeepOthers whole.now rows notes.old result notes.new }
+    ensures others { KeepOthers noted whole.now rows notes.old result notes.new }
     ensures fault { IfErr result IsOfText }
 {
     let mut rows = rows;
@@ -172,7 +190,7 @@ fn read_rows<'t>(
             row: rows.len(),
             depth,
         };
-        push_other(&mut notes.others, other, is_word)?;
+        push_other(&mut notes.others, other, is_word, noted)?;
         rows.push(row)?;
         limit = next;
         at = after;
@@ -202,26 +220,26 @@ fn may_begin(is_open: bool, text: &[u8]) -> bool
 pub(crate) fn read_part<'t>(
     rows: Vec<Offsets>,
     notes: &mut Notes<'t>,
-    is_open: bool,
+    at: PartStart,
     whole: &'t str,
     text: &'t str,
 ) -> Result<(Vec<Offsets>, &'t str, &'t str), ReadError>
     requires ends { Ends text.now whole.now }
     requires are_there { AreRowsIn whole.now rows.items }
     requires small { length whole.now < 2 ^ 32 }
-    ensures found { GivesRows whole.now rows result (spec.read_cut_part is_open text.now) }
-    ensures placed { PlacesRows whole.now text.now rows result (spec.read_cut_part is_open text.now) }
+    ensures found { GivesRows whole.now rows result (spec.read_cut_part at.open text.now) }
+    ensures placed { PlacesRows whole.now text.now rows result (spec.read_cut_part at.open text.now) }
     ensures kept { IfOk result (λ x. AreRowsIn whole.now x.0.items) }
     ensures after { IfOk result (λ x. Ends x.2.now whole.now) }
-    ensures others { KeepOthers whole.now rows notes.old result notes.new }
+    ensures others { KeepOthers at.noted whole.now rows notes.old result notes.new }
     ensures fault { IfErr result IsOfText }
 {
     let first = split_gap(text).1;
-    if !may_begin(is_open, first.as_bytes()) {
+    if !may_begin(at.open, first.as_bytes()) {
         let kind = no_document(first.as_bytes());
         return Err(ReadError::Fault(fault(kind, whole, first)));
     }
-    read_rows(rows, notes, whole, text)
+    read_rows(rows, notes, at.noted, whole, text)
 }
 
 /// The line of the marker in front, and what follows.

@@ -25,5 +25,5 @@ pub fn read_region<'t>(
     ensures counted { meter.new ≡ count_after (line_count text.now) meter.old }
 {
     count_lines(text, meter);
-    cut(alloc, text)
+    cut(alloc, text, false)
 }

@@ -60,9 +60,9 @@ rows-preserved c =
       placed = rows_placed_step c.rows.rows.items _ c.in-Ok.found.0 whole (limit_view c.rows.limit) (limit_view c.in-Ok.found.1) c.rows.at.now _ _
           row after _ c.rows.invariant.ends c.split_gap.ensures more c.in-Ok.ensures.read c.in_ok-push.ensures.items c.in-Ok.ensures.place
           c.rows.invariant.placed;
-      others = λ h. others_push (rows_in whole c.rows.rows.items) _ row c.rows.notes.others.items _ c.len.result c.in-Ok.found.4 c.in-Ok.found.3 pushed
-          (c.len.ensures ∙ (c.rows.rows.ok.0 ∙ rows_length whole c.rows.rows.items)) c.in-Ok.ensures.word c.in-Ok.ensures.known c.in_ok-push_other.ensures
-          (c.rows.invariant.others h);
+      others = λ noted h. others_push (rows_in whole c.rows.rows.items) _ row c.rows.notes.others.items _ c.len.result c.in-Ok.found.4 c.in-Ok.found.3 pushed
+          (c.len.ensures ∙ (c.rows.rows.ok.0 ∙ rows_length whole c.rows.rows.items)) c.in-Ok.ensures.word c.in-Ok.ensures.known (c.in_ok-push_other.ensures noted)
+          (c.rows.invariant.others noted h);
     }
 
 pub rows-init : goal.rows-init
@@ -76,7 +76,7 @@ rows-init c =
       are_there = c.requires.are_there;
       so_far = ap (λ (l : Limit). rows_sliced (rows_in whole rows) (all_rows l text)) c.none-limit.ensures;
       placed = ap (λ (l : Limit). rows_placed rows (length whole - length text) (all_rows l text)) c.none-limit.ensures;
-      others = λ h. h;
+      others = λ noted h. h;
     }
 
 pub returns-then-ends_part-clause-after : goal.returns-then-ends_part-clause-after
@@ -87,4 +87,4 @@ read_row-requires-clause-short c =
     ends_within c.split_gap.result.1.now c.args.whole.now (ends_next c.args.whole.now c.rows.at.now c.split_gap.result.0.now c.split_gap.result.1.now c.rows.invariant.ends (gap_joined c.rows.at.now _ _ c.split_gap.ensures))
 
 pub returns-then-ends_part-clause-others : goal.returns-then-ends_part-clause-others
-returns-then-ends_part-clause-others c = λ h. c.rows.invariant.others h
+returns-then-ends_part-clause-others c = λ noted h. c.rows.invariant.others noted h

@@ -52,8 +52,8 @@ scanned c =
       small = c.requires;
     })
 
-pub with_others-requires-clause-places : goal.with_others-requires-clause-places
-with_others-requires-clause-places c = scanned_places c.args.text.now c.of-text.result (record { front = c.in-Ok.part.0; after = c.new-following.result; ends = c.of-ends.result; split = length c.args.text.now }) (scanned c)
+pub noted_rows-requires-clause-places : goal.noted_rows-requires-clause-places
+noted_rows-requires-clause-places c = scanned_places c.args.text.now c.of-text.result (record { front = c.in-Ok.part.0; after = c.new-following.result; ends = c.of-ends.result; split = length c.args.text.now }) (scanned c)
 
 pub returns-then-is_empty-clause-read : goal.returns-then-is_empty-clause-read
 returns-then-is_empty-clause-read c =
@@ -64,12 +64,12 @@ returns-then-is_empty-clause-read c =
     let pushed = bounds_push whole c.parts.ends.items _ c.end_of.result _ c.in_ok-push.ensures.items c.end_of.ensures.same in
     parts_end _ (rows_in whole c.in-Ok.part.0.items) _ _ _ _ _ _ _ _ c.in-Ok.ensures.found none count pushed c.parts.invariant.so_far
     ∙ ap (λ (es : List EndPlace). Some (record { rows = rows_in whole c.in-Ok.part.0.items; bounds = bounds_in whole es })) (sym c.of-ends.ensures)
-    ∙ ap Some (sym (c.with_others.ensures ∙ scanned_view whole c.of-text.result p (scanned (goal.at.returns-then-is_empty-clause-read c).After-of-text)))
+    ∙ ap Some (sym (c.noted_rows.ensures ∙ scanned_view whole c.of-text.result p (scanned (goal.at.returns-then-is_empty-clause-read c).After-of-text)))
 
-pub with_others-requires-clause-others : goal.with_others-requires-clause-others
-with_others-requires-clause-others c =
+pub noted_rows-requires-clause-others : goal.noted_rows-requires-clause-others
+noted_rows-requires-clause-others c = λ noted.
     let p : Places = record { front = c.in-Ok.part.0; after = c.new-following.result; ends = c.of-ends.result; split = length c.args.text.now } in
-    subst (λ (v : RowsView). AreOtherRows v.rows 0 c.read_part.new.notes.others.items) (sym (scanned_view c.args.text.now c.of-text.result p (scanned c))) (c.in-Ok.ensures.others c.parts.invariant.others)
+    subst (λ (v : RowsView). AreOtherRows v.rows 0 c.read_part.new.notes.others.items) (sym (scanned_view c.args.text.now c.of-text.result p (scanned c))) (c.in-Ok.ensures.others noted (c.parts.invariant.others noted))
 
 pub read_marker-requires : goal.read_marker-requires
 read_marker-requires c =
@@ -130,7 +130,7 @@ parts-preserved c =
           (ends_placed_step c.parts.ends.items _ c.end_of-in-parts.result c.args.text.now c.parts.is_open c.parts.rest.now c.in-Ok.part.2.now
           c.in-Ok-read_marker.line.0.now c.in-Ok-read_marker.line.1.now (length c.parts.rows.items) (length c.in-Ok.part.0.items) _
           (record { part = part.part; read = part.read; some = some; line = c.in-Ok-read_marker.ensures.read }) kept c.in_ok-push-2.ensures.items (sym (c.in-Ok.part.0.ok.0) ∙ (sym c.len-count.ensures ∙ rows)) c.parts.invariant.ends_placed);
-      others = c.in-Ok.ensures.others c.parts.invariant.others;
+      others = λ noted. c.in-Ok.ensures.others noted (c.parts.invariant.others noted);
     }
 
 pub parts-init : goal.parts-init
@@ -144,5 +144,5 @@ parts-init c =
       so_far = rw (c.new-rows.ensures.items, c.new-ends.ensures.items) refl;
       placed = rw c.new-rows.ensures.items refl;
       ends_placed = rw (c.new-rows.ensures.items, c.new-ends.ensures.items) refl;
-      others = rw (c.new-rows.ensures.items, c.new-others.ensures.items) (λ n s from to is. absurd (omega (arith, to)));
+      others = λ noted. rw (c.new-rows.ensures.items, c.new-others.ensures.items) (λ n s from to is. absurd (omega (arith, to)));
     }

@@ -16,5 +16,5 @@ invariant-parts l = record {
   so_far : parts_sliced (rows_in l.text l.rows.items) (bounds_in l.text l.ends.items) (all_parts l.is_open l.rest) ≡ read_view (all_parts true l.text);
   placed : parts_placed l.rows.items (length l.text - length l.rest) (all_parts l.is_open l.rest) ≡ parts_placed [] (length l.text - length l.text) (all_parts true l.text);
   ends_placed : ends_placed l.ends.items (length l.text - length l.rest) (length l.rows.items) (all_parts l.is_open l.rest) ≡ ends_placed [] (length l.text - length l.text) 0 (all_parts true l.text);
-  others : AreOtherRows (rows_in l.text l.rows.items) 0 l.notes.others.items;
+  others : l.noted ≡ true → AreOtherRows (rows_in l.text l.rows.items) 0 l.notes.others.items;
 }
