@@ -13,7 +13,7 @@ use crate::steps::step_below;
 use std::alloc::{AllocError, Global};
 use yq_core::Step;
 use yq_documents::{Documents, Path};
-use yq_eval::{FoundPlace, NodePath, NodeStep, owned, path_steps, step_to};
+use yq_eval::{FoundPlace, NodePath, NodeStep, at_place, owned, path_steps, step_to};
 use yq_lookup::CutText;
 use yq_planner::{ChangesUnder, PlacedChange};
 use yq_semantics::ExprError;
@@ -57,7 +57,8 @@ fn push_below<'a, 't>(
     ensures valid { StayValid result so_far.old.changes.items so_far.new.changes.items }
 {
     so_far.node.steps.push(owned(alloc, step)?)?;
-    let found = allowed_at(alloc, &mut so_far.cut, effect, &so_far.node, place)?;
+    let allowed = allowed_at(alloc, &mut so_far.cut, effect, &so_far.node, place);
+    let found = at_place(alloc, place, allowed)?;
     let Some(last) = so_far.node.steps.pop() else {
         unreachable!();
     };

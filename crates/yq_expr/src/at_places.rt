@@ -13,7 +13,7 @@ use crate::many_keys::check_depth;
 use crate::push_change;
 use std::alloc::Global;
 use yq_documents::{Documents, Path};
-use yq_eval::{FoundPlace, FoundPlaces, path_steps};
+use yq_eval::{FoundPlace, FoundPlaces, at_place, path_steps};
 use yq_lookup::CutText;
 use yq_planner::{Aliases, Change, ChangesUnder, PlacedChange, allow};
 use yq_semantics::ExprError;
@@ -93,7 +93,8 @@ fn at_each<'a, 't>(
     let mut changes = Vec::with_capacity(alloc, places.len())?;
     let mut cut = CutText::of(documents);
     'places: for place in places {
-        push_effect(alloc, &mut cut, effect, place, &mut changes)?;
+        let pushed = push_effect(alloc, &mut cut, effect, place, &mut changes);
+        at_place(alloc, place, pushed)?;
     }
     Ok(ChangesUnder::of_root(alloc, changes))
 }

@@ -20,10 +20,10 @@ use bumpalo::Bump;
 use std::alloc::Global;
 use yq_core::Value;
 use yq_documents::Documents;
-use yq_eval::{FoundPlace, FoundPlaces, find_places, path_steps};
+use yq_eval::{FoundPlace, FoundPlaces, at_place, find_places, path_steps};
 use yq_nodes::Node;
 use yq_planner::{Aliases, ChangesUnder, PlacedChange, aliases_of, has_comment};
-use yq_semantics::{Assignment, ExprError, Operator, Refusal, Stage, Term, Update};
+use yq_semantics::{Assignment, ExprError, Operator, Refusal, Stage, Term, Update, in_document};
 
 /// What an update changes at places of a document.
 pub(crate) fn changes_at<'a, 't>(
@@ -109,7 +109,10 @@ fn value_each<'a, 't>(
         return at_found(alloc, found, aliases, Action::Add(&value));
     }
     match sole(&found.places) {
-        Some(place) => put_at(alloc, found.document.doc, aliases, place, value),
+        Some(place) => {
+            let put = put_at(alloc, found.document.doc, aliases, place, value);
+            at_place(alloc, place, put)
+        }
         None => at_found(alloc, found, aliases, Action::Put(&value)),
     }
 }
@@ -147,7 +150,7 @@ pub(crate) fn left(update: &Update) -> &[Stage]
 }
 
 /// What an update changes in a document.
-fn changes_in<'a>(
+fn changes_inside<'a>(
     alloc: Global,
     document: DocumentRoot<'a, '_>,
     update: &'a Update,
@@ -159,6 +162,19 @@ fn changes_in<'a>(
     let bump = Bump::new(alloc);
     let places = find_places(alloc, &bump, document.doc, left(update), document.root)?;
     changes_at(alloc, &DocumentPlaces { document, places }, update)
+}
+
+/// The same; a refusal is in that document.
+fn changes_in<'a>(
+    alloc: Global,
+    document: DocumentRoot<'a, '_>,
+    update: &'a Update,
+) -> Result<ChangesUnder, ExprError>
+    requires { IsDocumentRoot document }
+    ensures changes { JudgesChanges result (changes_inside document.entry update.now) }
+    ensures valid { GivesValid result }
+{
+    in_document(document.doc, changes_inside(alloc, document, update))
 }
 
 /// What an update changes in each document, or the first refusal.

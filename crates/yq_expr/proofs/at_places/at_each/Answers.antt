@@ -6,28 +6,28 @@ use Rattle.yq_expr.{specs.JudgedChanges.effect_of, proofs.AllChanges.each_done}
 use Rattle.yq_eval.{specs.PlaceView.place_of, specs.TreeScalars.HaveScalars, proofs.EachLaws.{each_more, each_fails, failed, reached}}
 use Rattle.yq_expr.proofs.at_places.at_each.Goals as goal
 
-pub returns-in_err-push_effect-clause-changes : goal.returns-in_err-push_effect-clause-changes
-returns-in_err-push_effect-clause-changes c = λ root named within.
-    let p = err_from_is_err_and c.from_residual-in_err-push_effect.result c.from_residual-in_err-push_effect.ensures.1 in
+pub returns-in_err-at_place-clause-changes : goal.returns-in_err-at_place-clause-changes
+returns-in_err-at_place-clause-changes c = λ root named within.
+    let p = err_from_is_err_and c.from_residual-in_err-at_place.result c.from_residual-in_err-at_place.ensures.1 in
     let here = reached place_of c.args.places.now c.places.place-index c.place-item.result c.places-test.true c.place-item.is in
     let f : FoundPlace → Judgement (List Changed) = λ q. and_then (all_allowed root) (effect_of c.args.effect.now c.args.documents.now q) in
     failed _ _ _ _ (p.1 ∙ ap Err p.2)
     (each_fails place_of f (map changed_of c.places.changes.items) c.args.places.now c.places.place-index c.place-item.result _ _ c.places-test.true c.place-item.is
-    ((rw c.places.invariant.same at c.in_err-push_effect.ensures.change) root named (subst (AreIn root) here (c.places.invariant.within root within)).0)
+    ((rw (c.places.invariant.same, ← c.in_err-at_place.ensures) at c.push_effect-pushed.ensures.change) root named (subst (AreIn root) here (c.places.invariant.within root within)).0)
     (c.places.invariant.so_far root named within))
 
 pub places-preserved : goal.places-preserved
 places-preserved c =
     let here = reached place_of c.args.places.now c.places.place-index c.place-item.result c.places-test.true c.place-item.is in
     record {
-      same = c.push_effect.ensures.same ∙ c.places.invariant.same;
+      same = c.push_effect-pushed.ensures.same ∙ c.places.invariant.same;
       scalars = (subst HaveScalars here c.places.invariant.scalars).1;
       within = λ root within. (subst (AreIn root) here (c.places.invariant.within root within)).1;
-      valid = c.in_ok-push_effect.ensures.valid c.places.invariant.valid;
+      valid = (rw ← c.in_ok-at_place.ensures at c.push_effect-pushed.ensures.valid) c.places.invariant.valid;
       so_far = λ root named within.
           let f : FoundPlace → Judgement (List Changed) = λ q. and_then (all_allowed root) (effect_of c.args.effect.now c.args.documents.now q) in
-          each_more place_of f (map changed_of c.places.changes.items) (map changed_of c.push_effect.new.changes.items) c.args.places.now c.places.place-index c.place-item.result _ c.places-test.true c.place-item.is
-          ((rw c.places.invariant.same at c.in_ok-push_effect.ensures.change) root named (subst (AreIn root) here (c.places.invariant.within root within)).0)
+          each_more place_of f (map changed_of c.places.changes.items) (map changed_of c.push_effect-pushed.new.changes.items) c.args.places.now c.places.place-index c.place-item.result _ c.places-test.true c.place-item.is
+          ((rw (c.places.invariant.same, ← c.in_ok-at_place.ensures) at c.push_effect-pushed.ensures.change) root named (subst (AreIn root) here (c.places.invariant.within root within)).0)
           (c.places.invariant.so_far root named within);
     }
 

@@ -11,8 +11,8 @@ use Rattle.yq_expr.proofs.changes.value_each.Goals as goal
 pub returns-in_err-value-clause-changes : goal.returns-in_err-value-clause-changes
 returns-in_err-value-clause-changes c = search (rules, err_from_is_err_and, failed)
 
-pub put_at-requires : goal.put_at-requires
-put_at-requires c = (subst HaveScalars c.in-Some.ensures c.requires.places.scalars).0
+pub put_at-put-requires : goal.put_at-put-requires
+put_at-put-requires c = (subst HaveScalars c.in-Some.ensures c.requires.places.scalars).0
 
 pub returns-then-adds-clause-changes : goal.returns-then-adds-clause-changes
 returns-then-adds-clause-changes c =
@@ -36,6 +36,6 @@ returns-in-Some-clause-changes c =
     let ts = map term_of c.args.right.now in
     let value : right_value c.args.found.now.document.doc ts (root_place root) ≡ gives (value_node c.in_ok-value.value) = sym (ap (right_value c.args.found.now.document.doc ts) c.of_root-from.ensures) ∙ c.in_ok-value.ensures in
     let all = value_there root (right_value c.args.found.now.document.doc ts (root_place root)) put_with_path (found_places c.args.found.now.places) (value_node c.in_ok-value.value) c.requires.some value in
-    let put = c.put_at.ensures.changes root c.requires.aliases (subst (AreIn root) c.in-Some.ensures c.requires.places.within) in
-    rw c.if-adds.false (subst (Judges changes_under c.put_at.result)
+    let put = c.put_at-put.ensures.changes root c.requires.aliases (subst (AreIn root) c.in-Some.ensures c.requires.places.within) in
+    rw (c.if-adds.false, c.at_place.ensures) (subst (Judges changes_under c.put_at-put.result)
     (ap (at_each root (λ q. put_with_path q (value_node c.in_ok-value.value))) (sym c.in-Some.ensures) ∙ sym all) put)
