@@ -1,19 +1,15 @@
 //! Why a command is refused and where, in lines for a person.
 
-use crate::later_updates::text_then;
 use std::fs::metadata;
 use std::io::IsTerminal;
 use std::path::Path;
 use std::{fs, io};
 use yq_args::Command;
 use yq_explain::{
-    RefusingText, asked_code, asks_lines, code_of, expression_lines, names_value, place_lines,
-    push_name, push_rows, push_value_line,
+    asked_code, asks_lines, code_of, expression_lines, place_lines, push_name, push_rows,
 };
-use yq_expr_parser::parse_expr;
 use yq_fault::Fault;
 use yq_run::{Out, as_slices, asked_command, own_words, purpose_of};
-use yq_semantics::Refusal;
 
 /// The most bytes of a file that are read once more to show a line of it.
 const MOST: u64 = 1 << 25;
@@ -26,49 +22,22 @@ fn bytes_of(rt: &HostRuntime, file: &str) -> Option<Vec<u8>> {
     }
 }
 
-/// Adds the line about the value of a file that refuses an expression, where there is one.
-fn push_value(
-    rt: &HostRuntime,
-    text: &mut String,
-    file: &str,
-    expr: &str,
-    why: Refusal,
-) -> Result<(), Fault> {
-    if !names_value(why) {
-        return Ok(());
-    }
-    let alloc = rt.alloc();
-    let Some(bytes) = bytes_of(rt, file) else {
-        return Ok(());
-    };
-    let Ok(program) = parse_expr(alloc, expr) else {
-        return Ok(());
-    };
-    let (then, updates) = text_then(alloc, &bytes, expr, program.updates());
-    let bytes = match &then {
-        Some(text) => text.as_bytes(),
-        None => bytes.as_slice(),
-    };
-    let refusing = RefusingText { bytes, updates };
-    Ok(push_value_line(alloc, text, refusing, &program, why)?)
-}
-
 /// The lines about a command that is refused for this fault, whose code it is.
 fn lines_of(
     rt: &HostRuntime,
     command: &Command,
-    fault: Option<Fault>,
+    fault: Option<&Fault>,
     code: &str,
 ) -> Result<String, Fault> {
     let (file, _) = purpose_of(command);
     let mut text = match (fault, command) {
         (Some(Fault::Expression(place)), Command::Eval { words, .. }) => {
             let expr = words.expr.as_str();
-            return Ok(expression_lines(rt.alloc(), expr, place, code)?);
+            return Ok(expression_lines(rt.alloc(), expr, *place, code)?);
         }
         (Some(Fault::Unreadable(place)), _) => {
             let bytes = bytes_of(rt, file);
-            place_lines(rt.alloc(), file, bytes.as_deref(), place)?
+            place_lines(rt.alloc(), file, bytes.as_deref(), *place)?
         }
         _ => {
             let mut text = String::from_str(rt.alloc(), "FILE: ")?;
@@ -77,15 +46,15 @@ fn lines_of(
             text
         }
     };
-    if let (Some(Fault::Refused(why)), Command::Eval { words, .. }) = (fault, command) {
-        push_value(rt, &mut text, file, words.expr.as_str(), why)?;
+    if let Some(Fault::Refused(refused)) = fault {
+        text.push_str(refused.line.as_deref().unwrap_or(""))?;
     }
     push_rows(&mut text, code, false)?;
     Ok(text)
 }
 
 /// The lines about a fault of the program's own command; without one nothing was matched.
-fn cause_lines(rt: &HostRuntime, fault: Option<Fault>) -> Result<String, Fault> {
+fn cause_lines(rt: &HostRuntime, fault: Option<&Fault>) -> Result<String, Fault> {
     let (command, _) = asked_command(rt)?;
     let code = match fault {
         Some(fault) => code_of(rt.alloc(), fault)?,
@@ -105,7 +74,7 @@ fn is_asked(rt: &HostRuntime) -> Result<bool, Fault> {
 
 /// Reports on standard error why a command is refused and where, if that is asked for; without a fault
 /// nothing was matched.
-pub fn report_cause(rt: &HostRuntime, fault: Option<Fault>) -> io::Result<()> {
+pub fn report_cause(rt: &HostRuntime, fault: Option<&Fault>) -> io::Result<()> {
     if !is_asked(rt).unwrap_or(false) {
         return Ok(());
     }

@@ -2,7 +2,6 @@
 #![tactic(auto)]
 
 mod explaining;
-mod later_updates;
 mod program;
 
 use crate::explaining::report_cause;
@@ -25,9 +24,9 @@ fn report_answer(rt: &HostRuntime, answer: Answer) -> io::Result<ExitCode> {
         }
         Answer::Refused(fault) => {
             eprintln!(rt; "Error: {fault}")?;
-            match fault {
-                Fault::Usage(cause) => report_usage(rt, cause)?,
-                _ => report_cause(rt, Some(fault))?,
+            match &fault {
+                Fault::Usage(cause) => report_usage(rt, *cause)?,
+                fault => report_cause(rt, Some(fault))?,
             }
         }
     }

@@ -35,11 +35,11 @@ fn answer_on_file(
     let (file, purpose) = purpose_of(command);
     let files = DiskStore::new(rt, file, purpose).reporting(on_terminal);
     let mut store = WithFolder::new(rt, files, file, folder);
-    let answers = run_list(rt.alloc(), &mut store, out, slice::from_ref(command))?;
+    let mut answers = run_list(rt.alloc(), &mut store, out, slice::from_ref(command))?;
     let listed = if on_terminal { Some(out.lines()) } else { None };
     let hint = hint_for(store.files().hint(), command, listed);
-    match answers.first() {
-        Some(answer) => Ok((*answer, hint)),
+    match answers.pop() {
+        Some(answer) => Ok((answer, hint)),
         None => Ok((Answer::Done, None)),
     }
 }

@@ -6,7 +6,7 @@ ghost use Rattle.yq_edit_laws.specs.Theorems.{IsFitting};
 use crate::memory::hold_memory;
 use std::alloc::Global;
 use yq_expr::{Op, Program, parse_expr, plan};
-use yq_fault::Fault;
+use yq_fault::{Fault, unnamed};
 use yq_splice::{Session, apply_op};
 use yq_tree::read;
 
@@ -52,7 +52,7 @@ pub(crate) fn planned(alloc: Global, text: &str, program: &Program) -> Result<Ve
         IsFitting (operation_of op) text.now) }
 {
     let documents = read(alloc, text.as_bytes())?;
-    let ops = plan(alloc, program, 0, &documents)?;
+    let ops = unnamed(plan(alloc, program, 0, &documents))?;
     Ok(ops)
 }
 

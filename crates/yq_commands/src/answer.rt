@@ -3,7 +3,7 @@
 use yq_fault::Fault;
 
 /// The answer to a command.
-#[derive(Clone, Copy, Debug, PartialEq, Eq)]
+#[derive(Debug, Drop)]
 pub enum Answer {
     /// It was carried out.
     Done,

@@ -14,6 +14,7 @@ use yq_args::EvalOptions;
 use yq_core::{Kind, Value, is_true_word};
 use yq_edit_rules::print;
 use yq_eval::{Match, matches};
+use yq_explain::named;
 use yq_fault::Fault;
 use yq_history::Report;
 use yq_semantics::Program;
@@ -120,6 +121,6 @@ pub fn show_read(
 {
     let text = utf8_text(text)?;
     let documents = read(alloc, text.as_bytes())?;
-    let found = matches(alloc, program, &documents)?;
+    let found = named(alloc, &documents, 0, matches(alloc, program, &documents))?;
     Ok(report_matches(alloc, options, &found)?)
 }

@@ -5,7 +5,7 @@ use std::alloc::{AllocError, Global};
 use yq_fault::Fault;
 
 /// The code with which the line of a fault begins.
-pub fn code_of(alloc: Global, fault: Fault) -> Result<String, AllocError> {
+pub fn code_of(alloc: Global, fault: &Fault) -> Result<String, AllocError> {
     let line = format!(in alloc; "{fault}")?;
     match line.split_once(' ') {
         Some((code, _)) => String::from_str(alloc, code),

@@ -1,14 +1,17 @@
 //! The line about the value at which a path goes no further.
+ghost use Rattle.std.specs.Prelude.{◌≡◌};
 
 use crate::caret::push_name;
-use crate::value_place::refusing;
+use crate::value_place::named_place;
 use memchr::memchr_iter;
 use std::alloc::{AllocError, Global};
 use yq_core::{Kind, Step};
 use yq_documents::{Documents, Part, Path};
+use yq_failure::Failure;
+use yq_fault::{EditError, NamedRefusal, unnamed};
 use yq_nodes::{Node, NodeKind};
-use yq_semantics::{Program, Refusal};
-use yq_tree::{extent, locate, read};
+use yq_semantics::{ExprError, Refused};
+use yq_tree::{extent, locate};
 
 /// Whether a key is a step of a path without quotes.
 fn is_plain(key: &str) -> bool {
@@ -71,70 +74,61 @@ fn push_kind(alloc: Global, out: &mut String, node: &Node<'_, '_>) -> Result<(),
     out.push_str(words.as_str())
 }
 
-/// The line, from 1, on which the entry, item or root at a path begins, in bytes that were read.
-fn line_of(documents: &Documents<'_>, path: &Path, bytes: &[u8]) -> Option<usize> {
+/// The line, from 1, on which the entry, item or root at a path begins.
+fn line_of(documents: &Documents<'_>, path: &Path) -> Option<usize> {
     let span = match extent(documents, path, Part::Entry) {
         Some(span) => span,
         None => extent(documents, path, Part::Content)?,
     };
-    let before = bytes.get(..span.start)?;
+    let before = documents.text().as_bytes().get(..span.start)?;
     Some(memchr_iter(b'\n', before).count().saturating_add(1))
 }
 
-/// A text on which an update of a program is refused, and how many updates before it made that of the file's.
-#[derive(Clone, Copy)]
-pub struct RefusingText<'b> {
-    pub bytes: &'b [u8],
-    pub updates: usize,
-}
-
-/// Adds the line about the value at a path.
-fn push_value(
+/// The line about the value at which a refusal is, on documents that so many updates before made, if it is at one.
+fn value_line(
     alloc: Global,
-    out: &mut String,
     documents: &Documents<'_>,
-    path: &Path,
-    text: RefusingText<'_>,
-) -> Result<(), AllocError> {
-    let Some(node) = locate(documents, path) else {
-        return Ok(());
+    updates: usize,
+    refused: Refused,
+) -> Result<Option<String>, AllocError> {
+    let Some(path) = named_place(alloc, documents, refused)? else {
+        return Ok(None);
     };
-    push_path(alloc, out, &path.steps)?;
+    let Some(node) = locate(documents, &path) else {
+        return Ok(None);
+    };
+    let mut out = String::new(alloc);
+    push_path(alloc, &mut out, &path.steps)?;
     out.push_str(" is ")?;
-    push_kind(alloc, out, &node)?;
-    if let Some(line) = line_of(documents, path, text.bytes) {
+    push_kind(alloc, &mut out, &node)?;
+    if let Some(line) = line_of(documents, &path) {
         let line = format!(in alloc; ", line {line}")?;
         out.push_str(line.as_str())?;
     }
-    if text.updates > 0 {
-        let updates = text.updates;
+    if updates > 0 {
         let words = format!(in alloc; " of the text after update {updates}")?;
         out.push_str(words.as_str())?;
     }
-    out.push('\n')
+    out.push('\n')?;
+    Ok(Some(out))
 }
 
-/// Adds at which value a program is refused for this reason, and on which line of the text it is, counted from 1.
-pub fn push_value_line(
+/// What a read gives on documents, or an update on those that so many before it made; or its refusal, with the line
+/// about the value at which it is.
+pub fn named<T: Drop>(
     alloc: Global,
-    out: &mut String,
-    text: RefusingText<'_>,
-    program: &Program,
-    why: Refusal,
-) -> Result<(), AllocError> {
-    let Ok(documents) = read(alloc, text.bytes) else {
-        return Ok(());
-    };
-    match refusing(alloc, &documents, program, text.updates, why)? {
-        Some(path) => push_value(alloc, out, &documents, &path, text),
-        None => Ok(()),
+    documents: &Documents<'_>,
+    updates: usize,
+    found: Result<T, ExprError>,
+) -> Result<T, EditError>
+    ensures { result ≡ found }
+{
+    match found {
+        Err(Failure::Fault(refused)) => {
+            let why = refused.why();
+            let line = value_line(alloc, documents, updates, refused).unwrap_or(None);
+            Err(Failure::Fault(NamedRefusal { why, line }))
+        }
+        found => unnamed(found),
     }
-}
-
-/// Whether a value may be named for such a refusal.
-pub fn names_value(why: Refusal) -> bool {
-    !matches!(
-        why,
-        Refusal::BadCommentText | Refusal::TooLarge | Refusal::NotAnUpdate
-    )
 }

@@ -1,13 +1,12 @@
-//! The value at which an expression is refused on documents: where the call that refuses it found that.
+//! The value at which an expression is refused on documents.
 
 use std::alloc::{AllocError, Global};
 use yq_core::{DEPTH_LIMIT, Step};
 use yq_documents::{Documents, Path};
-use yq_eval::{matches, owned, step_to};
-use yq_expr::judge;
+use yq_eval::{owned, step_to};
 use yq_nodes::Node;
 use yq_planner::aliases_of;
-use yq_semantics::{ExprError, Program, Refusal};
+use yq_semantics::{Refusal, Refused};
 use yq_tree::locate;
 
 /// The first item or value of a node in which an alias is, after the step to it.
@@ -43,45 +42,15 @@ fn to_alias(alloc: Global, documents: &Documents<'_>, path: Path) -> Result<Path
     Ok(path)
 }
 
-/// Judges a read, or update `nth` of a program, counted from 0.
-fn judged(
+/// The path to the value at which a refusal on documents is, if it is at one that may be named.
+pub fn named_place(
     alloc: Global,
     documents: &Documents<'_>,
-    program: &Program,
-    nth: usize,
-) -> Result<(), ExprError> {
-    if program.is_read() {
-        let _matches = matches(alloc, program, documents)?;
-        return Ok(());
-    }
-    if nth < program.updates() {
-        return judge(alloc, program, nth, documents);
-    }
-    Ok(())
-}
-
-/// The path to the value at which a read, or update `nth` of a program, counted from 0, is refused for this reason.
-/// None where no value is, or it isn't refused so.
-pub fn refusing(
-    alloc: Global,
-    documents: &Documents<'_>,
-    program: &Program,
-    nth: usize,
-    why: Refusal,
+    refused: Refused,
 ) -> Result<Option<Path>, AllocError> {
-    match judged(alloc, documents, program, nth) {
-        Ok(()) => Ok(None),
-        Err(ExprError::Memory) => Err(AllocError),
-        Err(ExprError::Fault(refused)) => {
-            if refused.why() != why {
-                return Ok(None);
-            }
-            match refused.into_place() {
-                Some(path) if why == Refusal::ThroughAlias => {
-                    Ok(Some(to_alias(alloc, documents, path)?))
-                }
-                place => Ok(place),
-            }
-        }
+    match (refused.why(), refused.into_place()) {
+        (Refusal::TooLarge, _) | (_, None) => Ok(None),
+        (Refusal::ThroughAlias, Some(path)) => Ok(Some(to_alias(alloc, documents, path)?)),
+        (_, place) => Ok(place),
     }
 }

@@ -1,10 +1,10 @@
 //! The fault of a command for what each layer refuses.
 
 use crate::fault::Fault;
+use crate::named::EditError;
 use std::alloc::AllocError;
 use yq_core::ReadError;
 use yq_journal::JournalError;
-use yq_semantics::ExprError;
 
 impl From<AllocError> for Fault {
     ghost use Rattle.std.specs.Prelude.{◌≡◌};
@@ -45,16 +45,16 @@ impl From<ReadError> for Fault {
     }
 }
 
-impl From<ExprError> for Fault {
+impl From<EditError> for Fault {
     ghost use Rattle.std.specs.Prelude.{◌≡◌};
     ghost use Rattle.yq_fault.specs.Faults.{fault_of_refusal};
 
     ghost from_gives = { λ x e. e ≡ fault_of_refusal x };
 
-    fn from(error: ExprError) -> Fault {
+    fn from(error: EditError) -> Fault {
         match error {
-            ExprError::Memory => Fault::OutOfMemory,
-            ExprError::Fault(refused) => Fault::Refused(refused.why()),
+            EditError::Memory => Fault::OutOfMemory,
+            EditError::Fault(refused) => Fault::Refused(refused),
         }
     }
 }

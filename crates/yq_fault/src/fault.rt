@@ -1,5 +1,6 @@
 //! Why a command is refused.
 
+use crate::named::NamedRefusal;
 use std::error::Error;
 use std::fmt::{self, Debug, Display, Formatter, Write};
 use yq_args::UsageCause;
@@ -8,7 +9,7 @@ use yq_journal::JournalFault;
 use yq_semantics::{ParseFault, Refusal};
 
 /// Why a command is refused. Its text is the line that the program prints.
-#[derive(Clone, Copy, PartialEq, Eq)]
+#[derive(Drop)]
 pub enum Fault {
     Usage(UsageCause),
     Expression(ParseFault),
@@ -22,7 +23,7 @@ pub enum Fault {
     OutFailed,
     Journal(JournalFault),
     Unreadable(ReadFault),
-    Refused(Refusal),
+    Refused(NamedRefusal),
     OutOfMemory,
 }
 
@@ -61,7 +62,7 @@ fn line_of(fault: &Fault) -> &'static str {
         Fault::OutFailed => "S4 out failed",
         Fault::Journal(_) => "",
         Fault::Unreadable(fault) => numbered(fault.kind).1,
-        Fault::Refused(why) => refusal_line(*why),
+        Fault::Refused(refused) => refusal_line(refused.why),
         Fault::OutOfMemory => "M1 out of memory",
     }
 }

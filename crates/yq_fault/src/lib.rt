@@ -3,5 +3,7 @@
 
 mod causes;
 mod fault;
+mod named;
 
 pub use fault::Fault;
+pub use named::{EditError, NamedRefusal, unnamed};

@@ -4,11 +4,7 @@
 use crate::asked::{FILE, Request, commands, store_with_file};
 use std::alloc::{AllocError, Global};
 use std::test::Fail;
-use yq_fault::Fault;
-use yq_journal::JournalFault;
-use yq_run::Answer::{Done, NoMatch, Refused};
-use yq_run::{Answer, MemoryOut, run_list};
-use yq_semantics::Refusal;
+use yq_run::{MemoryOut, run_list};
 use yq_store::{Left, MemoryStore};
 
 /// The commands. The calls of the store that each makes: the file and the journal are read by a call each, but
@@ -47,26 +43,8 @@ const FAILING: u64 = 36;
 const PRINTED: &str = "1\n1 done \".n = 2 | .n = 1\"\nnull\n3\n";
 
 /// The answers to the list.
-fn wanted() -> [Answer; 16] {
-    [
-        Done,
-        Done,
-        Done,
-        Done,
-        Refused(Fault::Refused(Refusal::NotAMap)),
-        Done,
-        Refused(Fault::Journal(JournalFault::NothingToRedo)),
-        Done,
-        Done,
-        NoMatch,
-        Done,
-        Done,
-        Refused(Fault::OutFailed),
-        Refused(Fault::WriteFailed),
-        Done,
-        Done,
-    ]
-}
+const ANSWERS: &str =
+    "[Done, Done, Done, Done, Refused(X1 not a map), Done, Refused(J2 nothing to redo), Done, Done, NoMatch, Done, Done, Refused(S4 out failed), Refused(S3 write failed), Done, Done]";
 
 /// Whether the list is answered so.
 fn is_answered(
@@ -76,7 +54,8 @@ fn is_answered(
 ) -> Result<bool, AllocError> {
     let commands = commands(alloc, &LIST)?;
     let answers = run_list(alloc, store, out, &commands)?;
-    Ok(answers.as_slice() == wanted().as_slice())
+    let answers = format!(in alloc; "{answers:?}")?;
+    Ok(answers.as_str() == ANSWERS)
 }
 
 #[test]

@@ -14,10 +14,11 @@ use crate::planned::carry_plan;
 use crate::updating::update_session;
 use std::alloc::{AllocError, Global};
 use yq_documents::Documents;
+use yq_explain::named;
 use yq_expr::{Program, Refusal, is_heavy, is_sole, judge, plan_by_rows, plan_under};
-use yq_fault::Fault;
+use yq_fault::{EditError, Fault, unnamed};
 use yq_lookup::CutText;
-use yq_semantics::{ExprError, Op};
+use yq_semantics::Op;
 use yq_text::{Edited, Splice};
 use yq_tree::read;
 
@@ -40,7 +41,7 @@ fn step_in_parts(
     splices: Vec<Splice>,
     program: &Program,
     nth: usize,
-) -> Result<Edited, ExprError>
+) -> Result<Edited, EditError>
     requires within { nth < update_count (program_of program.now) }
     requires literals { LiteralsHold (program_of program.now) }
     requires same { documents.now ≡ text.now }
@@ -53,8 +54,8 @@ fn step_in_parts(
     ensures err { (u : Update) → update_at nth (program_of program.now) ≡ Some u →
         IfErr result (λ e. FailsAt e u text.now) }
 {
-    judge(alloc, program, nth, documents)?;
-    carry_parts(alloc, text, documents, splices, program, nth)
+    named(alloc, documents, nth, judge(alloc, program, nth, documents))?;
+    unnamed(carry_parts(alloc, text, documents, splices, program, nth))
 }
 
 /// Update `nth` of a program carried out on a text that was read: what the reading says of rows, by which it
@@ -66,7 +67,7 @@ fn step(
     splices: Vec<Splice>,
     program: &Program,
     nth: usize,
-) -> Result<Edited, ExprError>
+) -> Result<Edited, EditError>
     requires within { nth < update_count (program_of program.now) }
     requires literals { LiteralsHold (program_of program.now) }
     requires same { documents ≡ text.now }
@@ -78,11 +79,13 @@ fn step(
     ensures err { (u : Update) → update_at nth (program_of program.now) ≡ Some u →
         IfErr result (λ e. FailsAt e u text.now) }
 {
-    if is_heavy(alloc, program, nth, &documents)? {
+    let heavy = unnamed(is_heavy(alloc, program, nth, &documents))?;
+    if heavy {
         return step_in_parts(alloc, text, &documents, splices, program, nth);
     }
-    let plan = plan_under(alloc, program, nth, &documents)?;
-    carry_plan(alloc, text, documents, splices, plan)
+    let planned = plan_under(alloc, program, nth, &documents);
+    let plan = named(alloc, &documents, nth, planned)?;
+    unnamed(carry_plan(alloc, text, documents, splices, plan))
 }
 
 /// The operation of update `nth` of a program on documents, if it isn't the last one and rows plan it.
@@ -115,7 +118,7 @@ fn steps(
     splices: Vec<Splice>,
     program: &Program,
     nth: usize,
-) -> Result<(Edited, usize), ExprError>
+) -> Result<(Edited, usize), EditError>
     requires within { nth < update_count (program_of program.now) }
     requires literals { LiteralsHold (program_of program.now) }
     requires same { documents ≡ text.now }
@@ -127,7 +130,7 @@ fn steps(
     let planned = planned_by_rows(alloc, &documents, program, nth)?;
     if let Some(first) = planned {
         let session = session_on(alloc, text, documents.into_rows())?;
-        return update_session(session, splices, program, nth, first);
+        return unnamed(update_session(session, splices, program, nth, first));
     }
     let _count = program.updates();
     let edited = step(alloc, text, documents, splices, program, nth)?;
@@ -140,7 +143,7 @@ fn update_each(
     text: &str,
     documents: Documents<'_>,
     program: &Program,
-) -> Result<Edited, ExprError>
+) -> Result<Edited, EditError>
     requires some { 0 < update_count (program_of program.now) }
     requires literals { LiteralsHold (program_of program.now) }
     requires same { documents ≡ text.now }
@@ -169,7 +172,7 @@ fn edit_read(
     text: &str,
     documents: Documents<'_>,
     program: &Program,
-) -> Result<Edited, ExprError>
+) -> Result<Edited, EditError>
     requires literals { LiteralsHold (program_of program.now) }
     requires same { documents ≡ text.now }
     requires read { read_at text.now ≡ Some (cut_of documents) }
@@ -179,7 +182,7 @@ fn edit_read(
     ensures refused { IfErr result (λ e. ProgramFails e (program_of program.now) text.now) }
 {
     if program.is_read() {
-        return Err(Refusal::NotAnUpdate.error());
+        return unnamed(Err(Refusal::NotAnUpdate.error()));
     }
     if program.updates() == 0 {
         return Ok(unchanged(alloc, text)?);

@@ -7,11 +7,11 @@ use Rattle.yq_splice.proofs.SessionLaws.{has_reading}
 use Rattle.yq_splice.proofs.editing.edit_read.Goals as goal
 
 pub returns-then-is_read-clause-exact : goal.returns-then-is_read-clause-exact
-returns-then-is_read-clause-exact c = rw c.error.ensures (read_done (program_of c.args.program.now) c.args.text.now (sym c.is_read.ensures ∙ c.if-is_read.true))
+returns-then-is_read-clause-exact c = rw (c.unnamed.ensures, c.error.ensures) (read_done (program_of c.args.program.now) c.args.text.now (sym c.is_read.ensures ∙ c.if-is_read.true))
 
 pub returns-then-is_read-clause-refused : goal.returns-then-is_read-clause-refused
 returns-then-is_read-clause-refused c =
-    rw c.error.ensures
+    rw (c.unnamed.ensures, c.error.ensures)
     (read_refused (program_of c.args.program.now) c.args.text.now (sym c.is_read.ensures ∙ c.if-is_read.true) (has_reading c.args.text.now (cut_of c.args.documents) c.requires.read))
 
 pub returns-then-updates-eq0-clause-exact : goal.returns-then-updates-eq0-clause-exact

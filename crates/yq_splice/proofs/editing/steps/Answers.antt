@@ -47,12 +47,12 @@ update_session-requires-clause-plans c =
     subst (λ (x : List ℕ). PlansAlone c.args.nth c.args.program.now x c.in-Some.first) text (subst (λ (o : Option Op). IfSome o (PlansAlone c.args.nth c.args.program.now c.args.documents)) c.in-Some.is c.in_ok-planned.ensures.plans)
 
 pub returns-in-Some-clause-ok : goal.returns-in-Some-clause-ok
-returns-in-Some-clause-ok c =
-    subst (λ (x : List ℕ). LeadOn (program_of c.args.program.now) c.args.nth x c.args.splices.items c.update_session.result) c.in_ok-session.ensures c.update_session.ensures.ok
+returns-in-Some-clause-ok c = rw c.unnamed.ensures
+    (subst (λ (x : List ℕ). LeadOn (program_of c.args.program.now) c.args.nth x c.args.splices.items c.update_session.result) c.in_ok-session.ensures c.update_session.ensures.ok)
 
 pub returns-in-Some-clause-err : goal.returns-in-Some-clause-err
-returns-in-Some-clause-err c =
-    subst (λ (x : List ℕ). FailAfter (program_of c.args.program.now) c.args.nth x c.args.splices.items c.update_session.result) c.in_ok-session.ensures c.update_session.ensures.err
+returns-in-Some-clause-err c = rw c.unnamed.ensures
+    (subst (λ (x : List ℕ). FailAfter (program_of c.args.program.now) c.args.nth x c.args.splices.items c.update_session.result) c.in_ok-session.ensures c.update_session.ensures.err)
 
 pub returns-clause-ok : goal.returns-clause-ok
 returns-clause-ok c =
