@@ -1,8 +1,8 @@
 -- Segments that put one text in the place of another: a value on one line, a line comment or a head comment.
 use Rattle.std.proofs.lemmas.Grind.{common_steps}
 use Rattle.std.proofs.Common.{rules, ◌≡◌, ℕ, ◌+◌, Bool, true, false, cond, List, [], ◌∷◌, ◌++◌, length, refl, ap, ◌∙◌, arith, append-nil}
-use Rattle.std.{proofs.Common.{append_assoc, length-append}, specs.Prelude.⊤}
-use Rattle.yq_core.{specs.Text.{is_empty, joined}, specs.Tree.Node, specs.declared.style.Place.TheVariants.Block as InBlock}
+use Rattle.std.{proofs.Common.{append_assoc, length-append, subst}, specs.Prelude.⊤}
+use Rattle.yq_core.{specs.declared.style.Place.TheVariants.Block as InBlock, specs.Text.joined, specs.Tree.Node}
 use Rattle.yq_places.specs.Placements.{Held, LinesIn}
 use Rattle.yq_text.proofs.BetweenLaws.{after_nothing}
 use Rattle.yq_text.{specs.Script.{Segment, changes, keep, keep_before, merged, put, put_before, splice_at, splices_at}, specs.Splice.Splice}
@@ -62,25 +62,15 @@ put_quiet n o w (put p x ∷ ss) h =
 
 -- ---- a value on one line
 
-module _ (h : Held) (v : Node) (some : is_empty h.head ≡ false) (none : h.break ≡ []) (no_lines : h.lines ≡ []) where
-  abbrev t : List ℕ
-  t = value_text InBlock h.head v
-
-  abbrev after : List ℕ
-  after = h.white ++ (h.comment ++ (h.last ++ h.after))
-
-  text_is : spaced_text h.head t ≡ t
-  text_is = ap (λ (b : Bool). cond b (32 ∷ t) t) some
-
-  abbrev left : List Segment
-  left = keep h.white ∷ (keep h.comment ∷ (put h.break [] ∷ (put h.lines [] ∷ (keep h.last ∷ (keep h.after ∷ [])))))
-
-  one_put : PutsOne (inline_put v h) (h.before ++ h.space) h.head t after
-  unfolding changes
-  one_put = grind (arith, common_steps, append-nil, append_assoc, text_is, first_keep, after_keep, put_quiet, length-append)
+pub value_put_one : (v : Node) (h : Held) → h.break ≡ [] → h.lines ≡ [] →
+    PutsOne (inline_put v h) (h.before ++ h.space) h.head (spaced_text h.head (value_text InBlock h.head v)) (h.white ++ (h.comment ++ (h.last ++ h.after)))
+unfolding changes
+value_put_one v h none no_lines = grind (arith, common_steps, append-nil, append_assoc, first_keep, after_keep, put_quiet, length-append)
 
 pub inline_puts : InlinePutsOne
-inline_puts v h some none no_lines = one_put h v some none no_lines
+inline_puts v h some none no_lines =
+    subst (λ (t : List ℕ). PutsOne (inline_put v h) (h.before ++ h.space) h.head t (h.white ++ (h.comment ++ (h.last ++ h.after))))
+    (ap (λ (b : Bool). cond b (32 ∷ value_text InBlock h.head v) (value_text InBlock h.head v)) some) (value_put_one v h none no_lines)
 
 -- ---- lines after those under a key or dash
 
