@@ -6,7 +6,7 @@ use Rattle.std.{proofs.lemmas.Str.IsCharBoundary-at_seam, specs.Option.option_or
 use Rattle.yq_text.specs.Limit.{text_limit}
 use Rattle.yq_text.specs.Script.{Segment, changes, keep, keep_before, merged, new_text, put, put_before, splice_at, splices_at}
 use Rattle.yq_text.{specs.Splice.Splice, proofs.BetweenLaws.after_nothing, proofs.TouchLaws.put_twice}
-use Rattle.yq_core.{specs.BlockWritten.break_text, specs.Paths.Step, specs.Text.is_empty, specs.Tree.Node}
+use Rattle.yq_core.{specs.Paths.Step, specs.Text.is_empty, specs.Tree.Node}
 use Rattle.yq_core.{specs.declared.style.Place.TheVariants.Block as InBlock, proofs.LineLaws.is_empty_is}
 use Rattle.yq_row_table.{specs.Rows.{Block, Content, Cut, Inline, Nothing, Row, cut_text, rows_text, print_row}, specs.Seams.is_block}
 use Rattle.yq_row_table.specs.View.{slices}
@@ -14,7 +14,7 @@ use Rattle.yq_documents.specs.Reading.{cut_of, documents, read_at}
 use Rattle.yq_semantics.{specs.Fits.Fits, specs.Operations.replace, specs.Rooms.room_of}
 use Rattle.yq_places.{specs.CommentPlaces.end_in_line, specs.PlacementViews.IsHeldRow, specs.declared.places.held_row.HeldRow.HeldRow}
 use Rattle.yq_places.{specs.NodesAt.node_in, specs.PrintedLines.less_break, proofs.HeldRowLaws.no_root_rows}
-use Rattle.yq_places.specs.Placements.{Held, Placement, RowsOfEntry, after_entry, alone, before_entry, below, beside, compact_in}
+use Rattle.yq_places.specs.Placements.{Held, RowsOfEntry, after_entry, alone, before_entry, below, beside, compact_in}
 use Rattle.yq_places.specs.Placements.{entry_placement, flow_placement, held, is_alone, last_step, lone, past_mark, placement_at}
 use Rattle.yq_places.specs.Placements.{rows_of_entry, under}
 use Rattle.yq_edit_rules.{specs.RowStays.StaysInRows, specs.PlacementLaws.{HoldsPieces, HasItsRows}, specs.TextPieces.IsPiece}
@@ -23,7 +23,7 @@ use Rattle.yq_edit_rules.{specs.BlockReading.is_filled, specs.Edits.op_edits, sp
 use Rattle.yq_edit_rules.{specs.Layouts.layout_of, specs.Replacing.keeps_scalar, specs.ReplaceEdits.{spaced_text, value_put_at}}
 use Rattle.yq_edit_rules.{specs.RowChanges.{PutsOne, inline_put}, specs.WrittenValues.value_text, proofs.EditsFitLaws.fits_replace}
 use Rattle.yq_edit_rules.proofs.ValueTexts.{value_for}
-use Rattle.yq_edit_laws.{proofs.CutLaws.{cut_read, text_read}, proofs.EntryNodeLaws.entry_node, proofs.HeldRows.held_known}
+use Rattle.yq_edit_laws.{proofs.CutLaws.{text_read}, proofs.EntryNodeLaws.entry_node, proofs.HeldRows.held_known}
 use Rattle.yq_edit_laws.{proofs.HeldCarried.{KnowsHeld, first_alone}, proofs.HeldInline.{RowMade, nothing_made}, proofs.MarkHeads.no_raw}
 use Rattle.yq_edit_laws.proofs.EditsHold.{edit_is}
 use Rattle.yq_batch.specs.RowEnds.{HasNoHead}

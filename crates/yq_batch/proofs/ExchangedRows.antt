@@ -1,21 +1,21 @@
 -- What comes after a row that is replaced by another one with the same key and dashes: paths lead to the rows to which they led.
-use Rattle.std.proofs.Common.{◌≡◌, inl, inr, ℕ, zero, suc, ◌+◌, ◌-◌, ◌≤◌, ◌<◌, nat_lt, Bool, true, false, not, ◌||◌, cond, List, [], ◌∷◌}
+use Rattle.std.proofs.Common.{◌≡◌, inl, inr, ℕ, zero, suc, ◌+◌, ◌-◌, ◌≤◌, ◌<◌, nat_lt, Bool, true, false, cond, List, [], ◌∷◌}
 use Rattle.std.proofs.Common.{◌++◌, drop, length, take, Option, Some, None, option_map, refl, sym, ap, ◌∙◌, subst, arith, rules}
 use Rattle.std.{proofs.Common.length-append, proofs.lemmas.List.{drop-drop, length-take-le}}
 use Rattle.std.{proofs.lemmas.Option.{none-some, same_Some, slice_get_within}, specs.List.slice_get}
 use Rattle.yq_core.{specs.Answers.◌>>=◌, specs.Paths.Step, proofs.Bools.bind_some}
-use Rattle.yq_outline.{specs.Ends.line_at_steps, specs.Group.level_or, specs.Lines.lines_of_rows}
+use Rattle.yq_outline.{specs.Ends.line_at_steps, specs.Lines.lines_of_rows}
 use Rattle.yq_row_table.{specs.Grammar.begins_document, specs.Rows.{Cut, Part, Row, cut_text, last, marked}, specs.Splices.after_part}
-use Rattle.yq_documents.specs.Documents.{begins_bare, document_parts, has_begin}
+use Rattle.yq_documents.specs.Documents.{document_parts}
 use Rattle.yq_documents.{specs.LinesInRows.{RowLine, one_row_later, row_line, row_line_of}, specs.PartNumbers.{number_from, part_number}}
-use Rattle.yq_documents.{specs.Reading.{part_outline, read_at}, specs.TreeEdits.change_nth, proofs.PartNumberLaws.part_there}
+use Rattle.yq_documents.{specs.Reading.{read_at}, specs.TreeEdits.change_nth, proofs.PartNumberLaws.part_there}
 use Rattle.yq_text.specs.Script.{Segment, new_text}
 use Rattle.yq_places.specs.PlacedRows.{PlacedPart, before_part, placed_at, placed_document}
 use Rattle.yq_places.{specs.Placements.{RowsOfEntry, entry_rows_at, rows_of_entry}, proofs.PlacedPartLaws.map_some}
 use Rattle.yq_places.proofs.RowLineSpans.{steps_row}
 use Rattle.yq_edit_rules.{specs.Appends.inserted, specs.Changed.{KeepsRows, put_document, put_part}, specs.RowChanges.ChangesRow}
 use Rattle.yq_edit_rules.{specs.Rooms.RowShape, specs.RowStays.{IsAfter, StaysInRows, StaysPlaced}}
-use Rattle.yq_edit_rules.{proofs.ChangedLaws.{document_put, first_stays, nth_changed}, proofs.PartLaws.document_known}
+use Rattle.yq_edit_rules.{proofs.ChangedLaws.{document_put, first_stays}, proofs.PartLaws.document_known}
 use Rattle.yq_edit_rules.proofs.RowStayLaws.{around, placed_put}
 use Rattle.yq_batch.{specs.RowRuns.ExchangesRow, proofs.ErasedLines.{line_by_marks, marks_of, marks_with}}
 use Rattle.yq_batch.proofs.RowOrder.{one_end, one_keeps, one_rows, part_put}

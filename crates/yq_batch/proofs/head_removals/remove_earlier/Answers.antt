@@ -16,5 +16,5 @@ remove_in_row-requires-clause-run c =
     let here : c.in-Some.found.doc ≡ c.args.from.0 = c.if-found-doc.false in
     let there = subst (λ (k : ℕ). IsRowAt (cut_of t) k steps c.in-Some-2.row) (sym here) (subst (λ (u : List ℕ). IsRowAt (cut_of u) c.args.from.0 steps c.in-Some-2.row) along row) in
     subst (λ (u : List ℕ). RemovesFrom u c.in-Some.found c.args.run.now) (sym same)
-    (head_goes_on t c.in-Some.found.doc c.in-Some-2.row c.args.from.1 steps c.args.run.now read there (omega (arith, c.if-row-ge-last.false))
+    (head_goes_on t c.in-Some.found.doc c.in-Some-2.row c.args.from.1 steps c.args.run.now read there (omega (arith, c.if-row-last.false))
     (subst (λ (k : ℕ). RemovesHeads (cut_of t) k c.args.from.1 c.args.run.now) (sym here) c.requires.run))

@@ -1,4 +1,4 @@
-use Rattle.std.proofs.Common.{List, ℕ, map}
+use Rattle.std.proofs.Common.{map}
 use Rattle.yq_core.specs.Entries.{tree_step}
 use Rattle.yq_batch.{specs.Runs.IsFoundHead, specs.HeadPaths.IsFoundFor, proofs.HeadRunLaws.some_is}
 use Rattle.yq_batch.proofs.together.remove_below.Goals as goal
