@@ -1,96 +1,31 @@
 -- Values that operations put after keys and dashes that hold nothing, wherever their items and entries are still.
-use Rattle.std.proofs.Common.{◌≡◌, ℕ, ◌+◌, ◌≤◌, Bool, true, false, cond, eqb, eqb-true, eq-eqb, List, [], ◌∷◌, ◌++◌, length, Option, Some}
-use Rattle.std.proofs.Common.{None, option_map, refl, sym, ap, ◌∙◌, subst, arith, rules, append_assoc, append-nil, string_bytes}
-use Rattle.std.{proofs.Common.length-append, proofs.lemmas.Bool.false≢true, proofs.lemmas.Option.same_Some}
-use Rattle.std.{proofs.lemmas.Str.IsCharBoundary-at_seam, specs.Option.option_or, specs.Prelude.⊤, specs.Str.IsCharBoundary}
-use Rattle.yq_text.specs.Limit.{text_limit}
-use Rattle.yq_text.specs.Script.{Segment, changes, keep, keep_before, merged, new_text, put, put_before, splice_at, splices_at}
-use Rattle.yq_text.{specs.Splice.Splice, proofs.BetweenLaws.after_nothing, proofs.TouchLaws.put_twice}
-use Rattle.yq_core.{specs.Paths.Step, specs.Text.is_empty, specs.Tree.Node}
-use Rattle.yq_core.{specs.declared.style.Place.TheVariants.Block as InBlock, proofs.LineLaws.is_empty_is}
+use Rattle.std.proofs.Common.{◌≡◌, ℕ, ◌≤◌, Bool, true, false, cond, eqb, eqb-true, eq-eqb, List, [], ◌∷◌, ◌++◌, length, Option, Some}
+use Rattle.std.proofs.Common.{None, option_map, refl, sym, ap, ◌∙◌, subst, arith, rules, append_assoc, string_bytes, length-append}
+use Rattle.std.{proofs.lemmas.Bool.false≢true, proofs.lemmas.Option.same_Some, proofs.lemmas.Str.IsCharBoundary-at_seam}
+use Rattle.std.{specs.Option.option_or, specs.Str.IsCharBoundary}
+use Rattle.yq_text.{specs.Limit.text_limit, specs.Script.{Segment, keep, new_text}}
+use Rattle.yq_core.{specs.Paths.Step, specs.Text.is_empty, specs.Tree.Node, specs.declared.style.Place.TheVariants.Block as InBlock}
+use Rattle.yq_core.proofs.LineLaws.{is_empty_is}
 use Rattle.yq_row_table.{specs.Rows.{Block, Content, Cut, Inline, Nothing, Row, cut_text, rows_text, print_row}, specs.Seams.is_block}
 use Rattle.yq_row_table.specs.View.{slices}
 use Rattle.yq_documents.specs.Reading.{cut_of, documents, read_at}
 use Rattle.yq_semantics.{specs.Fits.Fits, specs.Operations.replace, specs.Rooms.room_of}
 use Rattle.yq_places.{specs.CommentPlaces.end_in_line, specs.PlacementViews.IsHeldRow, specs.declared.places.held_row.HeldRow.HeldRow}
 use Rattle.yq_places.{specs.NodesAt.node_in, specs.PrintedLines.less_break, proofs.HeldRowLaws.no_root_rows}
-use Rattle.yq_places.specs.Placements.{Held, RowsOfEntry, after_entry, alone, before_entry, below, beside, compact_in}
-use Rattle.yq_places.specs.Placements.{entry_placement, flow_placement, held, is_alone, last_step, lone, past_mark, placement_at}
-use Rattle.yq_places.specs.Placements.{rows_of_entry, under}
+use Rattle.yq_places.specs.Placements.{Held, RowsOfEntry, after_entry, alone, before_entry, below, beside, compact_in, entry_placement}
+use Rattle.yq_places.specs.Placements.{flow_placement, held, is_alone, last_step, lone, past_mark, placement_at, rows_of_entry, under}
 use Rattle.yq_edit_rules.{specs.RowStays.StaysInRows, specs.PlacementLaws.{HoldsPieces, HasItsRows}, specs.TextPieces.IsPiece}
 use Rattle.yq_edit_rules.{proofs.PlacementRows.rows_located, proofs.TextPieceLaws.pieces_joined, proofs.HeldPieces.held_spells}
 use Rattle.yq_edit_rules.{specs.BlockReading.is_filled, specs.Edits.op_edits, specs.FlowParts.flow_put, specs.Operands.HasOperand}
 use Rattle.yq_edit_rules.{specs.Layouts.layout_of, specs.Replacing.keeps_scalar, specs.ReplaceEdits.{spaced_text, value_put_at}}
 use Rattle.yq_edit_rules.{specs.RowChanges.{PutsOne, inline_put}, specs.WrittenValues.value_text, proofs.EditsFitLaws.fits_replace}
 use Rattle.yq_edit_rules.proofs.ValueTexts.{value_for}
-use Rattle.yq_edit_laws.{proofs.CutLaws.{text_read}, proofs.EntryNodeLaws.entry_node, proofs.HeldRows.held_known}
+use Rattle.yq_edit_laws.{proofs.CutLaws.text_read, proofs.EntryNodeLaws.entry_node, proofs.HeldRows.held_known}
 use Rattle.yq_edit_laws.{proofs.HeldCarried.{KnowsHeld, first_alone}, proofs.HeldInline.{RowMade, nothing_made}, proofs.MarkHeads.no_raw}
-use Rattle.yq_edit_laws.proofs.EditsHold.{edit_is}
+use Rattle.yq_edit_laws.{proofs.EditsHold.edit_is, proofs.OnePutLaws.value_put_one}
 use Rattle.yq_batch.specs.RowEnds.{HasNoHead}
 use Rattle.yq_batch.specs.RowRuns.{ExchangesRow, IsSpacedSo, PutsInRow, PutsSo, PutsText, bytes_in, of_entry, rows_still}
 use Rattle.yq_batch.specs.declared.row_put.RowPut.{RowPut}
-
--- ---- segments that exchange no bytes
-
-abbrev AreQuiet : List Segment → Type 0
-AreQuiet [] = ⊤
-AreQuiet (keep t ∷ ss) = AreQuiet ss
-AreQuiet (put o w ∷ ss) = (o ≡ []) × (w ≡ []) × AreQuiet ss
-
-after_keep : (n : ℕ) (t : List ℕ) (ss : List Segment) → splices_at n (keep_before t ss) ≡ splices_at (n + length t) ss
-after_keep n [] ss = let same : n ≡ n + 0 = omega arith in ap (λ (m : ℕ). splices_at m ss) same
-after_keep n (b ∷ t) [] = refl
-after_keep n (b ∷ t) (keep u ∷ ss) = let same : n + length (b ∷ (t ++ u)) ≡ n + length (b ∷ t) + length u = omega (arith, length-append t u) in ap (λ (m : ℕ). splices_at m ss) same
-after_keep n (b ∷ t) (put o w ∷ ss) = refl
-
-quiet_splices : (n : ℕ) (ss : List Segment) → AreQuiet ss → splices_at n (merged ss) ≡ []
-quiet_splices n [] h = refl
-quiet_splices n (keep t ∷ ss) h = after_keep n t (merged ss) ∙ quiet_splices (n + length t) ss h
-quiet_splices n (put o w ∷ ss) h = (λ i. splices_at n (put_before (h.0 i) (h.1 i) (merged ss))) ∙ (after_nothing n (merged ss) ∙ quiet_splices n ss h.2)
-
-put_keep : (o w : List ℕ) (b : ℕ) (t : List ℕ) (ss : List Segment) → put_before o w (keep_before (b ∷ t) ss) ≡ put o w ∷ keep_before (b ∷ t) ss
-put_keep o w b t [] = refl
-put_keep o w b t (keep u ∷ ss) = refl
-put_keep o w b t (put p x ∷ ss) = refl
-
--- before such ones an exchange is one splice
-put_quiet : (n : ℕ) (o w : List ℕ) (ss : List Segment) → AreQuiet ss → splices_at n (put_before o w (merged ss)) ≡ splice_at n o w
-put_quiet n o w [] h = append-nil (splice_at n o w)
-put_quiet n o w (keep [] ∷ ss) h = put_quiet n o w ss h
-put_quiet n o w (keep (b ∷ t) ∷ ss) h =
-    ap (splices_at n) (put_keep o w b t (merged ss))
-    ∙ (ap (λ (cs : List Splice). splice_at n o w ++ cs) (quiet_splices (n + length w) (keep (b ∷ t) ∷ ss) h) ∙ append-nil (splice_at n o w))
-put_quiet n o w (put p x ∷ ss) h =
-    (λ i. splices_at n (put_before o w (put_before (h.0 i) (h.1 i) (merged ss))))
-    ∙ (ap (splices_at n) (put_twice o w [] [] (merged ss)) ∙ ((λ i. splices_at n (put_before (append-nil o i) (append-nil w i) (merged ss))) ∙ put_quiet n o w ss h.2))
-
--- ---- a value where a key or dash holds nothing
-
-module _ (v : Node) (h : Held) (none : h.head ≡ []) (no_break : h.break ≡ []) (no_lines : h.lines ≡ []) where
-  abbrev t : List ℕ
-  t = value_text InBlock [] v
-
-  abbrev after : List ℕ
-  after = h.white ++ (h.comment ++ (h.last ++ h.after))
-
-  abbrev left : List Segment
-  left = keep h.white ∷ (keep h.comment ∷ (put h.break [] ∷ (put h.lines [] ∷ (keep h.last ∷ (keep h.after ∷ [])))))
-
-  is_put : inline_put v h ≡ keep h.before ∷ (keep h.space ∷ (put [] (32 ∷ t) ∷ left))
-  is_put = λ i. keep h.before ∷ (keep h.space ∷ (put (none i) (spaced_text (none i) (value_text InBlock (none i) v)) ∷ left))
-
-  pub spaced_puts : PutsOne (inline_put v h) (h.before ++ h.space) [] (32 ∷ value_text InBlock [] v) (h.white ++ (h.comment ++ (h.last ++ h.after)))
-  unfolding changes
-  spaced_puts = subst (λ (ss : List Segment). PutsOne ss (h.before ++ h.space) [] (32 ∷ t) after) (sym is_put)
-      (record {
-        old_is = (λ i. h.before ++ (h.space ++ (h.white ++ (h.comment ++ (no_break i ++ (no_lines i ++ (h.last ++ append-nil h.after i))))))) ∙ sym (append_assoc h.before h.space after);
-        new_is = (λ i. h.before ++ (h.space ++ ((32 ∷ t) ++ (h.white ++ (h.comment ++ (h.last ++ append-nil h.after i)))))) ∙ sym (append_assoc h.before h.space ((32 ∷ t) ++ after));
-        changes_are =
-            after_keep 0 h.before (keep_before h.space (put_before [] (32 ∷ t) (merged left)))
-            ∙ (after_keep (0 + length h.before) h.space (put_before [] (32 ∷ t) (merged left))
-            ∙ (put_quiet (0 + length h.before + length h.space) [] (32 ∷ t) left (no_break, refl, (no_lines, refl, tt))
-            ∙ ap (λ (n : ℕ). splice_at n [] (32 ∷ t)) (omega (arith, length-append h.before h.space))));
-      })
 
 -- ---- where nothing is
 
@@ -181,7 +116,9 @@ module _ (m : ℕ) (s : Step) (ss : List Step) (v : Node) (c : Cut) (e : RowsOfE
           front = (held now).before ++ (held now).space;
           edited = edited;
           whole = (edit_is (replace m (s ∷ ss) v) d (inline_put v (held now)) read_d edited).old;
-          puts = spaced_puts v (held now) (no_head m s ss d now read_d still.found holds bare) (no_break m s ss d now read_d still.found holds bare) (no_lines m s ss d now read_d still.found holds bare);
+          puts = subst (λ (old : List ℕ). PutsOne (inline_put v (held now)) ((held now).before ++ (held now).space) old (spaced_text old (value_text InBlock old v)) after_mark)
+              (no_head m s ss d now read_d still.found holds bare)
+              (value_put_one v (held now) (no_break m s ss d now read_d still.found holds bare) (no_lines m s ss d now read_d still.found holds bare));
           changes = λ operand fit size. changes_there m s ss d now read_d still.found holds bare v plain operand fit size;
         }
 

@@ -13,7 +13,7 @@ use Rattle.yq_places.{specs.declared.places.held_row.HeldRow.HeldRow, proofs.Hel
 use Rattle.yq_places.proofs.FlowViewLaws.{head_found, numbered}
 use Rattle.yq_edit_rules.{specs.Changed.put_document, specs.FlowRows.{FlowAt, InlineRow, text_after_node, with_node}, specs.Rooms.row_shape}
 use Rattle.yq_edit_rules.{specs.RowStays.{IsAfter, StaysInRows, StaysFrom}, proofs.FlowRowLaws.node_holds}
-use Rattle.yq_edit_rules.{proofs.RowStayLaws.{rows_stay_there, there_still}, proofs.ShapeLaws.line_by_shape}
+use Rattle.yq_edit_rules.{proofs.RowStayLaws.{keeps_rows, rows_stay_there, there_then}, proofs.ShapeLaws.line_by_shape}
 use Rattle.yq_edit_rules.{proofs.PlacementMarks.row_there, proofs.PlacementRows.rows_located}
 use Rattle.yq_edit_laws.{proofs.CutLaws.text_read, proofs.HeldRows.head_there, proofs.LaterEnds.ends_same}
 use Rattle.yq_batch.{specs.HeadRows.{EntriesStayFrom, HeadRowStays, IsHeadInRow}, specs.RowRuns.{IsRowRun, rows_still, IsRowsRun, Passed}}
@@ -83,7 +83,7 @@ module _ (c d : Cut) (k : ℕ) (steps : List Step) (w : CollPieces) (at : FlowAt
     pub head_on : IsHeadInRow next k stem n
     head_on = record {
       part = q;
-      there = there_still d k (suc (length i.front)) p q at.there stays;
+      there = there_then d k p q at.there (keeps_rows p.rows q.rows stays.shapes);
       line = record { before = length i.front; row = r; line = length r.dashes };
       found = ap (λ (o : Option ℕ). o >>= λ a. row_line a q.rows)
           (line_by_shape p q stays.shapes stem ∙ (ap (λ (y : Part). line_at_steps stem (lines_of_rows y.rows)) (sym same_part) ∙ (own.1 ∙ ap Some line_number)))

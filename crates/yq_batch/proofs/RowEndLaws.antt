@@ -12,19 +12,19 @@ use Rattle.yq_documents.{specs.Documents.document_parts, specs.PartNumbers.part_
 use Rattle.yq_places.{specs.FirstBreak.first_break, specs.PlacedRows.{PlacedPart, before_part}}
 use Rattle.yq_places.specs.Placements.{RowsOfEntry, before_entry, after_entry, rows_of_entry}
 use Rattle.yq_semantics.{specs.Fits.Fits, specs.Operations.append, specs.Rooms.room_of}
-use Rattle.yq_edit_rules.{proofs.RowStayLaws.placed_put, specs.Appends.inserted, specs.BlockReading.is_filled, specs.BlockRows.key_row}
-use Rattle.yq_edit_rules.{specs.Changed.put_document, specs.EntryEdits.{entry_lines, more_lines}, specs.Layouts.layout_of}
-use Rattle.yq_edit_rules.{specs.Operands.HasOperand, specs.PlacedParts.IsDocumentAt, specs.Rooms.{RowShape, row_shape}}
-use Rattle.yq_edit_rules.{specs.RowChanges.ChangesRow, specs.PlacementLaws.HasItsRows, proofs.CommentRowLaws.rows_front}
-use Rattle.yq_edit_rules.{proofs.FlowKeptLaws.one_other, proofs.LayoutLaws.more_like, proofs.PlacedPartLaws.document_is_there_at}
-use Rattle.yq_edit_rules.proofs.PlacementRows.{rows_located}
+use Rattle.yq_edit_rules.{proofs.RowStayLaws.{placed_put, there_then}, specs.Appends.inserted, specs.BlockReading.is_filled}
+use Rattle.yq_edit_rules.{specs.BlockRows.key_row, specs.Changed.put_document, specs.EntryEdits.{entry_lines, more_lines}}
+use Rattle.yq_edit_rules.{specs.Layouts.layout_of, specs.Operands.HasOperand, specs.PlacedParts.IsDocumentAt}
+use Rattle.yq_edit_rules.{specs.Rooms.{RowShape, row_shape}, specs.RowChanges.ChangesRow, specs.PlacementLaws.HasItsRows}
+use Rattle.yq_edit_rules.{proofs.CommentRowLaws.rows_front, proofs.FlowKeptLaws.one_other, proofs.LayoutLaws.more_like}
+use Rattle.yq_edit_rules.{proofs.PlacedPartLaws.document_is_there_at, proofs.PlacementRows.rows_located}
 use Rattle.yq_edit_laws.{proofs.CutLaws.text_read, proofs.EntryAdds.{AddsEntry, adds_as, new, next, read_next, row_is, unfilled_alike}}
 use Rattle.yq_edit_laws.proofs.LinesAppends.{compact_adds, compact_last_some, dash_is_there, root_adds, root_last_some}
 use Rattle.yq_edit_laws.proofs.UnderAppends.{last_some, is_located, under_adds}
 use Rattle.yq_batch.{specs.OpenRows.head_front, proofs.KeptBreakLaws.{break_before, holds_after}}
 use Rattle.yq_batch.specs.RowEnds.{AreMappingRows, EndOfEntries, EndsAfterRows, EndsHere, EndsInEntry, HasNoHead, IsAfterDash, IsUnderMark}
-use Rattle.yq_batch.proofs.RowOrder.{StaysBefore, begins_within, entry_placed, front_stays, one_end, one_keeps, one_rows, others_stay}
-use Rattle.yq_batch.proofs.RowOrder.{part_put, q, stays_before}
+use Rattle.yq_batch.proofs.RowOrder.{StaysBefore, begins_within, entry_placed, front_stays, one_end, one_keeps, one_rows, others_stay, q}
+use Rattle.yq_batch.proofs.RowOrder.{stays_before}
 use Rattle.yq_batch.proofs.RowsUnder.{IsRowIn, deeper_by_shapes, deeper_more, entries_more, entries_then, level_by_shape, row_in}
 use Rattle.yq_batch.{proofs.RowsUnder.{rows_split, same_split, under_size, under_then}, proofs.RowShapes.entry_like}
 
@@ -122,7 +122,7 @@ module _ (z : EndOfEntries) (m : ℕ) (d : Cut) (rest : List ℕ) (read_d : read
     rows_now = one_rows y.part y.front y.back y.new ∙ (ap (λ (rs : List Row). y.front ++ (y.new ∷ rs)) x.back_is ∙ sym (append_assoc y.front (y.new ∷ x.mid) h.back))
 
     there : slice_get (document_parts next_cut) m ≡ Some now
-    there = part_put d m y.part now y.front (y.row ∷ y.back) (y.new ∷ y.back) y.there y.rows_are (one_rows y.part y.front y.back y.new) (one_end y.part y.front y.back y.new) (one_keeps y.part y.front y.back y.new)
+    there = there_then d m y.part now y.there (one_keeps y.part y.front y.back y.new)
 
     module _ (read_next : read_at (cut_text next_cut) ≡ Some next_cut) (text : List ℕ) (text_next : cut_text next_cut ≡ text ++ (10 ∷ rest)) where
       stays_under : (s : Step) (ss : List Step) (e : EndsInEntry m s ss z d h.front h.back) → IsUnderMark z e.entry → EndsInEntry m s ss z next_cut front_now h.back
@@ -281,7 +281,7 @@ module _ (z : EndOfEntries) (m : ℕ) (d : Cut) (rest : List ℕ) (read_d : read
         rows_after = one_rows p h.front h.back come ∙ sym (append_assoc h.front (come ∷ []) h.back)
 
         there_after : slice_get (document_parts after) m ≡ Some longer
-        there_after = part_put d m p longer h.front h.back (come ∷ h.back) at.there h.rows_are (one_rows p h.front h.back come) (one_end p h.front h.back come) (one_keeps p h.front h.back come)
+        there_after = there_then d m p longer at.there (one_keeps p h.front h.back come)
 
         more_in : (s : Step) (ss : List Step) → EndsInEntry m s ss z d h.front h.back → EndsInEntry m s ss z after (h.front ++ (come ∷ [])) h.back
         more_in s ss e =

@@ -20,9 +20,8 @@ use Rattle.yq_places.{proofs.CommentEndLaws.row_text_parts, proofs.PlacedPartLaw
 use Rattle.yq_places.{proofs.RowLineSpans.steps_row, proofs.UnderExchange.lines_append, proofs.UptoLaws.line_stays}
 use Rattle.yq_edit_rules.{specs.Appends.inserted, specs.Changed.{KeepsRows, put_document}, specs.DocumentRows.after_document}
 use Rattle.yq_edit_rules.{specs.Rooms.row_shape, specs.RowStays.StaysFrom, specs.PlacementLaws.HasItsRows, proofs.HeldLaws.front_is}
-use Rattle.yq_edit_rules.{proofs.ChangedLaws.{document_put, nth_changed}, proofs.CommentRowLaws.rows_front}
-use Rattle.yq_edit_rules.{proofs.PlacedPartLaws.document_is_there_at, proofs.RowStayLaws.{placed_put, rows_stay_there}}
-use Rattle.yq_edit_rules.proofs.PlacementRows.{rows_located}
+use Rattle.yq_edit_rules.{proofs.CommentRowLaws.rows_front, proofs.PlacedPartLaws.document_is_there_at}
+use Rattle.yq_edit_rules.{proofs.RowStayLaws.{placed_put, rows_stay_there}, proofs.PlacementRows.rows_located}
 use Rattle.yq_batch.{specs.OpenRows.head_front, proofs.OwnRowsStay.row_size, proofs.RowsBeforeOffset.split_front}
 
 -- ---- the text in front
@@ -206,9 +205,6 @@ pub record StaysBefore (e : RowsOfEntry) (m : ℕ) (steps : List Step) (d : Cut)
 
 -- a document has other rows after the first ones
 module _ (d : Cut) (m : ℕ) (p q : Part) (front b c : List Row) (there : slice_get (document_parts d) m ≡ Some p) (rows_are : p.rows ≡ front ++ b) (rows_now : q.rows ≡ front ++ c) (end_now : q.end ≡ p.end) (keeps : KeepsRows p q) where
-  pub part_put : slice_get (document_parts (put_document m q d)) m ≡ Some q
-  part_put = ap (λ (ps : List Part). slice_get ps m) (document_put d m p q there keeps) ∙ nth_changed m p q (document_parts d) there
-
   pub stays_before : (steps : List Step) (e : RowsOfEntry) → rows_of_entry m steps d ≡ Some e → length e.front < length front → StaysBefore e m steps (put_document m q d)
   stays_before steps e is less =
       let i : ℕ = part_number m d in

@@ -1,7 +1,7 @@
 -- After rows that were replaced by others of the same shapes, paths lead to the rows to which they led.
 use Rattle.std.proofs.Common.{◌≡◌, inl, inr, ℕ, zero, suc, ◌+◌, ◌-◌, ◌≤◌, ◌<◌, nat_lt, Bool, true, false, not, ◌||◌, cond, List, [], ◌∷◌}
 use Rattle.std.proofs.Common.{◌++◌, drop, length, take, map, Option, Some, None, option_map, refl, sym, ap, ◌∙◌, subst, arith, rules}
-use Rattle.std.proofs.lemmas.List.{drop-drop, length-map, length-take-le}
+use Rattle.std.{proofs.lemmas.List.{drop-drop, length-map, length-take-le}, proofs.lemmas.Simd.map-map}
 use Rattle.std.{proofs.lemmas.Option.{none-some, same_Some, slice_get-map, slice_get_within}, specs.List.slice_get}
 use Rattle.yq_core.{specs.Answers.◌>>=◌, specs.Paths.{Step, node_at}, proofs.Bools.bind_some}
 use Rattle.yq_outline.{specs.Ends.line_at_steps, specs.Outline.{anchored, head_or, value}, specs.Places.content_under}
@@ -16,8 +16,9 @@ use Rattle.yq_places.{specs.Placements.{RowsOfEntry, entry_rows_at, rows_of_entr
 use Rattle.yq_places.proofs.RowLineSpans.{steps_row}
 use Rattle.yq_edit_rules.{specs.Changed.{KeepsRows, put_document, put_part}, specs.Rooms.{RowShape, row_shape}}
 use Rattle.yq_edit_rules.specs.RowStays.{LaterDocumentsStay, EntriesStay, ExchangesStay, HeadNodes, RowLinesStay, FollowingRowsStay}
-use Rattle.yq_edit_rules.{specs.RowStays.{StaysInRows, StaysFrom, StaysPlaced}, proofs.ChangedLaws.{document_put, first_stays, nth_changed}}
-use Rattle.yq_edit_rules.{proofs.FlowKeptLaws.one_other, proofs.ShapeLaws.line_by_shape, proofs.PlacementMarks.{even_there, under_it}}
+use Rattle.yq_edit_rules.specs.RowStays.{StaysInRows, StaysFrom, StaysPlaced, IsAfter}
+use Rattle.yq_edit_rules.{proofs.ChangedLaws.{document_put, first_stays, nth_changed}, proofs.FlowKeptLaws.one_other}
+use Rattle.yq_edit_rules.{proofs.ShapeLaws.line_by_shape, proofs.PlacementMarks.{even_there, under_it}}
 use Rattle.yq_edit_rules.proofs.UnderLaws.{line_is, line_with}
 
 -- ---- rows of the same shapes
@@ -25,13 +26,23 @@ use Rattle.yq_edit_rules.proofs.UnderLaws.{line_is, line_with}
 abbrev shapes : List Row → List RowShape
 shapes rs = map row_shape rs
 
+-- the dashes of rows
+abbrev pub dashes_of : List Row → List (List ℕ)
+dashes_of rs = map (λ (r : Row). r.dashes) rs
+
 no_shapes : (r : Row) (rs : List Row) → [] ≡ shapes (r ∷ rs) → ⊥
 no_shapes r rs e = absurd (cc)
 
-same_dashes : (x r : Row) (ss rs : List Row) → shapes (x ∷ ss) ≡ shapes (r ∷ rs) → x.dashes ≡ r.dashes
-same_dashes x r ss rs e = let same : row_shape x ≡ row_shape r = cc in ap (λ (y : RowShape). y.dashes) same
+shapes_dashes : (rs ss : List Row) → shapes ss ≡ shapes rs → dashes_of ss ≡ dashes_of rs
+shapes_dashes rs ss e = sym (map-map (λ (y : RowShape). y.dashes) row_shape ss) ∙ (ap (map (λ (y : RowShape). y.dashes)) e ∙ map-map (λ (y : RowShape). y.dashes) row_shape rs)
 
-same_others : (x r : Row) (ss rs : List Row) → shapes (x ∷ ss) ≡ shapes (r ∷ rs) → shapes ss ≡ shapes rs
+no_dashes : (r : Row) (rs : List Row) → [] ≡ dashes_of (r ∷ rs) → ⊥
+no_dashes r rs e = absurd (cc)
+
+same_dashes : (x r : Row) (ss rs : List Row) → dashes_of (x ∷ ss) ≡ dashes_of (r ∷ rs) → x.dashes ≡ r.dashes
+same_dashes x r ss rs e = cc
+
+same_others : (x r : Row) (ss rs : List Row) → dashes_of (x ∷ ss) ≡ dashes_of (r ∷ rs) → dashes_of ss ≡ dashes_of rs
 same_others x r ss rs e = cc
 
 same_size : (rs ss : List Row) → shapes ss ≡ shapes rs → length ss ≡ length rs
@@ -44,10 +55,10 @@ drop_later n m ss rs same less =
     (λ j. drop (size j) ss) ∙ (sym (drop-drop (m - n) n ss) ∙ (ap (drop (m - n)) same ∙ (drop-drop (m - n) n rs ∙ (λ j. drop (sym size j) rs))))
 
 -- a line of a row after those that are others
-row_line_stays : (n m : ℕ) (rs ss : List Row) (s : RowLine) → shapes ss ≡ shapes rs → drop n ss ≡ drop n rs → row_line m rs ≡ Some s → n ≤ s.before → row_line m ss ≡ Some s
+row_line_stays : (n m : ℕ) (rs ss : List Row) (s : RowLine) → dashes_of ss ≡ dashes_of rs → drop n ss ≡ drop n rs → row_line m rs ≡ Some s → n ≤ s.before → row_line m ss ≡ Some s
 row_line_stays zero m rs ss s e same is less = ap (row_line m) same ∙ is
 row_line_stays (suc n) m [] ss s e same is less = absurd (none-some _ is)
-row_line_stays (suc n) m (r ∷ rs) [] s e same is less = absurd (no_shapes r rs e)
+row_line_stays (suc n) m (r ∷ rs) [] s e same is less = absurd (no_dashes r rs e)
 row_line_stays (suc n) m (r ∷ rs) (x ∷ ss) s e same is less =
     ap (λ (l : ℕ). cond (nat_lt l m) (option_map one_row_later (row_line (m - suc l) ss)) (Some (record { before = 0; row = x; line = m }))) (ap length (same_dashes x r ss rs e))
     ∙ go (nat_lt (length r.dashes) m) (row_line (m - suc (length r.dashes)) rs) refl is (λ y. row_line_stays n (m - suc (length r.dashes)) rs ss y (same_others x r ss rs e) same)
@@ -57,17 +68,17 @@ row_line_stays (suc n) m (r ∷ rs) (x ∷ ss) s e same is less =
         cond b (option_map one_row_later (row_line (m - suc (length r.dashes)) ss)) (Some (record { before = 0; row = x; line = m })) ≡ Some s
     go b o found there again = search (rules, arith, none-some, same_Some)
 
-line_there : (n : ℕ) (o : Option ℕ) (rs ss : List Row) (s : RowLine) → shapes ss ≡ shapes rs → drop n ss ≡ drop n rs → (o >>= λ m. row_line m rs) ≡ Some s → n ≤ s.before → (o >>= λ m. row_line m ss) ≡ Some s
+pub line_there : (n : ℕ) (o : Option ℕ) (rs ss : List Row) (s : RowLine) → dashes_of ss ≡ dashes_of rs → drop n ss ≡ drop n rs → (o >>= λ m. row_line m rs) ≡ Some s → n ≤ s.before → (o >>= λ m. row_line m ss) ≡ Some s
 line_there n None rs ss s e same is less = absurd (none-some _ is)
 line_there n (Some m) rs ss s e same is less = row_line_stays n m rs ss s e same is less
 
 row_lines_stay : RowLinesStay
 row_lines_stay n p q steps s stays is less =
-    ap (λ (o : Option ℕ). o >>= λ m. row_line m q.rows) (line_by_shape p q stays.shapes steps) ∙ line_there n (line_at_steps steps (lines_of_rows p.rows)) p.rows q.rows s stays.shapes stays.rows is less
+    ap (λ (o : Option ℕ). o >>= λ m. row_line m q.rows) (line_by_shape p q stays.shapes steps) ∙ line_there n (line_at_steps steps (lines_of_rows p.rows)) p.rows q.rows s (shapes_dashes p.rows q.rows stays.shapes) stays.rows is less
 
 -- ---- in a cut
 
-keeps_rows : (rs ss : List Row) → shapes ss ≡ shapes rs → no_rows ss ≡ true → no_rows rs ≡ true
+pub keeps_rows : (rs ss : List Row) → shapes ss ≡ shapes rs → no_rows ss ≡ true → no_rows rs ≡ true
 keeps_rows rs ss h1 h2 = search (rules, no_shapes)
 
 number_stays : (is : Bool) (k i : ℕ) (q : Part) (c : Cut) → number_from is k (put_part i q c) ≡ number_from is k c
@@ -115,7 +126,7 @@ nth_other _ zero q (x ∷ ps) less = absurd (omega (arith, less))
 abbrev pub around : ℕ → Part → Cut → PlacedPart
 around k p c = record { before = before_part (part_number k c) c; part = p; after = after_part (part_number k c) c }
 
-there_then : (c : Cut) (k : ℕ) (p q : Part) → slice_get (document_parts c) k ≡ Some p → KeepsRows p q → slice_get (document_parts (put_document k q c)) k ≡ Some q
+pub there_then : (c : Cut) (k : ℕ) (p q : Part) → slice_get (document_parts c) k ≡ Some p → KeepsRows p q → slice_get (document_parts (put_document k q c)) k ≡ Some q
 there_then c k p q there keeps = ap (λ (ps : List Part). slice_get ps k) (document_put c k p q there keeps) ∙ nth_changed k p q (document_parts c) there
 
 -- a document with another part, in its place
@@ -128,24 +139,29 @@ placed_put c k p q there keeps =
     ap (option_map (λ (x : Part). placed_at (part_number k new) new)) (there_then c k p q there keeps)
     ∙ (ap (λ (j : ℕ). Some (placed_at j new)) number ∙ (λ j. Some (record { before = before_put i q c j; part = nth_put i q c j; after = past_put i q c j })))
 
-module _ (c : Cut) (k n : ℕ) (p q : Part) (there : slice_get (document_parts c) k ≡ Some p) (stays : StaysFrom n p q) where
+-- From row number n on, a part has the rows of another one, and paths that lead to those lead there still.
+pub record GoesOnAlike (n : ℕ) (p q : Part) : Type 0 where
+  pub keeps : KeepsRows p q
+  pub size : length q.rows ≡ length p.rows
+  pub rows : drop n q.rows ≡ drop n p.rows
+  pub end : q.end ≡ p.end
+  pub lines : (steps : List Step) (s : RowLine) → row_line_of steps p.rows ≡ Some s → n ≤ s.before → row_line_of steps q.rows ≡ Some s
+
+goes_on : (n : ℕ) (p q : Part) → StaysFrom n p q → GoesOnAlike n p q
+goes_on n p q h = record { keeps = keeps_rows p.rows q.rows h.shapes; size = same_size p.rows q.rows h.shapes; rows = h.rows; end = h.end; lines = λ steps s is less. row_lines_stay n p q steps s h is less }
+
+module _ (c : Cut) (k n : ℕ) (p q : Part) (there : slice_get (document_parts c) k ≡ Some p) (stays : GoesOnAlike n p q) where
   abbrev new : Cut
   new = put_document k q c
 
   abbrev i : ℕ
   i = part_number k c
 
-  keeps : KeepsRows p q
-  keeps = keeps_rows p.rows q.rows stays.shapes
-
-  pub there_still : slice_get (document_parts new) k ≡ Some q
-  there_still = there_then c k p q there keeps
-
   placed_old : placed_document k c ≡ Some (around k p c)
   placed_old = search (rules, part_there)
 
   placed_new : placed_document k new ≡ Some (around k q c)
-  placed_new = placed_put c k p q there keeps
+  placed_new = placed_put c k p q there stays.keeps
 
   -- the rows of an item or entry after those that are others
   module _ (steps : List Step) (e : RowsOfEntry) (is : rows_of_entry k steps c ≡ Some e) (less : n ≤ length e.front) where
@@ -167,25 +183,24 @@ module _ (c : Cut) (k n : ℕ) (p q : Part) (there : slice_get (document_parts c
     later = drop_later n (suc s.before) q.rows p.rows stays.rows (omega (arith, less, front_size))
 
     rows_same : entry_rows_at (around k q c) s ≡ record (entry_rows_at (around k p c) s) { front = take s.before q.rows }
-    rows_same = search (rules, later)
+    rows_same = search (rules, later, stays.end)
 
     entry_stays : StaysInRows e k steps new
     entry_stays = record {
       start = before_part i c;
       front = take s.before q.rows;
       found = ap (λ (o : Option PlacedPart). o >>= λ d. option_map (entry_rows_at d) (row_line_of steps d.part.rows)) placed_new
-          ∙ (ap (option_map (entry_rows_at (around k q c))) (row_lines_stay n p q steps s stays found.1 (omega (arith, less, front_size)))
+          ∙ (ap (option_map (entry_rows_at (around k q c))) (stays.lines steps s found.1 (omega (arith, less, front_size)))
           ∙ (ap Some rows_same ∙ (λ j. Some (record (found.2 j) { start = before_part i c; front = take s.before q.rows }))));
-      size = length-take-le s.before q.rows (omega (arith, within, same_size p.rows q.rows stays.shapes)) ∙ sym front_size;
+      size = length-take-le s.before q.rows (omega (arith, within, stays.size)) ∙ sym front_size;
     }
 
   -- a later document
-  module _ (m : ℕ) (d : PlacedPart) (placed : placed_document m c ≡ Some d) (later : k < m) where
-    placed_there : placed_document m new ≡ Some (record { before = before_part (part_number m c) new; part = d.part; after = d.after })
-    placed_there = search (rules, placed, document_put, nth_other, first_stays, keeps, number_stays, part_there, past_other, numbers_rise, later)
+  placed_there : (m : ℕ) (d : PlacedPart) → placed_document m c ≡ Some d → k < m → placed_document m new ≡ Some (record { before = before_part (part_number m c) new; part = d.part; after = d.after })
+  placed_there m d placed later = search (rules, placed, document_put, nth_other, first_stays, stays.keeps, number_stays, part_there, past_other, numbers_rise, later)
 
-    document_stays : StaysPlaced d m new
-    document_stays = record { start = before_part (part_number m c) new; found = placed_there }
+  pub later_placed : (m : ℕ) (d : PlacedPart) → placed_document m c ≡ Some d → k < m → StaysPlaced d m new
+  later_placed m d placed later = record { start = before_part (part_number m c) new; found = placed_there m d placed later }
 
   -- the rows of an item or entry in a later document
   module _ (m : ℕ) (steps : List Step) (e : RowsOfEntry) (is : rows_of_entry m steps c ≡ Some e) (later : k < m) where
@@ -210,18 +225,21 @@ module _ (c : Cut) (k n : ℕ) (p q : Part) (there : slice_get (document_parts c
       size = refl;
     }
 
+  -- the rows of an item or entry after those that are others
+  pub later_entries : (m : ℕ) (steps : List Step) (e : RowsOfEntry) → rows_of_entry m steps c ≡ Some e → IsAfter k n m (length e.front) → StaysInRows e m steps new
+  later_entries m steps e is (inl later) = other_stays m steps e is later
+  later_entries m steps e is (inr same) =
+      subst (λ (x : ℕ). StaysInRows e x steps new) same.0 (entry_stays steps e (ap (λ (x : ℕ). rows_of_entry x steps c) same.0 ∙ is) same.1)
+
 documents_stay : LaterDocumentsStay
-documents_stay c k n p q m d there stays placed later = document_stays c k n p q there stays m d placed later
+documents_stay c k n p q m d there stays placed later = later_placed c k n p q there (goes_on n p q stays) m d placed later
 
 entries_stay : EntriesStay
-entries_stay c k n p q m steps e there stays is (inl later) = other_stays c k n p q there stays m steps e is later
-entries_stay c k n p q m steps e there stays is (inr same) =
-    subst (λ (x : ℕ). StaysInRows e x steps (put_document k q c)) same.0
-    (entry_stays c k n p q there stays steps e (ap (λ (x : ℕ). rows_of_entry x steps c) same.0 ∙ is) same.1)
+entries_stay c k n p q m steps e there stays is later = later_entries c k n p q there (goes_on n p q stays) m steps e is later
 
 -- ---- one more row
 
-past_row : (front : List Row) (r : Row) (back : List Row) → drop (suc (length front)) (front ++ (r ∷ back)) ≡ back
+pub past_row : (front : List Row) (r : Row) (back : List Row) → drop (suc (length front)) (front ++ (r ∷ back)) ≡ back
 past_row [] r back = refl
 past_row (x ∷ front) r back = past_row front r back
 

@@ -67,34 +67,15 @@ fn known_upto(known: KnownDocuments, doc: usize) -> KnownDocuments
     KnownDocuments::none()
 }
 
-/// A part from which a search goes on.
-#[derive(Clone, Copy)]
-struct SearchStart {
-    /// How many parts come before it.
-    part: usize,
-    /// How many documents do.
-    count: usize,
-    /// Whether it is one.
-    is_document: bool,
-}
-
-/// Where a search goes on from a document, or begins.
-fn search_start(rows: &Rows<'_>, from: Option<KnownDocument>) -> SearchStart
+/// Where a search goes on from a document, or begins: a part, how many documents come before it, and whether it is one.
+fn search_start(rows: &Rows<'_>, from: Option<KnownDocument>) -> (KnownDocument, bool)
     requires { IfSome from (IsKnownDocument rows.now.bounds) }
-    ensures order { (doc : ℕ) → IfSome from (λ k. k.doc ≤ doc) → result.count ≤ doc }
-    ensures goes_on { NumbersGoOn rows.now.bounds result.part result.count result.is_document }
+    ensures order { (doc : ℕ) → IfSome from (λ k. k.doc ≤ doc) → result.0.doc ≤ doc }
+    ensures goes_on { NumbersGoOn rows.now.bounds result.0.part result.0.doc result.1 }
 {
     match from {
-        Some(known) => SearchStart {
-            part: known.part,
-            count: known.doc,
-            is_document: true,
-        },
-        None => SearchStart {
-            part: 0,
-            count: 0,
-            is_document: first_is_document(rows),
-        },
+        Some(known) => (known, true),
+        None => (KnownDocument { doc: 0, part: 0 }, first_is_document(rows)),
     }
 }
 
@@ -107,9 +88,9 @@ pub(crate) fn find_document(rows: &Rows<'_>, known: KnownDocuments, doc: usize) 
     ensures known { AreKnownDocuments rows.now.bounds result }
 {
     let from = known_upto(known, doc);
-    let start = search_start(rows, from.last);
-    let mut count = start.count;
-    let mut is_document = start.is_document;
+    let (start, begins) = search_start(rows, from.last);
+    let mut count = start.doc;
+    let mut is_document = begins;
     let mut before = from.before;
     'parts: for part in start.part..rows.parts() {
         let bound = rows.part(part);

@@ -8,8 +8,8 @@ use Rattle.yq_lookup.proofs.known_document.find_document.Goals as goal
 
 pub parts-init : goal.parts-init
 parts-init c = record {
-  order = c.search_start-start.ensures.order c.args.doc c.known_upto-from.ensures.order;
-  goes_on = c.search_start-start.ensures.goes_on;
+  order = c.search_start-begins.ensures.order c.args.doc c.known_upto-from.ensures.order;
+  goes_on = c.search_start-begins.ensures.goes_on;
   before = (c.known_upto-from.ensures.known c.args.rows.now.bounds c.requires).1;
 }
 
