@@ -3,7 +3,7 @@ use Rattle.std.proofs.Common.{◌≡◌, ℕ, List, [], ◌∷◌, ◌++◌, map
 use Rattle.yq_core.{specs.Paths.Step, specs.Entries.tree_step}
 use Rattle.yq_documents.{specs.Located.steps_of, specs.declared.path.Path.Path}
 use Rattle.yq_places.specs.Placements.{last_step}
-use Rattle.yq_semantics.{specs.Operations.{remove}, specs.Under.{op_under, operation_under}, specs.declared.op.Op.Op}
+use Rattle.yq_semantics.{specs.Operations.remove, specs.Under.{op_under, operation_under}, specs.declared.op.Op.Op}
 use Rattle.yq_edit_laws.{proofs.FlowSoundLaws.last_is, proofs.SoleParts.last_of}
 use Rattle.yq_batch.{specs.RowRemovals.{TakesFrom, removal_of}, specs.Runs.EndsAt, specs.Under.op_at, proofs.RowRemovalAnswers.at_removal}
 use Rattle.yq_core.specs.declared.path.Step as declared

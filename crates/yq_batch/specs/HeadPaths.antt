@@ -3,8 +3,9 @@ use Rattle.std.specs.Prelude.{◌≡◌, ℕ, List, ◌++◌, map, Option, IfSom
 use Rattle.yq_core.{specs.Paths.Step, specs.Entries.tree_step}
 use Rattle.yq_documents.{specs.Located.steps_of, specs.declared.path.Path.Path}
 use Rattle.yq_semantics.specs.Operations.{Operation}
-use Rattle.yq_batch.{specs.Runs.{EndsAt, cut_with, stem_of}, specs.RemovalRuns.RemovesOn, specs.declared.head.{FoundHead.FoundHead, HeadInText.HeadInText}}
-use Rattle.yq_batch.{specs.declared.removals.RemovalRun.RemovalRun, specs.declared.gone.LeftOf.LeftOf}
+use Rattle.yq_batch.{specs.Runs.{EndsAt, cut_with, stem_of}, specs.RemovalRuns.RemovesOn, specs.declared.head.FoundHead.FoundHead}
+use Rattle.yq_batch.{specs.declared.head.HeadInText.HeadInText, specs.declared.removals.RemovalRun.RemovalRun}
+use Rattle.yq_batch.specs.declared.gone.LeftOf.{LeftOf}
 use Rattle.yq_core.specs.declared.path.Step as declared
 
 -- steps of a document lead to the collection for which a head was found
