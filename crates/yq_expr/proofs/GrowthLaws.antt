@@ -2,7 +2,7 @@
 use Rattle.std.proofs.Common.{◌≡◌, inr, ℕ, zero, suc, ◌+◌, ◌<◌, ◌≤◌, Bool, List, [], ◌∷◌, ◌++◌, Option, Some, refl, sym, ap, ◌∙◌, subst}
 use Rattle.std.{proofs.Common.arith, proofs.lemmas.Bool.cond_both, proofs.lemmas.Option.{none-some, same_Some}, specs.List.slice_get}
 use Rattle.yq_core.{specs.PathOrder.Apart, specs.Shapes.IsTree, specs.Paths.{Step, node_at, append_child, within, changed_at}}
-use Rattle.yq_core.specs.Tree.{Node, alias, anchor_of, key_label}
+use Rattle.yq_core.specs.Tree.{Node, alias, anchor_of, children_of, key_label}
 use Rattle.yq_documents.{specs.Documents.Document, specs.TreeEdits.{led, replaced_node}}
 use Rattle.yq_flow_edits.specs.Valued.{IsValueTree}
 use Rattle.yq_semantics.{specs.After.{after_op, all_after, done_to}, specs.Changes.Room, specs.Fits.{AllFit, Fits}, specs.Meaning.AreReady}
@@ -10,48 +10,12 @@ use Rattle.yq_semantics.specs.NodeEdits.{NodeEdits, and_at, at_once, becomes, do
 use Rattle.yq_semantics.{specs.Operations.{Operation, append, replace}, specs.Places.FoundPlace, specs.PlacesApart.{AreApart, IsBeforeAll}}
 use Rattle.yq_semantics.{specs.Sizes.{items_in, items_of_all}, proofs.sizes.AfterSizes.appended_size, proofs.sizes.RowSizes.under_anchor}
 use Rattle.yq_semantics.{proofs.updates.Apart.node_spared, proofs.updates.AtOnce.one_more, proofs.updates.Folds.path_same}
-use Rattle.yq_semantics.{proofs.updates.OneAt.one_becomes, proofs.updates.PlanMeans.after_join}
+use Rattle.yq_semantics.{proofs.updates.OneAt.{change_none, one_becomes}, proofs.updates.PlanMeans.after_join}
 use Rattle.yq_semantics.proofs.updates.Spares.{IsSpared, Spares, idle}
-use Rattle.yq_expr.specs.Oversized.{AllWrite, BeginsOversized, MayBeUtf8, items_limit}
+use Rattle.yq_expr.{specs.Oversized.{BeginsOversized, items_limit}, proofs.EntryLaws.entries_size}
+use Rattle.yq_expr.proofs.MergeSizes.{items_of, merge_there, merged}
+use Rattle.yq_expr.proofs.Gains.{AreAppends, Gain, GainSome, appended, appends, each_writes, merges, no_more, nothing, one_place, puts}
 use Rattle.yq_expr.proofs.TreeSizes.{changed_twice, led_size, nth_changed, nth_holds, nth_size, path_size}
-
--- ---- values that are put, or appended, at a path
-
--- Operations append values at a path, in which are so many items and entries, the values themselves among them (own).
-pub data AreAppends : ℕ → List Step → List Operation → ℕ → Type 0 where
-  nothing : {doc : ℕ} {path : List Step} → AreAppends doc path [] 0
-  appended : {doc : ℕ} {path : List Step} {k : Option (List ℕ)} {v : Node} {ops : List Operation} {n : ℕ} → MayBeUtf8 k → IsValueTree v → AreAppends doc path ops n →
-      AreAppends doc path (append doc path k v ∷ ops) (suc (items_in v + n))
-
--- Operations put a value at a path, or append some there: at least so many items and entries come (own).
-pub data Gain : ℕ → List Step → ℕ → List Operation → Type 0 where
-  puts : {doc : ℕ} {path : List Step} {n : ℕ} {v : Node} → IsValueTree v → n ≤ items_in v → Gain doc path n (replace doc path v ∷ [])
-  appends : {doc : ℕ} {path : List Step} {n : ℕ} {k : Option (List ℕ)} {v : Node} {ops : List Operation} {m : ℕ} → MayBeUtf8 k → IsValueTree v → AreAppends doc path ops m →
-      n ≤ suc (items_in v + m) → Gain doc path n (append doc path k v ∷ ops)
-
--- Operations do so at each of the first of places, in order: so many come in all, at least (own).
-pub data GainSome : ℕ → List FoundPlace → ℕ → List Operation → Type 0 where
-  no_more : {doc : ℕ} {ps : List FoundPlace} → GainSome doc ps 0 []
-  one_place : {doc : ℕ} {p : FoundPlace} {ps : List FoundPlace} {m n k : ℕ} {here there : List Operation} → Gain doc p.path m here → GainSome doc ps n there → k ≤ m + n →
-      GainSome doc (p ∷ ps) k (here ++ there)
-
--- ---- they write values
-
-appends_write : (doc : ℕ) (path : List Step) (xs : List Operation) (count : ℕ) → AreAppends doc path xs count → AllWrite xs
-appends_write doc path _ _ nothing = tt
-appends_write doc path _ _ (appended {k} {v} {ops} {n} utf8 valid all) = ((utf8, valid), appends_write doc path ops n all)
-
-write_both : (xs ys : List Operation) → AllWrite xs → AllWrite ys → AllWrite (xs ++ ys)
-write_both [] ys h k = k
-write_both (x ∷ xs) ys h k = (h.0, write_both xs ys h.1 k)
-
-gain_writes : (doc : ℕ) (path : List Step) (n : ℕ) (ops : List Operation) → Gain doc path n ops → AllWrite ops
-gain_writes doc path n _ (puts valid most) = (valid, tt)
-gain_writes doc path n _ (appends {ops} {m} utf8 valid all most) = ((utf8, valid), appends_write doc path ops m all)
-
-each_writes : (doc n : ℕ) (ps : List FoundPlace) (ops : List Operation) → GainSome doc ps n ops → AllWrite ops
-each_writes doc n ps _ no_more = tt
-each_writes doc n _ _ (one_place {p} {ps} {m} {n = l} {here} {there} g gs most) = write_both here there (gain_writes doc p.path m here g) (each_writes doc l ps there gs)
 
 -- ---- one node after another
 
@@ -193,6 +157,42 @@ gain_one rooms doc n count p ps _ docs (appends {k} {v} {ops} {m} utf8 valid all
       left = later_spared p.path b.by s.done ps before s.left.1;
       free = s.free.1;
     }
+gain_one rooms doc n count p ps _ docs (merges cs ds entries valid some most) before fits s =
+    let root : Node = at_once s.done s.first in
+    let gone : Node → Node = λ m. alias [] in
+    let start = merge_there rooms doc p.path cs ds docs (omega (arith, some, most)) fits in
+    let same : start.0 ≡ s.d = same_Some start.0 s.d (sym start.1 ∙ s.nth) in
+    let old : Node = start.2.0 in
+    let now : node_at p.path root ≡ Some old = ap (node_at p.path) (sym s.root) ∙ (ap (λ (d : Document). node_at p.path d.root) (sym same) ∙ start.2.1) in
+    let there : node_at p.path s.first ≡ Some old = sym (node_spared p.path s.done s.first s.tree s.left.0) ∙ now in
+    let m = merged rooms doc p.path root (items_of_all docs) old now cs ds valid entries docs (λ x. x) (record {
+      d = s.d;
+      nth = s.nth;
+      is = s.root ∙ sym (change_none p.path root);
+      size = omega (arith, ap items_in s.root);
+    }) fits in
+    record {
+      d = m.became.d;
+      nth = m.became.nth;
+      first = s.first;
+      tree = s.tree;
+      done = and_at p.path (becomes m.by) s.done;
+      takes = and_at p.path (becomes gone) s.takes;
+      root = m.became.is ∙ sym (one_more p.path (becomes m.by) s.done s.first s.tree s.left.0 ∙ one_becomes p.path m.by root);
+      size = omega (
+        arith,
+        most,
+        s.size,
+        size_without p.path s.takes s.first old s.tree s.free.0 there,
+        path_size p.path m.by root old now,
+        m.became.size,
+        ap items_in m.became.is,
+        entries_size ds (children_of (m.by old)) entries m.there,
+        items_of (m.by old),
+      );
+      left = later_spared p.path m.by s.done ps before s.left.1;
+      free = later_spared p.path gone s.takes ps before s.free.1;
+    }
 
 gain_all : (rooms : ℕ → Room) (doc count n : ℕ) (ps : List FoundPlace) (ops : List Operation) (docs : List Document) → GainSome doc ps n ops → AreApart ps → AllFit rooms ops docs → Holds doc count ps docs →
     count + n ≤ items_of_all (all_after rooms ops docs)
@@ -207,6 +207,9 @@ gain_all rooms doc count n _ _ docs (one_place {p} {ps} {m} {n = l} {here} {ther
 gain_there : (rooms : ℕ → Room) (doc n : ℕ) (path : List Step) (ops : List Operation) (docs : List Document) → Gain doc path n ops → AllFit rooms ops docs → (d : Document) × (slice_get docs doc ≡ Some d)
 gain_there rooms doc n path _ docs (puts valid most) fits = (fits.0.0, fits.0.1)
 gain_there rooms doc n path _ docs (appends utf8 valid all most) fits = (fits.0.0, fits.0.1)
+gain_there rooms doc n path _ docs (merges cs ds entries valid some most) fits =
+    let start = merge_there rooms doc path cs ds docs (omega (arith, some, most)) fits in
+    (start.0, start.1)
 
 gain_size : (rooms : ℕ → Room) (doc n : ℕ) (ps : List FoundPlace) (ops : List Operation) (docs : List Document) → AreReady rooms 0 docs → GainSome doc ps n ops → AreApart ps → AllFit rooms ops docs →
     n ≤ items_of_all (all_after rooms ops docs)

@@ -11,6 +11,9 @@ pub mod SubstituteLaws
 pub mod VerdictLaws
 pub mod FixedLaws
 pub mod OversizedLaws
+pub mod EntryLaws
+pub mod MergeSizes
+pub mod Gains
 pub mod GrowthLaws
 pub mod SpreadOps
 pub mod OversizedOps

@@ -1,20 +1,23 @@
 -- The operations of an update that gives a place what no text can hold.
-use Rattle.std.proofs.Common.{◌≡◌, inl, inr, ℕ, zero, suc, true, false, List, [], ◌∷◌, ◌++◌, drop, length, if◌then◌else◌, Bool, refl, sym}
-use Rattle.std.{proofs.Common.{ap, ◌∙◌, subst, arith, append_assoc, one-mul}, proofs.lemmas.List.length-map}
-use Rattle.yq_core.specs.Tree.{Node}
+use Rattle.std.proofs.Common.{◌≡◌, inl, inr, ℕ, zero, suc, true, false, List, [], ◌∷◌, ◌++◌, drop, length, None, if◌then◌else◌, Bool, refl}
+use Rattle.std.{proofs.Common.{sym, ap, ◌∙◌, subst, arith, append_assoc, one-mul}, proofs.lemmas.List.length-map}
+use Rattle.yq_core.{specs.Shapes.IsTree, specs.Tree.{Node, list}}
 use Rattle.yq_semantics.specs.Changes.{Room, Changed, add_at, at_each, changes_at, left_pipe, put_with_path, with_value}
 use Rattle.yq_semantics.{specs.Judgement.{Judgement, and_then, gives}, specs.Operations.Operation, specs.Pipes.places}
 use Rattle.yq_semantics.{specs.Places.{FoundPlace, root_place}, specs.Plans.ops_of}
-use Rattle.yq_semantics.{specs.Program.{Stage, Term, Update, assign, delete, comment}, specs.RightValues.right_value, specs.Sizes.items_in}
-use Rattle.yq_semantics.{specs.PlacesApart.AreApart, specs.View.update_of, proofs.JudgementLaws.{gives_same, then_gives}}
-use Rattle.yq_semantics.proofs.updates.Each.{joined_gives}
+use Rattle.yq_semantics.{specs.Program.{Stage, Term, Update, UpdatesHold, assign, delete, comment}, specs.RightValues.right_value}
+use Rattle.yq_semantics.{specs.Sizes.items_in, specs.PlacesApart.AreApart, specs.View.update_of}
+use Rattle.yq_semantics.{proofs.JudgementLaws.{gives_same, then_gives}, proofs.updates.Each.joined_gives}
+use Rattle.yq_semantics.proofs.updates.SumValues.{right_pure}
 use Rattle.yq_expr.specs.Oversized.{BeginsLarge, BeginsOversized, GivesAt, GivesOversizedOps, HaveUtf8Keys, IsOversized, IsSpread}
-use Rattle.yq_expr.{proofs.OversizedLaws.missing_keys, proofs.SpreadOps.{AllHaveUtf8Keys, adds_begin, modified_begins, puts_begin}}
+use Rattle.yq_expr.{specs.Oversized.MayGiveOversized, proofs.OversizedLaws.missing_keys}
+use Rattle.yq_expr.proofs.SpreadOps.{AllHaveUtf8Keys, HasEntriesApart, adds_begin, modified_begins, puts_begin}
 use Rattle.yq_expr.{specs.Parts.{document_ops, rest_ops}, specs.declared.document.DocumentRoot.DocumentRoot}
 use Rattle.yq_expr.proofs.PartLaws.{changes_both, ops_join, ops_there, rest_there}
 use Rattle.yq_documents.specs.Documents.{Document}
 use Rattle.yq_nodes.specs.Nodes.{node_of}
 use Rattle.yq_eval.specs.PlaceView.{place_of, places_of}
+use Rattle.yq_core.specs.Tree as tree
 use Rattle.yq_eval.specs.declared.matching.place.FoundPlace as found
 use Rattle.yq_semantics.specs.declared.program.Update as declared
 use Rattle.yq_semantics.specs.declared.program.Operator.TheVariants as operator
@@ -37,23 +40,27 @@ module _ (doc : ℕ) (room : Room) (root v : Node) (right : List Term) (found : 
   each_gets f [] cs h = h
   each_gets f (p ∷ ps) cs h = sym (ap (and_then (λ w. at_each root (λ q. f q w) (p ∷ ps))) found) ∙ h
 
-  spread_begins : (adds : Bool) (ps : List FoundPlace) (cs : List Changed) → IsSpread adds v (length ps) → AllHaveUtf8Keys ps → AreApart ps → (left : List Stage) →
+  spread_begins : (adds : Bool) (ps : List FoundPlace) (cs : List Changed) → IsSpread v (length ps) → HasEntriesApart v → AllHaveUtf8Keys ps → AreApart ps → (left : List Stage) →
       changes_at doc room root (assign left (if adds then operator.Add else operator.Set) right) ps ≡ gives cs → BeginsOversized (ops_of doc cs)
-  spread_begins true ps cs s keys apart left h = adds_begin doc root v s.valid ps keys apart s.more cs (s.added refl) (each_gets add_at ps cs h)
-  spread_begins false ps cs s keys apart left h = puts_begin doc root v s.valid ps keys apart s.more cs (each_gets put_with_path ps cs h)
+  spread_begins true ps cs s differ keys apart left h = adds_begin doc root v s.valid ps keys apart s.more cs differ (each_gets add_at ps cs h)
+  spread_begins false ps cs s differ keys apart left h = puts_begin doc root v s.valid ps keys apart s.more cs (each_gets put_with_path ps cs h)
 
 -- a list that no text can hold, at one place
-sole_spread : (adds : Bool) (v : Node) → IsOversized v → IsSpread adds v 1
-sole_spread adds v big = record { valid = big.valid; added = λ _. (big.items, big.is); more = omega (arith, big.more, one-mul (items_in v)) }
+sole_spread : (v : Node) → IsOversized v → IsSpread v 1
+sole_spread v big = record { valid = big.valid; more = omega (arith, big.more, one-mul (items_in v)) }
+
+-- which is no mapping
+no_mapping : (v : Node) → IsOversized v → HasEntriesApart v
+no_mapping v big cs is = absurd (let other : list None big.items ≡ tree.map None cs = sym big.is ∙ is in cc)
 
 -- ---- at the first of places
 
 module _ (doc : ℕ) (room : Room) (root : Node) (p : FoundPlace) (keys : HaveUtf8Keys p.missing) where
   pub place_begins_big : (u : Update) (cs : List Changed) → GivesAt doc root u p → changes_at doc room root u (p ∷ []) ≡ gives cs → BeginsOversized (ops_of doc cs)
-  place_begins_big (assign left operator.Set right) cs big h = spread_begins doc room root big.0 right big.1 false (p ∷ []) cs (sole_spread false big.0 big.2) (keys, tt) (tt, tt) left h
-  place_begins_big (assign left operator.Add right) cs big h = spread_begins doc room root big.0 right big.1 true (p ∷ []) cs (sole_spread true big.0 big.2) (keys, tt) (tt, tt) left h
+  place_begins_big (assign left operator.Set right) cs big h = spread_begins doc room root big.0 right big.1 false (p ∷ []) cs (sole_spread big.0 big.2) (no_mapping big.0 big.2) (keys, tt) (tt, tt) left h
+  place_begins_big (assign left operator.Add right) cs big h = spread_begins doc room root big.0 right big.1 true (p ∷ []) cs (sole_spread big.0 big.2) (no_mapping big.0 big.2) (keys, tt) (tt, tt) left h
   place_begins_big (assign left operator.Modify right) cs big h =
-      let s = sole_spread false big.0 big.2 in
+      let s = sole_spread big.0 big.2 in
       let put = sym (ap (λ j. at_each root (λ q. j) (p ∷ [])) (ap (and_then (put_with_path p)) big.1)) ∙ h in
       puts_begin doc root big.0 s.valid (p ∷ []) (keys, tt) (tt, tt) s.more cs put
   place_begins_big (delete left) cs big h = absurd big
@@ -82,24 +89,28 @@ places_keys [] = tt
 places_keys (p ∷ ps) = (missing_keys p.missing, places_keys ps)
 
 -- the same of what no text can hold
-pub document_large : (d : DocumentRoot) (u : declared.Update) (room : Room) (ps : List FoundPlace) → places d.doc (left_pipe (update_of u)) (node_of d.root) ≡ gives ps → AreApart ps → (place : ℕ) (qs : List found.FoundPlace) →
-    drop place ps ≡ places_of qs → BeginsLarge d u qs → GivesOversizedOps (document_ops (update_of u) d.doc room (node_of d.root) place)
-document_large d u room ps is apart place qs there (inl h) = document_begins (update_of u) d.doc room (node_of d.root) ps is place h.0 h.1 (there ∙ h.2) h.3.0 h.3.1
-document_large d u room ps is apart place qs there (inr (inl g)) = λ ops h.
+pub document_large : (d : DocumentRoot) (u : declared.Update) (room : Room) (ps : List FoundPlace) →
+    places d.doc (left_pipe (update_of u)) (node_of d.root) ≡ gives ps → IsTree (node_of d.root) → AreApart ps →
+    (place : ℕ) (qs : List found.FoundPlace) →
+    drop place ps ≡ places_of qs → BeginsLarge d u qs → MayGiveOversized (update_of u) (document_ops (update_of u) d.doc room (node_of d.root) place)
+document_large d u room ps is tree apart place qs there (inl h) = λ holds. document_begins (update_of u) d.doc room (node_of d.root) ps is place h.0 h.1 (there ∙ h.2) h.3.0 h.3.1
+document_large d u room ps is tree apart place qs there (inr (inl g)) = λ holds ops h.
     let root = node_of d.root in
     let all = sym (ops_there (update_of u) d.doc room root ps is place) ∙ h in
     let cs = then_gives (λ xs. gives (ops_of d.doc xs)) (changes_at d.doc room root (update_of u) (drop place ps)) ops all in
     let changed = (λ i. changes_at d.doc room root (sym g.by i) (sym there i)) ∙ cs.1 in
     subst BeginsOversized (gives_same cs.2)
     (modified_begins d.doc root g.right (places_of qs) g.count cs.0 (places_keys qs) (subst AreApart there (rest_apart place ps apart)) g.found g.more changed)
-document_large d u room ps is apart place qs there (inr (inr g)) = λ ops h.
+document_large d u room ps is tree apart place qs there (inr (inr g)) = λ holds ops h.
     let root = node_of d.root in
     let all = sym (ops_there (update_of u) d.doc room root ps is place) ∙ h in
     let cs = then_gives (λ xs. gives (ops_of d.doc xs)) (changes_at d.doc room root (update_of u) (drop place ps)) ops all in
     let changed = (λ i. changes_at d.doc room root (sym g.by i) (sym there i)) ∙ cs.1 in
-    let spreads = subst (IsSpread g.adds g.value) (sym (length-map qs place_of)) g.spreads in
+    let pure = right_pure root d.doc (root_place root) tree refl g.right g.value (subst (λ v. UpdatesHold (v ∷ [])) g.by holds).0 g.found in
+    let differ : HasEntriesApart g.value = λ es same. (subst IsTree same pure.0).0 in
+    let spreads = subst (IsSpread g.value) (sym (length-map qs place_of)) g.spreads in
     subst BeginsOversized (gives_same cs.2)
-    (spread_begins d.doc room root g.value g.right g.found g.adds (places_of qs) cs.0 spreads (places_keys qs) (subst AreApart there (rest_apart place ps apart)) g.left changed)
+    (spread_begins d.doc room root g.value g.right g.found g.adds (places_of qs) cs.0 spreads differ (places_keys qs) (subst AreApart there (rest_apart place ps apart)) g.left changed)
 
 -- and those in the documents after it
 pub rest_begins : (u : Update) (rooms : ℕ → Room) (docs : List Document) (doc : ℕ) (d : Document) → drop doc docs ≡ d ∷ drop (suc doc) docs → (place : ℕ) →

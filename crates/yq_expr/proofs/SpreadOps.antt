@@ -1,8 +1,8 @@
--- The operations of a value that is put at places, or of a list that is added: what comes at each place.
+-- The operations of a value that is put at places, or added: what comes at each place.
 use Rattle.std.proofs.Common.{◌≡◌, ℕ, zero, suc, ◌+◌, ◌*◌, ◌<◌, ◌≤◌, map, Option, Bool, true, false, List, [], ◌∷◌, ◌++◌, length, None}
 use Rattle.std.proofs.Common.{if◌then◌else◌, refl, sym, ap, ◌∙◌, subst, arith, append-nil, append_assoc, inl, inr, mul-zero, suc-mul}
 use Rattle.std.{proofs.Common.zero-mul, specs.List.list_any}
-use Rattle.yq_core.{specs.Tree.{Label, Node, alias, scalar, list, Children, none, child}, specs.Paths.Step}
+use Rattle.yq_core.{specs.Tree.{Label, Node, alias, scalar, list, Children, none, child}, specs.Paths.Step, specs.Shapes.AreEntries}
 use Rattle.yq_flow_edits.specs.Valued.{IsValueTree, AreValueTrees}
 use Rattle.yq_semantics.specs.Changes.{Changed, Change, replaces, add_at, add_below, added, additions, all_allowed, at_each, created}
 use Rattle.yq_semantics.{specs.Changes.{nested, put_below, put_with_path}, specs.Judgement.{Judgement, and_then, gives, refuses}}
@@ -11,9 +11,9 @@ use Rattle.yq_semantics.{specs.Program.{is_index, PathStep, Term, key, index, ea
 use Rattle.yq_semantics.{specs.Sizes.{items_in, items_among}, proofs.JudgementLaws.{gives_same, then_gives}}
 use Rattle.yq_semantics.{proofs.updates.Each.joined_gives, proofs.updates.Planned.all_same}
 use Rattle.yq_semantics.{specs.declared.refusal.Refusal.TheVariants.{IndexOutOfRange, KindMismatch}, specs.PlacesApart.AreApart}
-use Rattle.yq_expr.specs.Oversized.{BeginsOversized, GiveItems, HaveUtf8Keys, IsList, items_limit}
-use Rattle.yq_expr.proofs.GrowthLaws.{AreAppends, Gain, GainSome, no_more, one_place, appended, appends, by_gains, nothing, puts}
-use Rattle.yq_expr.proofs.PartLaws.{ops_join}
+use Rattle.yq_expr.specs.Oversized.{BeginsOversized, GiveItems, HaveUtf8Keys, items_limit}
+use Rattle.yq_expr.proofs.Gains.{AreAppends, Gain, GainSome, no_more, one_place, appended, appends, merges, nothing, puts}
+use Rattle.yq_expr.{proofs.GrowthLaws.by_gains, proofs.PartLaws.ops_join}
 use Rattle.yq_core.specs.Tree as tree
 
 -- the keys that are missing at each of places are UTF-8
@@ -73,7 +73,7 @@ module _ (doc : ℕ) (v : Node) (valid : IsValueTree v) where
   put_path : (p : FoundPlace) (cs : List Changed) → HaveUtf8Keys p.missing → put_with_path p v ≡ gives cs → Gain doc p.path (items_in v) (ops_of doc cs)
   put_path p cs keys h = at_path p.path (put_below p.node p.missing v) cs (λ c is. put_comes p.path p.node p.missing c keys is) h
 
--- ---- a list that is added
+-- ---- a value that is added
 
 item_appends : (doc : ℕ) (path : List Step) (items : Children) → AreValueTrees false items → AreAppends doc path (map (add_op doc path) (additions none items)) (items_among items)
 item_appends doc path none valid = nothing
@@ -87,29 +87,46 @@ items_come doc path (child label v items) valid some =
     subst (λ (l : Label). Gain doc path (items_among (child label v items)) (map (add_op doc path) (additions none (child l v items)))) (sym valid.0)
     (appends tt valid.1 (item_appends doc path items valid.2) (omega arith))
 
-module _ (doc : ℕ) (items : Children) (valid : AreValueTrees false items) (some : 0 < items_among items) where
-  abbrev added_list : Node
-  added_list = list None items
+-- a value that is added to a node: at least so much comes as is in it
+abbrev SoAdded : ℕ → Node → Type 0
+SoAdded doc v = (path : List Step) (n : Node) (c : Change) → added n v ≡ gives c → Gain doc path (items_in v) (change_ops doc (path, c))
 
-  list_valid : IsValueTree added_list
-  list_valid = (refl, valid)
+scalar_comes : (doc : ℕ) (v : Node) (valid : IsValueTree v) (path : List Step) (c : Change) → (null : Bool) → and_then (λ w. gives (replaces w)) (if null then gives v else refuses KindMismatch) ≡ gives c → Comes doc v valid path c
+scalar_comes doc v valid path c true h = subst (Comes doc v valid path) (gives_same h) (value_comes doc v valid path [] tt)
+scalar_comes doc v valid path c false h = absurd (cc)
 
-  scalar_comes : (path : List Step) (n : Node) (c : Change) → (null : Bool) → and_then (λ w. gives (replaces w)) (if null then gives added_list else refuses KindMismatch) ≡ gives c → Comes doc added_list list_valid path c
-  scalar_comes path n c true h = subst (Comes doc added_list list_valid path) (gives_same h) (value_comes doc added_list list_valid path [] tt)
-  scalar_comes path n c false h = absurd (cc)
+list_comes : (doc : ℕ) (items : Children) → AreValueTrees false items → 0 < items_among items → SoAdded doc (list None items)
+list_comes doc items valid some path (alias name) c h = absurd (cc)
+list_comes doc items valid some path (scalar a k t) c h = scalar_comes doc (list None items) (refl, valid) path c (is_null (scalar None k t)) h
+list_comes doc items valid some path (list a cs) c h = subst (Comes doc (list None items) (refl, valid) path) (gives_same h) (items_come doc path items valid some)
+list_comes doc items valid some path (tree.map a cs) c h = absurd (cc)
 
-  list_comes : (path : List Step) (n : Node) (c : Change) → added n added_list ≡ gives c → Comes doc added_list list_valid path c
-  list_comes path (alias name) c h = absurd (cc)
-  list_comes path (scalar a k t) c h = scalar_comes path (scalar a k t) c (is_null (scalar None k t)) h
-  list_comes path (list a cs) c h = subst (Comes doc added_list list_valid path) (gives_same h) (items_come doc path items valid some)
-  list_comes path (tree.map a cs) c h = absurd (cc)
+mapping_comes : (doc : ℕ) (entries : Children) → AreValueTrees true entries → AreEntries entries → 0 < items_among entries → SoAdded doc (tree.map None entries)
+mapping_comes doc entries valid differ some path (alias name) c h = absurd (cc)
+mapping_comes doc entries valid differ some path (scalar a k t) c h = scalar_comes doc (tree.map None entries) (refl, valid) path c (is_null (scalar None k t)) h
+mapping_comes doc entries valid differ some path (list a cs) c h = subst (Comes doc (tree.map None entries) (refl, valid) path) (gives_same h) (appends tt (refl, valid) nothing (omega arith))
+mapping_comes doc entries valid differ some path (tree.map a cs) c h = subst (Comes doc (tree.map None entries) (refl, valid) path) (gives_same h) (merges cs entries differ valid some (omega arith))
 
-  add_path : (p : FoundPlace) (cs : List Changed) → HaveUtf8Keys p.missing → add_at p added_list ≡ gives cs → Gain doc p.path (items_among items) (ops_of doc cs)
-  add_path p cs keys h = go p.missing refl h
+-- the keys of a mapping differ
+abbrev pub HasEntriesApart : Node → Type 0
+HasEntriesApart v = (cs : Children) → v ≡ tree.map None cs → AreEntries cs
+
+so_added : (doc : ℕ) (v : Node) → IsValueTree v → HasEntriesApart v → 0 < items_in v → SoAdded doc v
+so_added doc (alias name) valid differ some = absurd valid
+so_added doc (scalar a k t) valid differ some = absurd (omega (arith, some))
+so_added doc (list a cs) valid differ some = subst (λ o. SoAdded doc (list o cs)) (sym valid.0) (list_comes doc cs valid.1 some)
+so_added doc (tree.map a cs) valid differ some = subst (λ o. SoAdded doc (tree.map o cs)) (sym valid.0) (mapping_comes doc cs valid.1 (differ cs (ap (λ o. tree.map o cs) valid.0)) some)
+
+module _ (doc : ℕ) (v : Node) (valid : IsValueTree v) (so : SoAdded doc v) where
+  there_comes : (p : FoundPlace) (cs : List Changed) → HaveUtf8Keys p.missing → add_below p.missing p v ≡ gives cs → Gain doc p.path (items_in v) (ops_of doc cs)
+  there_comes p cs keys h = go p.missing refl h
     where
-      go : (ms : List PathStep) → p.missing ≡ ms → add_below ms p added_list ≡ gives cs → Gain doc p.path (items_among items) (ops_of doc cs)
-      go [] is e = at_path doc added_list list_valid p.path (added p.node added_list) cs (λ c same. list_comes p.path p.node c same) e
-      go (m ∷ ms) is e = put_path doc added_list list_valid p cs keys e
+      go : (ms : List PathStep) → p.missing ≡ ms → add_below ms p v ≡ gives cs → Gain doc p.path (items_in v) (ops_of doc cs)
+      go [] is e = at_path doc v valid p.path (added p.node v) cs (λ c same. so p.path p.node c same) e
+      go (m ∷ ms) is e = put_path doc v valid p cs keys e
+
+  add_path : is_null v ≡ false → (p : FoundPlace) (cs : List Changed) → HaveUtf8Keys p.missing → add_at p v ≡ gives cs → Gain doc p.path (items_in v) (ops_of doc cs)
+  add_path null p cs keys h = there_comes p cs keys (sym (ap (λ (b : Bool). if b then gives [] else add_below p.missing p v) null) ∙ h)
 
 -- ---- at each of places
 
@@ -176,6 +193,13 @@ factor_some : (m n k : ℕ) → k < m * n → 0 < n
 factor_some m zero k h = absurd (omega (arith, h, mul-zero m))
 factor_some m (suc n) k h = omega arith
 
+-- null has no items and entries
+not_null : (v : Node) → 0 < items_in v → is_null v ≡ false
+not_null (alias name) some = refl
+not_null (scalar a k t) some = absurd (omega (arith, some))
+not_null (list a cs) some = refl
+not_null (tree.map a cs) some = refl
+
 -- operations by which too many items and entries come for a text
 all_gain : (doc n : ℕ) (ps : List FoundPlace) (ops : List Operation) → GainSome doc ps n ops → AreApart ps → items_limit < n → BeginsOversized ops
 all_gain doc n ps ops g apart more = subst BeginsOversized (append-nil ops) (by_gains doc n ps ops [] g apart more)
@@ -185,12 +209,9 @@ module _ (doc : ℕ) (root v : Node) (valid : IsValueTree v) (ps : List FoundPla
   pub puts_begin : at_each root (λ p. put_with_path p v) ps ≡ gives cs → BeginsOversized (ops_of doc cs)
   puts_begin h = all_gain doc (length ps * items_in v) ps (ops_of doc cs) (each_comes doc (items_in v) root (λ p. put_with_path p v) (put_path doc v valid) ps cs keys h) apart more
 
-  -- a list that is added there
-  pub adds_begin : IsList v → at_each root (λ p. add_at p v) ps ≡ gives cs → BeginsOversized (ops_of doc cs)
-  adds_begin g h =
-      let items : Children = g.0 in
-      let ok : IsValueTree (list None items) = subst IsValueTree g.1 valid in
-      let many : items_limit < length ps * items_among items = subst (λ w. items_limit < length ps * items_in w) g.1 more in
-      let each : at_each root (λ p. add_at p (list None items)) ps ≡ gives cs = subst (λ w. at_each root (λ p. add_at p w) ps ≡ gives cs) g.1 h in
-      all_gain doc (length ps * items_among items) ps (ops_of doc cs)
-      (each_comes doc (items_among items) root (λ p. add_at p (list None items)) (add_path doc items ok.1 (factor_some (length ps) (items_among items) items_limit many)) ps cs keys each) apart many
+  -- a value that is added there
+  pub adds_begin : HasEntriesApart v → at_each root (λ p. add_at p v) ps ≡ gives cs → BeginsOversized (ops_of doc cs)
+  adds_begin differ h =
+      let some = factor_some (length ps) (items_in v) items_limit more in
+      let comes = add_path doc v valid (so_added doc v valid differ some) (not_null v some) in
+      all_gain doc (length ps * items_in v) ps (ops_of doc cs) (each_comes doc (items_in v) root (λ p. add_at p v) comes ps cs keys h) apart more

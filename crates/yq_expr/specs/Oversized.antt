@@ -9,7 +9,7 @@ use Rattle.yq_semantics.specs.Judgement.{Judgement, gives, ExprError}
 use Rattle.yq_semantics.{specs.RightValues.{is_null, as_items, right_value, sum_from, term_value}, specs.Sizes.{items_in, items_of_all}}
 use Rattle.yq_semantics.{specs.Operations.{Operation, replace, append, remove, line_comment, head_comment}, specs.After.all_after}
 use Rattle.yq_semantics.{specs.Changes.Room, specs.Fits.AllFit, specs.Meaning.AreReady}
-use Rattle.yq_semantics.specs.Program.{PathStep, key, index, each, Stage, Term, Update, assign, delete, comment}
+use Rattle.yq_semantics.specs.Program.{PathStep, key, index, each, Stage, Term, Update, UpdatesHold, assign, delete, comment}
 use Rattle.yq_semantics.{specs.Places.{FoundPlace, root_place}, specs.View.{update_of, term_of}, specs.declared.program.Operator.Operator}
 use Rattle.yq_eval.specs.PlaceView.{place_of, places_of}
 use Rattle.yq_expr.{specs.FixedPaths.IfAny, specs.Parts.{IsLater, values_limit}, specs.PlannedUpdates.{ops_inside, rest_in}}
@@ -104,13 +104,12 @@ MakesThere d u p = MakesOversized d u (place_of p)
 abbrev pub MakesFirst : DocumentRoot → declared.Update → List place.FoundPlace → Type 0
 MakesFirst d u ps = FirstMakesOversized d u (places_of ps)
 
--- A valid value is put, or is a list that is added, so many times that no text can hold all items and entries (own).
-pub record IsSpread (adds : Bool) (v : Node) (count : ℕ) : Type 0 where
+-- A valid value comes so many times that no text can hold all items and entries (own).
+pub record IsSpread (v : Node) (count : ℕ) : Type 0 where
   pub valid : IsValueTree v
-  pub added : adds ≡ true → IsList v
   pub more : items_limit < count * items_in v
 
--- An assignment adds a list, or puts a value, at so many places that no text can hold all items and entries (own).
+-- An assignment adds a value, or puts it, at so many places that no text can hold all items and entries (own).
 pub record SpreadsTooMany (d : DocumentRoot) (u : declared.Update) (count : ℕ) : Type 0 where
   pub adds : Bool
   pub left : List Stage
@@ -118,7 +117,7 @@ pub record SpreadsTooMany (d : DocumentRoot) (u : declared.Update) (count : ℕ)
   pub value : Node
   pub by : update_of u ≡ assign left (if adds then operator.Add else operator.Set) right
   pub found : right_value d.doc right (root_place (node_of d.root)) ≡ gives value
-  pub spreads : IsSpread adds value count
+  pub spreads : IsSpread value count
 
 -- in the valid value of terms from a place, with those of other places, are so many items and entries at least (own)
 abbrev pub GivesMore : ℕ → List Term → FoundPlace → (others : ℕ → Type 0) → ℕ → Type 0
@@ -174,9 +173,17 @@ pub record BeginsOversized (all : List Operation) : Type 0 where
 abbrev pub GivesOversizedOps : Judgement (List Operation) → Type 0
 GivesOversizedOps j = (ops : List Operation) → j ≡ gives ops → BeginsOversized ops
 
+-- the same, where the literals of an update are values (own)
+abbrev pub MayGiveOversized : Update → Judgement (List Operation) → Type 0
+MayGiveOversized u j = UpdatesHold (u ∷ []) → GivesOversizedOps j
+
 -- a part says that what is left after it begins so only where it does (own)
 abbrev pub ReportsOversized : Update → List ℕ → PlanPart → Type 0
 ReportsOversized u t p = p.is_oversized ≡ true → GivesOversizedOps (rest_in u t p.doc p.place)
+
+-- an answer's part does so, where the literals of an update are values (own)
+abbrev pub MayReportOversized : Update → List ℕ → Result PlanPart ExprError → Type 0
+MayReportOversized u t result = UpdatesHold (u ∷ []) → IfOk result (ReportsOversized u t)
 
 -- a part that doesn't say so ends later than it began (own)
 abbrev pub PartGoesOn : ℕ → ℕ → PlanPart → Type 0
@@ -186,7 +193,7 @@ PartGoesOn doc place p = p.is_oversized ≡ false → IsLater doc place p.doc p.
 pub record EndsPartAt (document : DocumentRoot) (update : declared.Update) (place : ℕ) (before after : OpenPart) (next : ℕ) : Type 0 where
   pub later : place ≤ next
   pub moves : before.room ≡ values_limit → after.is_oversized ≡ false → place < next
-  pub large : after.is_oversized ≡ true → GivesOversizedOps (ops_inside document update next)
+  pub large : after.is_oversized ≡ true → MayGiveOversized (update_of update) (ops_inside document update next)
 
 -- the same of an answer that ends a part there, if it does (own)
 abbrev pub EndsPart : DocumentRoot → declared.Update → ℕ → OpenPart → OpenPart → Result (Option ℕ) ExprError → Type 0

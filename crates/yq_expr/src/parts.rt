@@ -6,7 +6,7 @@ ghost use Rattle.yq_eval.{specs.FoundView.found_places, specs.PlaceView.places_o
 ghost use Rattle.yq_semantics.{specs.Judgement.{ExprError, MatchFails}, specs.Operations.operations_of, specs.View.{program_of, update_of}};
 ghost use Rattle.yq_expr.{specs.DocumentPlaces.IsDocumentRoot, specs.Parts.{IsPlanPart, values_limit}};
 ghost use Rattle.yq_expr.specs.PlannedUpdates.{ForUpdate, IsPartOfPlan, IsUpdateAt, ops_inside, rest_in};
-ghost use Rattle.yq_expr.specs.Oversized.{EndsPart, PartGoesOn, ReportsOversized};
+ghost use Rattle.yq_expr.specs.Oversized.{EndsPart, MayReportOversized, PartGoesOn, ReportsOversized};
 ghost use Rattle.yq_planner.specs.ValidChanges.{HoldValidValues, KeepValidValues};
 ghost use Rattle.yq_semantics.specs.Program as spec;
 ghost use Rattle.yq_failure.specs.declared.failure.Failure.TheVariants as failure;
@@ -134,7 +134,7 @@ fn part_of(
     ensures part { IfOk result (IsPartOfPlan (update_of update.now) documents.now doc place) }
     ensures valid { IfOk result (λ p. HoldValidValues p.ops.items) }
     ensures later { IfOk result (PartGoesOn doc place) }
-    ensures large { IfOk result (ReportsOversized (update_of update.now) documents.now) }
+    ensures large { MayReportOversized (update_of update.now) documents.now result }
     ensures err { IfErr result (λ e.
         MatchFails e (rest_in (update_of update.now) documents.now doc place)) }
 {
@@ -199,6 +199,7 @@ pub fn plan_part(
     ensures err { (u : spec.Update) → IsUpdateAt nth program.now u →
         IfErr result (λ e. MatchFails e (rest_in u documents.now doc place)) }
 {
+    program.literals_hold();
     match program.syntax() {
         Syntax::Read(_) => Ok(PlanPart {
             ops: Vec::new(alloc),

@@ -4,7 +4,7 @@ ghost use Rattle.yq_core.specs.Values.{value_node};
 ghost use Rattle.yq_nodes.specs.Nodes.{node_of};
 ghost use Rattle.yq_eval.{specs.PlaceView.places_of, specs.TreeScalars.{HasScalars, HaveScalars}};
 ghost use Rattle.yq_semantics.specs.View.{term_of};
-ghost use Rattle.yq_expr.specs.Oversized.{BeginsLarge, GiveItems, IsList, IsSpread, ModifiesTooMuch, SpreadsTooMany, items_limit};
+ghost use Rattle.yq_expr.specs.Oversized.{BeginsLarge, GiveItems, IsSpread, ModifiesTooMuch, SpreadsTooMany, items_limit};
 
 use crate::document::DocumentRoot;
 use crate::item_counts::count_in;
@@ -18,16 +18,6 @@ use yq_flow_edits::value_holds;
 use yq_semantics::{ExprError, Operator, Term, Update};
 use yq_text::TEXT_LIMIT;
 
-/// Whether a value is a list.
-fn is_list(value: &Value) -> bool
-    ensures { result ≡ true → IsList (value_node value.now) }
-{
-    match value {
-        Value::List(_) => true,
-        Value::Scalar(_) | Value::Map(_) => false,
-    }
-}
-
 /// Whether no text can hold so many items and entries at so many places.
 fn are_too_many(items: usize, count: usize) -> bool
     ensures { result ≡ true → items_limit < count * items }
@@ -35,13 +25,11 @@ fn are_too_many(items: usize, count: usize) -> bool
     items.saturating_mul(count) > ITEMS_LIMIT
 }
 
-/// Whether a value is put, or a list added, at so many places that no text can hold all items and entries.
-fn is_spread(adds: bool, value: &Value, count: usize) -> bool
-    ensures { result ≡ true → IsSpread adds (value_node value.now) count }
+/// Whether a value is put, or added, at so many places that no text can hold all items and entries: those of a value
+/// that is added to a mapping or list are in that afterwards.
+fn is_spread(value: &Value, count: usize) -> bool
+    ensures { result ≡ true → IsSpread (value_node value.now) count }
 {
-    if adds && !is_list(value) {
-        return false;
-    }
     value_holds(value);
     are_too_many(count_in(value), count)
 }
@@ -59,11 +47,9 @@ fn spreads_too_many<'a>(
     let Some(assignment) = assignment(update) else {
         return Ok(false);
     };
-    let adds = match assignment.operator {
-        Operator::Add => true,
-        Operator::Set => false,
-        Operator::Modify => return Ok(false),
-    };
+    if let Operator::Modify = assignment.operator {
+        return Ok(false);
+    }
     let right: &[Term] = &assignment.right;
     let most = document.text_length().saturating_mul(right.len());
     if count < 2 || most.saturating_mul(count) <= TEXT_LIMIT {
@@ -71,7 +57,7 @@ fn spreads_too_many<'a>(
     }
     let from = FoundPlace::of_root(&document.root);
     match right_value(alloc, document.doc, right, &from) {
-        Ok(value) => Ok(is_spread(adds, &value, count)),
+        Ok(value) => Ok(is_spread(&value, count)),
         Err(ExprError::Fault(_)) => Ok(false),
         Err(ExprError::Memory) => Err(AllocError),
     }

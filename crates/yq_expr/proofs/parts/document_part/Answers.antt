@@ -122,7 +122,7 @@ returns-then-branch-clause-ends c =
     record {
       later = omega arith;
       moves = λ _ fresh. absurd (false≢true (sym fresh));
-      large = λ _. document_large c.args.document c.args.update.now room ps found
+      large = λ _. document_large c.args.document c.args.update.now room ps found c.requires.document.tree
           (places_are_there c.args.document.doc (left_pipe u) root ps c.requires.document.tree found).0 c.args.place
           (take left (drop c.args.place c.deref.result.now)) there big;
     }

@@ -67,11 +67,11 @@ documents-preserved c =
     }
 
 pub returns-in-Some-clause-large : goal.returns-in-Some-clause-large
-returns-in-Some-clause-large c = λ is.
+returns-in-Some-clause-large c = λ holds is.
     let docs : List Document = documents_of c.args.documents.now in
     let within : c.documents.at < length docs = omega (arith, c.count.ensures, c.documents-test.true) in
     let d = document_there docs c.documents.at within in
     let u = update_of c.args.update.now in
-    let large = (rw c.in-Some.is at c.in_ok-next.ensures.ends).large is in
+    let large = (rw c.in-Some.is at c.in_ok-next.ensures.ends).large is holds in
     rest_begins u (room_of c.args.documents.now) docs c.documents.at d.0 d.2 c.in-Some.place
     (subst (λ (n : Node). GivesOversizedOps (document_ops u c.documents.at (room_of c.args.documents.now c.documents.at) n c.in-Some.place)) (c.root.ensures.node d.0 d.1) large)
