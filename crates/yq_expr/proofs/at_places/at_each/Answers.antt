@@ -23,7 +23,7 @@ places-preserved c =
       same = c.push_effect-pushed.ensures.same ∙ c.places.invariant.same;
       scalars = (subst HaveScalars here c.places.invariant.scalars).1;
       within = λ root within. (subst (AreIn root) here (c.places.invariant.within root within)).1;
-      valid = (rw ← c.in_ok-at_place.ensures at c.push_effect-pushed.ensures.valid) c.places.invariant.valid;
+      valid = (rw (← c.in_ok-at_place.ensures) at c.push_effect-pushed.ensures.valid) c.places.invariant.valid;
       so_far = λ root named within.
           let f : FoundPlace → Judgement (List Changed) = λ q. and_then (all_allowed root) (effect_of c.args.effect.now c.args.documents.now q) in
           each_more place_of f (map changed_of c.places.changes.items) (map changed_of c.push_effect-pushed.new.changes.items) c.args.places.now c.places.place-index c.place-item.result _ c.places-test.true c.place-item.is
