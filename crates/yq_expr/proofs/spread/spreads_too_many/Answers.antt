@@ -1,4 +1,4 @@
-use Rattle.std.proofs.Common.{rules, ◌≡◌, ◌∙◌, Bool, true, false, List, map, if◌then◌else◌, refl, sym, ap, subst}
+use Rattle.std.proofs.Common.{◌≡◌, ◌∙◌, Bool, true, false, List, map, if◌then◌else◌, refl, sym, ap, subst}
 use Rattle.yq_core.specs.Values.{value_node}
 use Rattle.yq_semantics.{specs.Judgement.gives, specs.Program.{Stage, Term, assign}, specs.RightValues.right_value}
 use Rattle.yq_semantics.{specs.View.{stage_of, term_of, update_of}, specs.declared.program.Operator.Operator}
