@@ -5,9 +5,8 @@ use Rattle.std.proofs.lemmas.Bool.{false≢true, cond-false}
 use Rattle.yq_core.specs.Paths.{Step, To, key_is, is_here, further, child_at, change_child, remove_child, append_child}
 use Rattle.yq_core.{specs.Shapes.{AreEntries, IsNew}, specs.Tree.{Node, alias, scalar, list, Children, none, child, children_of, key_label}}
 use Rattle.yq_documents.specs.TreeEdits.{replaced_node}
-use Rattle.yq_semantics.{specs.Changes.{Addition, appends, overwrites, addition}, specs.Meaning.add_to}
-use Rattle.yq_semantics.{specs.Sizes.{items_in, items_among}, proofs.PathLaws.{bytes_differ, bytes_refl, bytes_same}}
-use Rattle.yq_semantics.proofs.sizes.RowSizes.{under_anchor}
+use Rattle.yq_semantics.{specs.Changes.{Addition, appends, overwrites, addition}, specs.Meaning.add_to, specs.Sizes.{items_in, items_among}}
+use Rattle.yq_semantics.{proofs.PathLaws.{bytes_differ, bytes_refl, bytes_same}, proofs.sizes.RowSizes.under_anchor}
 use Rattle.yq_core.specs.Tree as tree
 
 -- items or entries have one of a key, with so many items and entries at least

@@ -1,6 +1,6 @@
 -- Operations by which so many items and entries come at places.
-use Rattle.std.proofs.Common.{ℕ, suc, ◌+◌, ◌<◌, ◌≤◌, Bool, true, false, cond, List, [], ◌∷◌, ◌++◌, map, Option, Some, is_some}
-use Rattle.std.{proofs.Common.{sym, subst}, specs.Str.IsUtf8}
+use Rattle.std.proofs.Common.{ℕ, suc, ◌+◌, ◌<◌, ◌≤◌, Bool, true, false, cond, List, [], ◌∷◌, ◌++◌, map, Option, Some, is_some, sym, subst}
+use Rattle.std.specs.Str.{IsUtf8}
 use Rattle.yq_core.{specs.Paths.{Step, To, child_at}, specs.Shapes.AreEntries, specs.Tree.{Label, Node, Children, none, child}}
 use Rattle.yq_flow_edits.specs.Valued.{IsValueTree, AreValueTrees}
 use Rattle.yq_semantics.{specs.Changes.{addition, additions, overwrites}, specs.Operations.{Operation, append, replace}}

@@ -1,6 +1,6 @@
 -- How many items and entries documents have after operations that put or append values at places, of which none lies in another.
-use Rattle.std.proofs.Common.{◌≡◌, inr, ℕ, zero, suc, ◌+◌, ◌<◌, ◌≤◌, Bool, List, [], ◌∷◌, ◌++◌, Some, refl, sym, ap, ◌∙◌, subst}
-use Rattle.std.{proofs.Common.arith, proofs.lemmas.Bool.cond_both, proofs.lemmas.Option.{none-some, same_Some}, specs.List.slice_get}
+use Rattle.std.proofs.Common.{◌≡◌, inr, ℕ, zero, suc, ◌+◌, ◌<◌, ◌≤◌, Bool, List, [], ◌∷◌, ◌++◌, Some, refl, sym, ap, ◌∙◌, subst, arith}
+use Rattle.std.{proofs.lemmas.Bool.cond_both, proofs.lemmas.Option.{none-some, same_Some}, specs.List.slice_get}
 use Rattle.yq_core.{specs.PathOrder.Apart, specs.Shapes.IsTree, specs.Paths.{Step, node_at, append_child, within, changed_at}}
 use Rattle.yq_core.specs.Tree.{Node, alias, anchor_of, children_of, key_label}
 use Rattle.yq_documents.{specs.Documents.Document, specs.TreeEdits.{led, replaced_node}}

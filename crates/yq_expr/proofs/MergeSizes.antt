@@ -1,6 +1,6 @@
 -- How many items and entries documents have after the entries of a mapping came to a node.
-use Rattle.std.proofs.Common.{◌≡◌, ℕ, ◌+◌, ◌<◌, ◌≤◌, true, List, [], ◌∷◌, ◌++◌, map, Option, Some, None, option_and_then, refl}
-use Rattle.std.{proofs.Common.{sym, ap, subst, ◌∙◌, arith}, proofs.lemmas.Option.{none-some, same_Some}, specs.List.slice_get}
+use Rattle.std.proofs.Common.{◌≡◌, ℕ, ◌+◌, ◌<◌, ◌≤◌, true, List, [], ◌∷◌, ◌++◌, map, Option, Some, None, option_and_then, refl, sym, ap}
+use Rattle.std.{proofs.Common.{subst, ◌∙◌, arith}, proofs.lemmas.Option.{none-some, same_Some}, specs.List.slice_get}
 use Rattle.yq_core.{specs.Paths.{Step, To, child_at, node_at, within, change_child, changed_at}, specs.Shapes.{AreEntries, IsNew}}
 use Rattle.yq_core.specs.Tree.{Label, Node, alias, scalar, list, Children, none, child, children_of, key_label}
 use Rattle.yq_documents.{specs.Documents.Document, specs.TreeEdits.change_nth}

@@ -1,6 +1,7 @@
-use Rattle.std.{proofs.Common.{rules, ◌≡◌, ◌∙◌, List, ℕ, [], ◌∷◌, map, slice_get, Some, IfOk, ap, sym, subst}, proofs.lemmas.Option.get_or_from_slice_get}
-use Rattle.std.proofs.Math.ListN.{get_or, get_or-map}
-use Rattle.yq_semantics.{specs.Program.{UpdatesHold, updates, update_at}, specs.View.{program_of, update_of}, proofs.updates.PlanAnswers.literals_hold}
+use Rattle.std.proofs.Common.{rules, ◌≡◌, ◌∙◌, List, ℕ, [], ◌∷◌, map, slice_get, Some, IfOk, ap, sym, subst}
+use Rattle.std.{proofs.lemmas.Option.get_or_from_slice_get, proofs.Math.ListN.{get_or, get_or-map}}
+use Rattle.yq_semantics.{specs.Program.{UpdatesHold, updates, update_at}, specs.View.{program_of, update_of}}
+use Rattle.yq_semantics.proofs.updates.PlanAnswers.{literals_hold}
 use Rattle.yq_expr.specs.Oversized.{ReportsOversized}
 use Rattle.yq_expr.proofs.parts.plan_part.Goals as goal
 
