@@ -155,9 +155,8 @@ fn remove_earlier<'o>(
     Ok(Some((left, row)))
 }
 
-/// Carries out operations together that take items and entries out of flow collections of a document, those of one head
-/// after those of the ones behind it, up to the first one that does something else, or isn't before one that was carried
-/// out.
+/// Carries out operations together that take items and entries out of flow collections of a document, those of the last
+/// head first, up to the first one that does something else, or isn't before one that was carried out.
 pub(crate) fn remove_in_heads<'o>(
     alloc: Global,
     cut: &CutText<'_, '_>,
