@@ -54,9 +54,11 @@ fn is_too_long(alloc: Global, session: &mut Session, text: &str, program: &Progr
 fn goes_on(alloc: Global, text: &str, program: &Program, edited: &str) -> bool
     requires { 0 < update_count (program_of program.now) }
 {
-    match edit(alloc, text, program) {
-        Err(Fault::Refused(refused)) if refused.why == Refusal::TooLarge => {}
-        _ => return false,
+    let Err(Fault::Refused(refused)) = edit(alloc, text, program) else {
+        return false;
+    };
+    if refused.why != Refusal::TooLarge {
+        return false;
     }
     let Ok(mut session) = Session::open(alloc, text) else {
         return false;
