@@ -11,6 +11,7 @@ pub mod SubstituteLaws
 pub mod VerdictLaws
 pub mod FixedLaws
 pub mod OversizedLaws
+pub mod TextSumLaws
 pub mod EntryLaws
 pub mod MergeSizes
 pub mod Gains

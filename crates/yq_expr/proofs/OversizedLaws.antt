@@ -8,7 +8,8 @@ use Rattle.yq_semantics.{specs.Judgement.{Judgement, and_then, gives}, specs.Pla
 use Rattle.yq_semantics.specs.Program.{Term, PathStep, key, index, each}
 use Rattle.yq_semantics.{specs.RightValues.{is_null, as_items, right_value, sum, sum_from, term_value}, specs.Sizes.items_in}
 use Rattle.yq_semantics.specs.View.{program_step}
-use Rattle.yq_expr.specs.Oversized.{items_limit, AddsItems, AreItemsOf, GiveItems, GivesList, GivesOversized, ReplacesList, HaveUtf8Keys}
+use Rattle.yq_expr.specs.Oversized.{AddsItems, AreItemsOf, GiveItems, GivesSized, HaveUtf8Keys, ItemsOfSize}
+use Rattle.yq_expr.specs.declared.sum_sizes.SumSize.{SumSize}
 use Rattle.yq_eval.{specs.PlaceView.{missing_link, missing_of}, specs.declared.matching.place.Missing.Missing}
 use Rattle.yq_eval.specs.declared.matching.place.Missing.TheFolds.{fold-roll-Missing, ind-Missing, map-Missing}
 use Rattle.yq_eval.specs.declared.matching.place.Missing.TheOpen.{Missing-F}
@@ -42,14 +43,6 @@ one_more doc p ds t ts total size with_it h k both =
       sym (ap (and_then (λ v. and_then (λ w. sum_from doc p w ts) (sum (list None ds) v))) k.1 ∙ ap (and_then (λ w. sum_from doc p w ts)) (added_list ds u k.2)),
     )
 
--- the list of known size that a judgement gives is too large for a text
-pub too_large : (j : Judgement Node) (size : ListSize) → GivesList j size → items_limit < size.items → GivesOversized j
-too_large j size h more = (list None h.0, h.1, record { items = h.0; is = refl; valid = (refl, h.2.valid); more = omega (arith, more, h.2.sized.many) })
-
--- a small one stands for it
-pub small_list : (j : Judgement Node) (size : ListSize) (w : Node) → GivesList j size → ((v : Node) → HasSize v size → IsSubstitute v w) → ReplacesList j w
-small_list j size w h small = (list None h.0, h.1, (h.0, refl), small (list None h.0) h.2.sized)
-
 -- a list has as many items and entries at least after it got a value as are in that
 pub added_items : (v : Node) → items_in v ≤ items_in (list None (as_items v))
 added_items (alias n) = omega arith
@@ -82,9 +75,10 @@ module _ (doc : ℕ) (right : List Term) where
   fewer_given (p ∷ ps) n k (inl is) h = inl (omega (arith, is, h))
   fewer_given (p ∷ ps) n k (inr (v, m, found, valid, others, most)) h = inr (v, m, found, valid, others, omega (arith, most, h))
 
-  -- those of a list of known size at one place more
-  pub one_given : (p : FoundPlace) (ps : List FoundPlace) (size : ListSize) (m : ℕ) → GivesList (right_value doc right p) size → GiveItems doc right ps m → GiveItems doc right (p ∷ ps) (size.items + m)
-  one_given p ps size m g h = inr (list None g.0, m, g.1, (refl, g.2.valid), h, omega (arith, g.2.sized.many))
+  -- those of a sum of known size at one place more
+  pub one_given : (p : FoundPlace) (ps : List FoundPlace) (size : SumSize) (n m : ℕ) → ItemsOfSize size n → GivesSized (right_value doc right p) size → GiveItems doc right ps m →
+      GiveItems doc right (p ∷ ps) (n + m)
+  one_given p ps size n m items g h = let w = items (right_value doc right p) g in inr (w.0, m, w.1, w.2, h, omega (arith, w.3))
 
   -- what was counted so far, where no more is
   pub given_so_far : (ps qs : List FoundPlace) (count : ℕ) → ((m : ℕ) → GiveItems doc right qs m → GiveItems doc right ps (count + m)) → GiveItems doc right ps count

@@ -1,17 +1,17 @@
 -- The operations of an update that gives a place what no text can hold.
 use Rattle.std.proofs.Common.{◌≡◌, inl, inr, ℕ, zero, suc, true, false, List, [], ◌∷◌, ◌++◌, drop, length, None, if◌then◌else◌, Bool, refl}
-use Rattle.std.{proofs.Common.{sym, ap, ◌∙◌, subst, arith, append_assoc, one-mul}, proofs.lemmas.List.length-map}
+use Rattle.std.{proofs.Common.{sym, ap, ◌∙◌, subst, arith, append_assoc, one-mul}, proofs.lemmas.{Bool.false≢true, List.length-map}}
 use Rattle.yq_core.{specs.Shapes.IsTree, specs.Tree.{Node, list}}
 use Rattle.yq_semantics.specs.Changes.{Room, Changed, add_at, at_each, changes_at, left_pipe, put_with_path, with_value}
 use Rattle.yq_semantics.{specs.Judgement.{Judgement, and_then, gives}, specs.Operations.Operation, specs.Pipes.places}
 use Rattle.yq_semantics.{specs.Places.{FoundPlace, root_place}, specs.Plans.ops_of}
 use Rattle.yq_semantics.{specs.Program.{Stage, Term, Update, UpdatesHold, assign, delete, comment}, specs.RightValues.right_value}
-use Rattle.yq_semantics.{specs.Sizes.items_in, specs.PlacesApart.AreApart, specs.View.update_of}
+use Rattle.yq_semantics.{specs.Sizes.items_in, specs.PlacesApart.AreApart, specs.View.update_of, specs.declared.program.Operator.Operator}
 use Rattle.yq_semantics.{proofs.JudgementLaws.{gives_same, then_gives}, proofs.updates.Each.joined_gives}
 use Rattle.yq_semantics.proofs.updates.SumValues.{right_pure}
-use Rattle.yq_expr.specs.Oversized.{BeginsLarge, BeginsOversized, GivesAt, GivesOversizedOps, HaveUtf8Keys, IsOversized, IsSpread}
-use Rattle.yq_expr.{specs.Oversized.MayGiveOversized, proofs.OversizedLaws.missing_keys}
-use Rattle.yq_expr.proofs.SpreadOps.{AllHaveUtf8Keys, HasEntriesApart, adds_begin, modified_begins, puts_begin}
+use Rattle.yq_expr.specs.Oversized.{BeginsLarge, BeginsOversized, GivesAt, GivesOversizedOps, HaveUtf8Keys, IsList, IsOversized, IsSpread}
+use Rattle.yq_expr.{specs.Oversized.{MayGiveOversized, is_scalar}, proofs.OversizedLaws.missing_keys}
+use Rattle.yq_expr.proofs.SpreadOps.{AllHaveUtf8Keys, ComesWhole, adds_begin, modified_begins, puts_begin}
 use Rattle.yq_expr.{specs.Parts.{document_ops, rest_ops}, specs.declared.document.DocumentRoot.DocumentRoot}
 use Rattle.yq_expr.proofs.PartLaws.{changes_both, ops_join, ops_there, rest_there}
 use Rattle.yq_documents.specs.Documents.{Document}
@@ -40,27 +40,27 @@ module _ (doc : ℕ) (room : Room) (root v : Node) (right : List Term) (found : 
   each_gets f [] cs h = h
   each_gets f (p ∷ ps) cs h = sym (ap (and_then (λ w. at_each root (λ q. f q w) (p ∷ ps))) found) ∙ h
 
-  spread_begins : (adds : Bool) (ps : List FoundPlace) (cs : List Changed) → IsSpread v (length ps) → HasEntriesApart v → AllHaveUtf8Keys ps → AreApart ps → (left : List Stage) →
+  spread_begins : (adds : Bool) (ps : List FoundPlace) (cs : List Changed) → IsSpread v (length ps) → (adds ≡ true → ComesWhole v) → AllHaveUtf8Keys ps → AreApart ps → (left : List Stage) →
       changes_at doc room root (assign left (if adds then operator.Add else operator.Set) right) ps ≡ gives cs → BeginsOversized (ops_of doc cs)
-  spread_begins true ps cs s differ keys apart left h = adds_begin doc root v s.valid ps keys apart s.more cs differ (each_gets add_at ps cs h)
-  spread_begins false ps cs s differ keys apart left h = puts_begin doc root v s.valid ps keys apart s.more cs (each_gets put_with_path ps cs h)
+  spread_begins true ps cs s whole keys apart left h = adds_begin doc root v s.valid ps keys apart s.more cs (whole refl) (each_gets add_at ps cs h)
+  spread_begins false ps cs s whole keys apart left h = puts_begin doc root v s.valid ps keys apart s.more cs (each_gets put_with_path ps cs h)
 
--- a list that no text can hold, at one place
-sole_spread : (v : Node) → IsOversized v → IsSpread v 1
-sole_spread v big = record { valid = big.valid; more = omega (arith, big.more, one-mul (items_in v)) }
+-- a value that no text can hold, at one place
+sole_spread : (op : Operator) (v : Node) → IsOversized op v → IsSpread v 1
+sole_spread op v big = record { valid = big.valid; more = omega (arith, big.more, one-mul (items_in v)) }
 
--- which is no mapping
-no_mapping : (v : Node) → IsOversized v → HasEntriesApart v
-no_mapping v big cs is = absurd (let other : list None big.items ≡ tree.map None cs = sym big.is ∙ is in cc)
+-- a list comes whole
+list_whole : (v : Node) → IsList v → ComesWhole v
+list_whole v (cs, is) = record { no_scalar = ap is_scalar is; apart = λ es other. absurd (let both : list None cs ≡ tree.map None es = sym is ∙ other in cc) }
 
 -- ---- at the first of places
 
 module _ (doc : ℕ) (room : Room) (root : Node) (p : FoundPlace) (keys : HaveUtf8Keys p.missing) where
   pub place_begins_big : (u : Update) (cs : List Changed) → GivesAt doc root u p → changes_at doc room root u (p ∷ []) ≡ gives cs → BeginsOversized (ops_of doc cs)
-  place_begins_big (assign left operator.Set right) cs big h = spread_begins doc room root big.0 right big.1 false (p ∷ []) cs (sole_spread big.0 big.2) (no_mapping big.0 big.2) (keys, tt) (tt, tt) left h
-  place_begins_big (assign left operator.Add right) cs big h = spread_begins doc room root big.0 right big.1 true (p ∷ []) cs (sole_spread big.0 big.2) (no_mapping big.0 big.2) (keys, tt) (tt, tt) left h
+  place_begins_big (assign left operator.Set right) cs big h = spread_begins doc room root big.0 right big.1 false (p ∷ []) cs (sole_spread operator.Set big.0 big.2) (λ adds. absurd (false≢true adds)) (keys, tt) (tt, tt) left h
+  place_begins_big (assign left operator.Add right) cs big h = spread_begins doc room root big.0 right big.1 true (p ∷ []) cs (sole_spread operator.Add big.0 big.2) (λ _. list_whole big.0 (big.2.added refl)) (keys, tt) (tt, tt) left h
   place_begins_big (assign left operator.Modify right) cs big h =
-      let s = sole_spread big.0 big.2 in
+      let s = sole_spread operator.Modify big.0 big.2 in
       let put = sym (ap (λ j. at_each root (λ q. j) (p ∷ [])) (ap (and_then (put_with_path p)) big.1)) ∙ h in
       puts_begin doc root big.0 s.valid (p ∷ []) (keys, tt) (tt, tt) s.more cs put
   place_begins_big (delete left) cs big h = absurd big
@@ -107,10 +107,10 @@ document_large d u room ps is tree apart place qs there (inr (inr g)) = λ holds
     let cs = then_gives (λ xs. gives (ops_of d.doc xs)) (changes_at d.doc room root (update_of u) (drop place ps)) ops all in
     let changed = (λ i. changes_at d.doc room root (sym g.by i) (sym there i)) ∙ cs.1 in
     let pure = right_pure root d.doc (root_place root) tree refl g.right g.value (subst (λ v. UpdatesHold (v ∷ [])) g.by holds).0 g.found in
-    let differ : HasEntriesApart g.value = λ es same. (subst IsTree same pure.0).0 in
+    let whole : g.adds ≡ true → ComesWhole g.value = λ adds. record { no_scalar = g.whole adds; apart = λ es same. (subst IsTree same pure.0).0 } in
     let spreads = subst (IsSpread g.value) (sym (length-map qs place_of)) g.spreads in
     subst BeginsOversized (gives_same cs.2)
-    (spread_begins d.doc room root g.value g.right g.found g.adds (places_of qs) cs.0 spreads differ (places_keys qs) (subst AreApart there (rest_apart place ps apart)) g.left changed)
+    (spread_begins d.doc room root g.value g.right g.found g.adds (places_of qs) cs.0 spreads whole (places_keys qs) (subst AreApart there (rest_apart place ps apart)) g.left changed)
 
 -- and those in the documents after it
 pub rest_begins : (u : Update) (rooms : ℕ → Room) (docs : List Document) (doc : ℕ) (d : Document) → drop doc docs ≡ d ∷ drop (suc doc) docs → (place : ℕ) →

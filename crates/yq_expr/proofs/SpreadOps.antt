@@ -1,7 +1,7 @@
 -- The operations of a value that is put at places, or added: what comes at each place.
 use Rattle.std.proofs.Common.{◌≡◌, ℕ, zero, suc, ◌+◌, ◌*◌, ◌<◌, ◌≤◌, map, Option, Bool, true, false, List, [], ◌∷◌, ◌++◌, length, None}
 use Rattle.std.proofs.Common.{if◌then◌else◌, refl, sym, ap, ◌∙◌, subst, arith, append-nil, append_assoc, inl, inr, mul-zero, suc-mul}
-use Rattle.std.{proofs.Common.zero-mul, specs.List.list_any}
+use Rattle.std.{proofs.Common.zero-mul, proofs.lemmas.Bool.false≢true, specs.List.list_any}
 use Rattle.yq_core.{specs.Tree.{Label, Node, alias, scalar, list, Children, none, child}, specs.Paths.Step, specs.Shapes.AreEntries}
 use Rattle.yq_flow_edits.specs.Valued.{IsValueTree, AreValueTrees}
 use Rattle.yq_semantics.specs.Changes.{Changed, Change, replaces, add_at, add_below, added, additions, all_allowed, at_each, created}
@@ -11,7 +11,7 @@ use Rattle.yq_semantics.{specs.Program.{is_index, PathStep, Term, key, index, ea
 use Rattle.yq_semantics.{specs.Sizes.{items_in, items_among}, proofs.JudgementLaws.{gives_same, then_gives}}
 use Rattle.yq_semantics.{proofs.updates.Each.joined_gives, proofs.updates.Planned.all_same}
 use Rattle.yq_semantics.{specs.declared.refusal.Refusal.TheVariants.{IndexOutOfRange, KindMismatch}, specs.PlacesApart.AreApart}
-use Rattle.yq_expr.specs.Oversized.{BeginsOversized, GiveItems, HaveUtf8Keys, items_limit}
+use Rattle.yq_expr.specs.Oversized.{BeginsOversized, GiveItems, HaveUtf8Keys, is_scalar, items_limit}
 use Rattle.yq_expr.proofs.Gains.{AreAppends, Gain, GainSome, no_more, one_place, appended, appends, merges, nothing, puts}
 use Rattle.yq_expr.{proofs.GrowthLaws.by_gains, proofs.PartLaws.ops_join}
 use Rattle.yq_core.specs.Tree as tree
@@ -111,11 +111,16 @@ mapping_comes doc entries valid differ some path (tree.map a cs) c h = subst (Co
 abbrev pub HasEntriesApart : Node → Type 0
 HasEntriesApart v = (cs : Children) → v ≡ tree.map None cs → AreEntries cs
 
-so_added : (doc : ℕ) (v : Node) → IsValueTree v → HasEntriesApart v → 0 < items_in v → SoAdded doc v
-so_added doc (alias name) valid differ some = absurd valid
-so_added doc (scalar a k t) valid differ some = absurd (omega (arith, some))
-so_added doc (list a cs) valid differ some = subst (λ o. SoAdded doc (list o cs)) (sym valid.0) (list_comes doc cs valid.1 some)
-so_added doc (tree.map a cs) valid differ some = subst (λ o. SoAdded doc (tree.map o cs)) (sym valid.0) (mapping_comes doc cs valid.1 (differ cs (ap (λ o. tree.map o cs) valid.0)) some)
+-- all items and entries of a value that is added come: it is no scalar, and the keys of a mapping differ
+pub record ComesWhole (v : Node) : Type 0 where
+  pub no_scalar : is_scalar v ≡ false
+  pub apart : HasEntriesApart v
+
+so_added : (doc : ℕ) (v : Node) → IsValueTree v → ComesWhole v → 0 < items_in v → SoAdded doc v
+so_added doc (alias name) valid whole some = absurd valid
+so_added doc (scalar a k t) valid whole some = absurd (false≢true (sym whole.no_scalar))
+so_added doc (list a cs) valid whole some = subst (λ o. SoAdded doc (list o cs)) (sym valid.0) (list_comes doc cs valid.1 some)
+so_added doc (tree.map a cs) valid whole some = subst (λ o. SoAdded doc (tree.map o cs)) (sym valid.0) (mapping_comes doc cs valid.1 (whole.apart cs (ap (λ o. tree.map o cs) valid.0)) some)
 
 module _ (doc : ℕ) (v : Node) (valid : IsValueTree v) (so : SoAdded doc v) where
   there_comes : (p : FoundPlace) (cs : List Changed) → HaveUtf8Keys p.missing → add_below p.missing p v ≡ gives cs → Gain doc p.path (items_in v) (ops_of doc cs)
@@ -193,12 +198,12 @@ factor_some : (m n k : ℕ) → k < m * n → 0 < n
 factor_some m zero k h = absurd (omega (arith, h, mul-zero m))
 factor_some m (suc n) k h = omega arith
 
--- null has no items and entries
-not_null : (v : Node) → 0 < items_in v → is_null v ≡ false
-not_null (alias name) some = refl
-not_null (scalar a k t) some = absurd (omega (arith, some))
-not_null (list a cs) some = refl
-not_null (tree.map a cs) some = refl
+-- what is no scalar isn't null
+not_null : (v : Node) → is_scalar v ≡ false → is_null v ≡ false
+not_null (alias name) no_scalar = refl
+not_null (scalar a k t) no_scalar = absurd (false≢true (sym no_scalar))
+not_null (list a cs) no_scalar = refl
+not_null (tree.map a cs) no_scalar = refl
 
 -- operations by which too many items and entries come for a text
 all_gain : (doc n : ℕ) (ps : List FoundPlace) (ops : List Operation) → GainSome doc ps n ops → AreApart ps → items_limit < n → BeginsOversized ops
@@ -210,8 +215,8 @@ module _ (doc : ℕ) (root v : Node) (valid : IsValueTree v) (ps : List FoundPla
   puts_begin h = all_gain doc (length ps * items_in v) ps (ops_of doc cs) (each_comes doc (items_in v) root (λ p. put_with_path p v) (put_path doc v valid) ps cs keys h) apart more
 
   -- a value that is added there
-  pub adds_begin : HasEntriesApart v → at_each root (λ p. add_at p v) ps ≡ gives cs → BeginsOversized (ops_of doc cs)
-  adds_begin differ h =
+  pub adds_begin : ComesWhole v → at_each root (λ p. add_at p v) ps ≡ gives cs → BeginsOversized (ops_of doc cs)
+  adds_begin whole h =
       let some = factor_some (length ps) (items_in v) items_limit more in
-      let comes = add_path doc v valid (so_added doc v valid differ some) (not_null v some) in
+      let comes = add_path doc v valid (so_added doc v valid whole some) (not_null v whole.no_scalar) in
       all_gain doc (length ps * items_in v) ps (ops_of doc cs) (each_comes doc (items_in v) root (λ p. add_at p v) comes ps cs keys h) apart more

@@ -12,7 +12,7 @@ use Rattle.yq_semantics.{specs.Judgement.{Judgement, MatchFails, and_then, gives
 use Rattle.yq_semantics.{specs.Places.{FoundPlace, for_each, root_place}, specs.Plans.plan, specs.RightValues.right_value}
 use Rattle.yq_semantics.{specs.Program.{Stage, Term, Update, assign}, specs.declared.program.Operator.Operator}
 use Rattle.yq_expr.{specs.EffectView.{is_mapping, value_at}, proofs.AllChanges.value_there, proofs.SubstituteLaws.{add_alike, put_alike}}
-use Rattle.yq_expr.specs.Oversized.{ReplacesList}
+use Rattle.yq_expr.specs.Oversized.{HasSmall}
 use Rattle.yq_semantics.specs.declared.program.Operator.TheVariants as operator
 
 -- ---- an answer
@@ -62,16 +62,16 @@ pub value_judged : (root : Node) (right : Judgement Node) (adds : Bool) (ps : Li
 value_judged root right true ps v some is = value_there root right add_at ps v some is
 value_judged root right false ps v some is = value_there root right put_with_path ps v some is
 
--- a list is refused where its stand-in is: one value for all places, and one that is put at a place
-pub list_judged : (root : Node) (right : Judgement Node) (adds : Bool) (ps : List FoundPlace) (w : Node) → 0 < length ps → ReplacesList right w →
+-- what is given is refused where its stand-in is: one value for all places, and one that is put at a place
+pub small_judged : (root : Node) (right : Judgement Node) (adds : Bool) (ps : List FoundPlace) (w : Node) → 0 < length ps → HasSmall right w →
     verdict (with_value root right (if adds then add_at else put_with_path) ps) ≡ verdict (at_each root (value_at adds w) ps)
-list_judged root right adds ps w some h =
+small_judged root right adds ps w some h =
     ap verdict (value_judged root right adds ps h.0 some h.1)
-    ∙ places_alike root h.0 w adds ps (λ _ mapping. absurd (false≢true (sym (ap is_mapping h.2.1) ∙ mapping))) h.3
+    ∙ places_alike root h.0 w adds ps (λ _ mapping. absurd (false≢true (sym h.2 ∙ mapping))) h.3
 
-pub list_put : (root : Node) (p : FoundPlace) (right : Judgement Node) (w : Node) → ReplacesList right w →
+pub small_put : (root : Node) (p : FoundPlace) (right : Judgement Node) (w : Node) → HasSmall right w →
     verdict (and_then (all_allowed root) (and_then (put_with_path p) right)) ≡ verdict (and_then (all_allowed root) (put_with_path p w))
-list_put root p right w h = ap (λ j. verdict (and_then (all_allowed root) (and_then (put_with_path p) j))) h.1 ∙ put_alike root p h.0 w h.3
+small_put root p right w h = ap (λ j. verdict (and_then (all_allowed root) (and_then (put_with_path p) j))) h.1 ∙ put_alike root p h.0 w h.3
 
 -- an answer of which something is asked where it gives something
 pub ok_some : {A E B : Type 0} (r : Result (Option A) E) → B → IfOk r (λ o. IfSome o (λ _. B))

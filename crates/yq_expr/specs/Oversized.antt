@@ -1,7 +1,8 @@
--- Values that no text can hold, once or at many places, since they have more items and entries than a text may have (own).
+-- Values that no text can hold, once or at many places, since they have more items and entries than a text may have; eight bytes of a scalar's text
+-- count as one (own).
 use Rattle.std.specs.Prelude.{◌≡◌, ◌+◌, ◌<◌, ◌*◌, ◌⊎◌, ℕ, false, List, [], ◌∷◌, ◌++◌, length, map, if◌then◌else◌, Option, Some, None, ⊤}
 use Rattle.std.{specs.Prelude.{Bool, Result, ◌≤◌, true, IfOk, IfSome}, specs.Str.IsUtf8, specs.declared.alloc.AllocError.AllocError}
-use Rattle.yq_core.{specs.Tree.{Node, list, Children}, specs.Values.value_node, specs.declared.value.Value.Value}
+use Rattle.yq_core.{specs.Tree.{Node, alias, list, scalar, Children}, specs.Values.value_node, specs.declared.value.Value.Value}
 use Rattle.yq_documents.specs.Documents.{Document}
 use Rattle.yq_flow_edits.specs.Valued.{IsValueTree, AreValueTrees}
 use Rattle.yq_planner.{specs.ListSizes.HasSize, specs.Substitutes.IsSubstitute, specs.declared.updating.list_size.ListSize.ListSize}
@@ -13,13 +14,16 @@ use Rattle.yq_semantics.specs.Program.{PathStep, key, index, each, Stage, Term, 
 use Rattle.yq_semantics.{specs.Places.{FoundPlace, root_place}, specs.View.{update_of, term_of}, specs.declared.program.Operator.Operator}
 use Rattle.yq_eval.specs.PlaceView.{place_of, places_of}
 use Rattle.yq_expr.{specs.FixedPaths.IfAny, specs.Parts.{IsLater, values_limit}, specs.PlannedUpdates.{ops_inside, rest_in}}
-use Rattle.yq_expr.{specs.declared.parts.PlanPart.PlanPart, specs.declared.parts.OpenPart.OpenPart}
-use Rattle.yq_expr.specs.declared.document.DocumentRoot.{DocumentRoot}
+use Rattle.yq_expr.{specs.declared.parts.PlanPart.PlanPart, specs.declared.parts.OpenPart.OpenPart, specs.EffectView.is_mapping}
+use Rattle.yq_expr.{specs.declared.document.DocumentRoot.DocumentRoot, specs.declared.sum_sizes.SumSize.SumSize}
 use Rattle.yq_nodes.specs.Nodes.{node_of}
 use Rattle.yq_eval.specs.declared.matching.place.FoundPlace as place
 use Rattle.yq_semantics.specs.declared.program.Term as term
 use Rattle.yq_semantics.specs.declared.program.Operator.TheVariants as operator
 use Rattle.yq_semantics.specs.declared.program.Update as declared
+use Rattle.yq_core.specs.Tree as tree
+use Rattle.yq_core.specs.declared.kind.Kind.TheVariants as kinds
+use Rattle.yq_expr.specs.declared.sum_sizes.SumSize.TheVariants as sizes
 
 -- items are those of a list of known size, and valid (own)
 pub record AreItemsOf (cs : Children) (size : ListSize) : Type 0 where
@@ -34,28 +38,59 @@ AddsItems j size = (v : Node) × (j ≡ gives v) × (is_null v ≡ false) × Are
 abbrev pub GivesList : Judgement Node → ListSize → Type 0
 GivesList j size = (cs : Children) × (j ≡ gives (list None cs)) × AreItemsOf cs size
 
+-- a judgement gives a string that has so many bytes at least (own)
+abbrev pub GivesString : Judgement Node → ℕ → Type 0
+GivesString j n = (t : List ℕ) × (j ≡ gives (scalar None kinds.Text t)) × IsUtf8 t × (n ≤ length t)
+
+-- a judgement gives a list or a string of such a size (own)
+abbrev pub GivesSized : Judgement Node → SumSize → Type 0
+GivesSized j (sizes.List size) = GivesList j size
+GivesSized j (sizes.Text n) = GivesString j n
+
+-- what a judgement gives is valid where that has such a size, and so many items and entries at least (own)
+abbrev pub ItemsOfSize : SumSize → ℕ → Type 0
+ItemsOfSize size n = (j : Judgement Node) → GivesSized j size → (v : Node) × (j ≡ gives v) × IsValueTree v × (n ≤ items_in v)
+
 -- how many items and entries a text may have: each takes two bytes at least (own)
 abbrev pub items_limit : ℕ
 items_limit = 8388608
-
--- A list has more items and entries than a text may have, and is valid (own).
-pub record IsOversized (v : Node) : Type 0 where
-  pub items : Children
-  pub is : v ≡ list None items
-  pub valid : IsValueTree v
-  pub more : items_limit < items_in v
-
--- a judgement gives such a list (own)
-abbrev pub GivesOversized : Judgement Node → Type 0
-GivesOversized j = (v : Node) × (j ≡ gives v) × IsOversized v
 
 -- a value is a list (own)
 abbrev pub IsList : Node → Type 0
 IsList v = (cs : Children) × (v ≡ list None cs)
 
--- a judgement gives a list, and a small one is refused where that is (own)
-abbrev pub ReplacesList : Judgement Node → Node → Type 0
-ReplacesList j w = (v : Node) × (j ≡ gives v) × IsList v × IsSubstitute v w
+-- a value is a scalar (own)
+abbrev pub is_scalar : Node → Bool
+is_scalar (alias name) = false
+is_scalar (scalar a k t) = true
+is_scalar (list a cs) = false
+is_scalar (tree.map a cs) = false
+
+-- A value that an assignment puts, or adds, if it is a list, has more items and entries than a text may have, and is valid (own).
+pub record IsOversized (op : Operator) (v : Node) : Type 0 where
+  pub valid : IsValueTree v
+  pub added : op ≡ operator.Add → IsList v
+  pub more : items_limit < items_in v
+
+-- a judgement gives such a value (own)
+abbrev pub GivesOversized : Operator → Judgement Node → Type 0
+GivesOversized op j = (v : Node) × (j ≡ gives v) × IsOversized op v
+
+-- what has such a size is one (own)
+abbrev pub IsLargeSum : Operator → SumSize → Type 0
+IsLargeSum op size = (j : Judgement Node) → GivesSized j size → GivesOversized op j
+
+-- a small value is refused where another one is that is no mapping (own)
+abbrev pub IsSmallOf : Node → Node → Type 0
+IsSmallOf v w = (is_mapping v ≡ false) × IsSubstitute v w
+
+-- a judgement gives a value, and a small one is refused where that is (own)
+abbrev pub HasSmall : Judgement Node → Node → Type 0
+HasSmall j w = (v : Node) × (j ≡ gives v) × IsSmallOf v w
+
+-- a small value is refused where what has such a size is (own)
+abbrev pub IsSmallFor : SumSize → Value → Type 0
+IsSmallFor size w = (j : Judgement Node) → GivesSized j size → HasSmall j (value_node w)
 
 -- what a term gives, from a place (own)
 abbrev pub found_term : ℕ → place.FoundPlace → term.Term → Judgement Node
@@ -69,6 +104,11 @@ found_sum doc p ts = right_value doc (map term_of ts) (place_of p)
 abbrev pub SumsFrom : ℕ → place.FoundPlace → ListSize → List term.Term → Result (Option ListSize) AllocError → Type 0
 SumsFrom doc p first ts result = (cs : Children) → AreItemsOf cs first → IfAny result (GivesList (sum_from doc (place_of p) (list None cs) (map term_of ts)))
 
+-- an answer is as long as the sum of a string that has so many bytes at least and of terms (own)
+abbrev pub JoinsFrom : ℕ → place.FoundPlace → ℕ → List term.Term → Result (Option ℕ) AllocError → Type 0
+JoinsFrom doc p first ts result =
+    (t : List ℕ) → IsUtf8 t → first ≤ length t → IfAny result (GivesString (sum_from doc (place_of p) (scalar None kinds.Text t) (map term_of ts)))
+
 -- the keys of steps are UTF-8 (own)
 abbrev pub HaveUtf8Keys : List PathStep → Type 0
 HaveUtf8Keys [] = ⊤
@@ -76,7 +116,7 @@ HaveUtf8Keys (key k ∷ steps) = IsUtf8 k × HaveUtf8Keys steps
 HaveUtf8Keys (index i ∷ steps) = HaveUtf8Keys steps
 HaveUtf8Keys (each ∷ steps) = HaveUtf8Keys steps
 
--- the place from which the value of an assignment is found, by its operator: the place that gets it, or the root (yq manual)
+-- the place from which the value of an assignment is found, by its operator: the place that gets it, or the root (yq manual; own)
 abbrev pub value_start : Operator → Node → FoundPlace → FoundPlace
 value_start operator.Set root p = root_place root
 value_start operator.Modify root p = p
@@ -84,7 +124,7 @@ value_start operator.Add root p = root_place root
 
 -- what an assignment gives at a place is a value that no text can hold (own)
 abbrev pub GivesAt : ℕ → Node → Update → FoundPlace → Type 0
-GivesAt doc root (assign left op right) p = GivesOversized (right_value doc right (value_start op root p))
+GivesAt doc root (assign left op right) p = GivesOversized op (right_value doc right (value_start op root p))
 GivesAt doc root (delete left) p = ⊥
 GivesAt doc root (comment left place text) p = ⊥
 
@@ -109,7 +149,7 @@ pub record IsSpread (v : Node) (count : ℕ) : Type 0 where
   pub valid : IsValueTree v
   pub more : items_limit < count * items_in v
 
--- An assignment adds a value, or puts it, at so many places that no text can hold all items and entries (own).
+-- An assignment puts a value, or adds it, if it is no scalar, at so many places that no text can hold all items and entries (own).
 pub record SpreadsTooMany (d : DocumentRoot) (u : declared.Update) (count : ℕ) : Type 0 where
   pub adds : Bool
   pub left : List Stage
@@ -118,6 +158,7 @@ pub record SpreadsTooMany (d : DocumentRoot) (u : declared.Update) (count : ℕ)
   pub by : update_of u ≡ assign left (if adds then operator.Add else operator.Set) right
   pub found : right_value d.doc right (root_place (node_of d.root)) ≡ gives value
   pub spreads : IsSpread value count
+  pub whole : adds ≡ true → is_scalar value ≡ false
 
 -- in the valid value of terms from a place, with those of other places, are so many items and entries at least (own)
 abbrev pub GivesMore : ℕ → List Term → FoundPlace → (others : ℕ → Type 0) → ℕ → Type 0
@@ -199,6 +240,6 @@ pub record EndsPartAt (document : DocumentRoot) (update : declared.Update) (plac
 abbrev pub EndsPart : DocumentRoot → declared.Update → ℕ → OpenPart → OpenPart → Result (Option ℕ) ExprError → Type 0
 EndsPart document update place before after result = IfOk result (λ o. IfSome o (EndsPartAt document update place before after))
 
--- a small value is refused where the sum of terms is, a list (own)
+-- a small value is refused where the sum of terms is (own)
 abbrev pub ReplacesSum : ℕ → place.FoundPlace → List term.Term → Value → Type 0
-ReplacesSum doc p ts w = ReplacesList (found_sum doc p ts) (value_node w)
+ReplacesSum doc p ts w = HasSmall (found_sum doc p ts) (value_node w)

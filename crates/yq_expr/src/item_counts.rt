@@ -5,13 +5,14 @@ ghost use Rattle.yq_semantics.specs.Sizes.{items_among, items_in};
 
 use yq_core::Value;
 
-/// How many items and entries are in a value, at any depth: so many at least.
+/// How many items and entries are in a value, at any depth, of which eight bytes of a text count as one: so many at
+/// least.
 #[cycle(count)]
 pub(crate) fn count_in(value: &Value) -> usize
     ensures { result ≤ items_in (value_node value.now) }
 {
     match value {
-        Value::Scalar(_) => 0,
+        Value::Scalar(scalar) => scalar.text().len() / 8,
         Value::List(items) => count_items(items),
         Value::Map(entries) => count_entries(entries),
     }

@@ -9,7 +9,7 @@ ghost use Rattle.yq_eval.specs.TreeScalars.{HasScalars, HaveScalars};
 use crate::at_places::push_effect;
 use crate::document::{DocumentEffect, DocumentPlaces};
 use crate::effect::Action;
-use crate::oversized::small_sum;
+use crate::sum_sizes::small_sum;
 use std::alloc::Global;
 use yq_documents::Documents;
 use yq_eval::{FoundPlace, FoundPlaces, at_place};

@@ -11,6 +11,7 @@ mod heavy;
 mod item_counts;
 mod judged_places;
 mod judging;
+mod list_sums;
 mod many_keys;
 mod modified;
 mod oversized;
@@ -23,6 +24,8 @@ mod right_value;
 mod same_term;
 mod spread;
 mod steps;
+mod sum_sizes;
+mod text_sums;
 mod weights;
 
 pub use fixed::{is_sole, plan_by_rows};

@@ -7,10 +7,11 @@ ghost use Rattle.yq_expr.specs.Parts.{values_limit};
 ghost use Rattle.yq_failure.specs.declared.failure.Failure.TheVariants as failure;
 
 use crate::document::DocumentRoot;
-use crate::oversized::may_be_large;
+use crate::oversized::is_oversized;
 use crate::path_weights::path_weight;
 use crate::right_value::{right_value, term_value};
 use crate::same_term::{count_same, stays};
+use crate::sum_sizes::{ITEMS_LIMIT, may_be_large};
 use crate::weights::{VALUES_LIMIT, ValueWeight, weight};
 use bumpalo::Bump;
 use std::alloc::{AllocError, Global};
@@ -19,6 +20,9 @@ use yq_documents::Documents;
 use yq_eval::{FoundPlace, find};
 use yq_nodes::{Node, NodeKind};
 use yq_semantics::{Assignment, ExprError, Stage, Term};
+
+/// How many bytes a value takes at least that no text can hold, more or less.
+const VALUE_MOST: usize = 8 * ITEMS_LIMIT;
 
 /// How many bytes the value of a term takes; nothing, where it is refused.
 fn term_weight<'a, 't>(
@@ -71,8 +75,8 @@ fn adds_up<'a>(terms: &[Term], place: &FoundPlace<'a, '_>) -> bool {
     }
 }
 
-/// How many bytes the value takes that terms give from a place in a document, more or less; nothing, where they are
-/// refused.
+/// How many bytes the value takes that terms give from a place in a document, more or less: as many as a number may say,
+/// where no text can hold it; nothing, where they are refused.
 fn value_there<'a, 't>(
     alloc: Global,
     document: &DocumentRoot<'a, 't>,
@@ -82,7 +86,13 @@ fn value_there<'a, 't>(
     requires { HasScalars (place_of place.now).node }
     ensures { IfErr result (λ e. e ≡ failure.Memory) }
 {
-    if may_be_large(right, document.text_length()) && adds_up(right, place) {
+    let length = document.text_length();
+    if right.len().saturating_mul(length) > VALUE_MOST
+        && is_oversized(alloc, document.doc, right, place, length)?
+    {
+        return Ok(usize::MAX);
+    }
+    if may_be_large(right, length) && adds_up(right, place) {
         return Ok(terms_weight(alloc, document.doc, right, place)?);
     }
     match right_value(alloc, document.doc, right, place) {

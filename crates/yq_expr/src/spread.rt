@@ -4,12 +4,14 @@ ghost use Rattle.yq_core.specs.Values.{value_node};
 ghost use Rattle.yq_nodes.specs.Nodes.{node_of};
 ghost use Rattle.yq_eval.{specs.PlaceView.places_of, specs.TreeScalars.{HasScalars, HaveScalars}};
 ghost use Rattle.yq_semantics.specs.View.{term_of};
-ghost use Rattle.yq_expr.specs.Oversized.{BeginsLarge, GiveItems, IsSpread, ModifiesTooMuch, SpreadsTooMany, items_limit};
+ghost use Rattle.yq_expr.specs.Oversized.{BeginsLarge, GiveItems, IsSpread, ModifiesTooMuch, SpreadsTooMany, is_scalar, items_limit};
+ghost use Rattle.yq_semantics.specs.declared.program.Operator.TheVariants as operator;
 
 use crate::document::DocumentRoot;
 use crate::item_counts::count_in;
-use crate::oversized::{ITEMS_LIMIT, begins_oversized, sum_size};
+use crate::oversized::begins_oversized;
 use crate::right_value::right_value;
+use crate::sum_sizes::{ITEMS_LIMIT, sum_size};
 use crate::weights::assignment;
 use std::alloc::{AllocError, Global};
 use yq_core::Value;
@@ -25,13 +27,24 @@ fn are_too_many(items: usize, count: usize) -> bool
     items.saturating_mul(count) > ITEMS_LIMIT
 }
 
+/// Whether all of a value is in what an assignment gives a place: what is left of a scalar that is added isn't known.
+fn comes_whole(operator: Operator, value: &Value) -> bool
+    ensures { result ≡ true → operator ≡ operator.Add → is_scalar (value_node value.now) ≡ false }
+{
+    match (operator, value) {
+        (Operator::Add, Value::Scalar(_)) => false,
+        _ => true,
+    }
+}
+
 /// Whether a value is put, or added, at so many places that no text can hold all items and entries: those of a value
 /// that is added to a mapping or list are in that afterwards.
-fn is_spread(value: &Value, count: usize) -> bool
-    ensures { result ≡ true → IsSpread (value_node value.now) count }
+fn is_spread(operator: Operator, value: &Value, count: usize) -> bool
+    ensures spread { result ≡ true → IsSpread (value_node value.now) count }
+    ensures whole { result ≡ true → operator ≡ operator.Add → is_scalar (value_node value.now) ≡ false }
 {
     value_holds(value);
-    are_too_many(count_in(value), count)
+    comes_whole(operator, value) && are_too_many(count_in(value), count)
 }
 
 /// The same of the value of an assignment at so many places of a document.
@@ -57,14 +70,15 @@ fn spreads_too_many<'a>(
     }
     let from = FoundPlace::of_root(&document.root);
     match right_value(alloc, document.doc, right, &from) {
-        Ok(value) => Ok(is_spread(&value, count)),
+        Ok(value) => Ok(is_spread(assignment.operator, &value, count)),
         Err(ExprError::Fault(_)) => Ok(false),
         Err(ExprError::Memory) => Err(AllocError),
     }
 }
 
 /// How many items and entries are in the sums of terms, each from one of the first of places: so many at least, and no
-/// more are counted where they are more than a text may have, or a sum is no list of known size.
+/// more are counted where they are more than a text may have, or a sum is no list or string of
+/// known size.
 fn count_sums<'a, 't>(
     alloc: Global,
     document: &DocumentRoot<'a, 't>,
@@ -83,7 +97,7 @@ fn count_sums<'a, 't>(
         let Some(size) = sum_size(alloc, document.doc, right, place, length)? else {
             return Ok(count);
         };
-        count = count.saturating_add(size.items);
+        count = count.saturating_add(size.items());
     }
     Ok(count)
 }

@@ -1,3 +1,4 @@
+pub mod TextSizes
 pub mod FlowSizes
 pub mod RowSizes
 pub mod AfterSizes

@@ -1,13 +1,13 @@
--- How many items and entries are in nodes and documents (own).
-use Rattle.std.specs.Prelude.{ℕ, suc, ◌+◌, List, [], ◌∷◌}
+-- How many items and entries are in nodes and documents; eight bytes of a scalar's text count as one (own).
+use Rattle.std.specs.Prelude.{ℕ, suc, ◌+◌, ◌/◌, List, [], ◌∷◌, length}
 use Rattle.yq_core.specs.Tree.{Node, alias, scalar, list, map, Children, none, child}
 use Rattle.yq_documents.specs.Documents.{Document}
 
 abbrev mutual
-  -- how many items and entries are in a node, at any depth (own)
+  -- how many items and entries are in a node, at any depth; in a scalar one for each eight bytes of its text (own)
   pub items_in : Node → ℕ
   items_in (alias name) = 0
-  items_in (scalar anchor kind text) = 0
+  items_in (scalar anchor kind text) = length text / 8
   items_in (list anchor cs) = items_among cs
   items_in (map anchor cs) = items_among cs
 

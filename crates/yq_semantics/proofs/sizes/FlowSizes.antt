@@ -1,11 +1,11 @@
--- An inline node takes two bytes at least for each item and entry in it.
+-- An inline node takes two bytes at least for each item and entry in it, and for each eight bytes that its scalars mean.
 use Rattle.std.proofs.Common.{◌≡◌, ℕ, zero, suc, ◌+◌, ◌*◌, ◌≤◌, Bool, true, false, ◌||◌, not, List, ◌∷◌, ◌++◌, length, Option, Some, refl}
 use Rattle.std.{proofs.Common.{sym, ◌∙◌, arith, length-append, rules}, proofs.lemmas.Bool.false≢true}
 use Rattle.yq_core.specs.Nodes.{Key, bare, keyed, Sep, last, comma, FlowNode, empty, alias, scalar, coll, anchored, Items, none, item}
 use Rattle.yq_core.specs.Nodes.{IsSep, key_text, sep_text, node_text, flow_items_text, begins_with, is_close, is_empty_node, is_keyed}
 use Rattle.yq_core.{specs.Nodes.{IsFlowNode, AreFlowItems}, specs.Trees.{tree_of, items_tree, tree_collection, with_name}}
 use Rattle.yq_core.{specs.Tree.{Node, Children}, proofs.NodesPieceLaws.scalar_some, proofs.NodeAgain.{item_front, items_longer}}
-use Rattle.yq_semantics.specs.Sizes.{items_in, items_among}
+use Rattle.yq_semantics.{specs.Sizes.{items_in, items_among}, proofs.sizes.TextSizes.scalar_size}
 use Rattle.yq_core.specs.Tree as tree
 
 -- the byte that something takes at least
@@ -51,7 +51,7 @@ mutual
       byte_of (is_empty_node n) + (2 * items_in (tree_of n) + length rest) ≤ length (node_text n rest)
   node_bytes flow spaces d empty rest h = omega arith
   node_bytes flow spaces d (alias n) rest h = omega (arith, length-append n rest)
-  node_bytes flow spaces d (scalar p) rest h = omega (arith, length-append p rest, scalar_some flow spaces p rest h)
+  node_bytes flow spaces d (scalar p) rest h = omega (arith, length-append p rest, scalar_size p (scalar_some flow spaces p rest h))
   node_bytes flow spaces (suc d) (coll k g is) rest h =
       let inside = items_bytes d k is rest h.0 h.2 in
       omega (arith, collected k (items_tree is), length-append g (flow_items_text k is rest), inside)

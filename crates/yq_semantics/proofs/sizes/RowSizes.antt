@@ -1,8 +1,9 @@
--- A text has two bytes at least for each item and entry of the documents as which it reads, but for the last one's break.
-use Rattle.std.proofs.Common.{◌≡◌, ℕ, suc, ◌+◌, ◌*◌, ◌≤◌, ℤ, Bool, true, false, ◌||◌, not, List, [], ◌∷◌, ◌++◌, length, Option, Some, None}
-use Rattle.std.{proofs.Common.{refl, sym, arith, ⊎_elim, length-append, rules, replicate}, proofs.lemmas.List.length-replicate}
+-- A text has two bytes at least for each item and entry of the documents as which it reads, and for each eight bytes that their
+-- scalars mean, but for the last one's break.
+use Rattle.std.proofs.Common.{◌≡◌, ℕ, suc, ◌+◌, ◌*◌, ◌/◌, ◌≤◌, ℤ, Bool, true, false, ◌||◌, not, List, [], ◌∷◌, ◌++◌, length, Option, Some}
+use Rattle.std.{proofs.Common.{None, refl, sym, arith, ⊎_elim, length-append, rules, replicate}, proofs.lemmas.List.length-replicate}
 use Rattle.yq_core.{specs.Nodes.{FlowNode, node_text, IsFlowNode}, specs.Trees.{node_head, tree_of}, specs.Tree.{Node, Children}}
-use Rattle.yq_core.{specs.Block.{BlockText, block_text}, specs.Text.joined}
+use Rattle.yq_core.{specs.Block.{AreRaw, BlockText, block_text}, specs.BlockContent.block_content, specs.Text.joined}
 use Rattle.yq_row_table.specs.Rows.{RowMark, Anchor, anchor_text, Content, Nothing, Inline, content_text, mark_text, dashes_text, Row}
 use Rattle.yq_row_table.specs.Rows.{after_dashes, following_gap, print_row, rows_text, Part, Cut, last, marked, cut_text, parent_indent}
 use Rattle.yq_row_table.specs.Grammar.{AreDashes, IsContent, IsMark, IsTail, IsRow, AreRows, AreParts, Limit, begins_document, limit_after}
@@ -12,6 +13,7 @@ use Rattle.yq_outline.{specs.Grammar.deeper_lines, specs.Outline.{Line, LineMark
 use Rattle.yq_outline.specs.Lines.{lines_from, row_lines, lines_of_rows, head_of, line_mark}
 use Rattle.yq_documents.specs.Documents.{Document, AreDocuments, ReadsDocuments, IsRoot, parts_from, with_part, begins_bare, has_begin}
 use Rattle.yq_semantics.{specs.Sizes.{items_in, items_among, items_of_all}, proofs.sizes.FlowSizes.node_bytes}
+use Rattle.yq_semantics.proofs.sizes.TextSizes.{block_text_size}
 use native.Mathlib.Nat.{zero-add}
 use Rattle.yq_core.specs.Nodes as inline
 use Rattle.yq_core.specs.Tree as tree
@@ -101,15 +103,21 @@ content_size n (Nothing tail) rest h = omega (arith, tail_size tail rest h)
 content_size n (Inline space node tail) rest h =
     omega (arith, length-append space (node_text node (tail ++ rest)), tail_size tail rest h.2, node_size _ _ _ node (tail ++ rest) h.1.valid)
 content_size n (rows.Block space anchor block) rest h =
-    omega (arith, length-append space (anchor_text anchor (block_text block rest)), anchor_size anchor (block_text block rest), block_size block rest)
+    omega (arith, length-append space (anchor_text anchor (block_text block rest)), anchor_size anchor (block_text block rest), block_size block rest h.2.lines)
   where
     anchor_size : (a : Option Anchor) (t : List ℕ) → length t ≤ length (anchor_text a t)
     anchor_size None t = omega arith
     anchor_size (Some a) t = omega (arith, length-append a.name (a.gap ++ t), length-append a.gap t)
 
-    block_size : (b : BlockText) (t : List ℕ) → suc (length t) ≤ length (block_text b t)
-    block_size b t =
-        omega (arith, length-append b.indicators (b.tail ++ (joined b.raw ++ t)), length-append b.tail (joined b.raw ++ t), length-append (joined b.raw) t)
+    block_size : (b : BlockText) (t : List ℕ) → AreRaw b.indent b.raw → suc (2 * (length (block_content b) / 8) + length t) ≤ length (block_text b t)
+    block_size b t lines =
+        omega (
+          arith,
+          length-append b.indicators (b.tail ++ (joined b.raw ++ t)),
+          length-append b.tail (joined b.raw ++ t),
+          length-append (joined b.raw) t,
+          block_text_size b lines,
+        )
 
 mark_size : (m : RowMark) (c : Content) (rest : List ℕ) (left : ℕ) → IsMark m c rest → suc left ≤ length (content_text c rest) + at_end rest →
     2 * of_mark (line_mark m) + left ≤ length (mark_text m (content_text c rest)) + at_end rest

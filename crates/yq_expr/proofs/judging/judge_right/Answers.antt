@@ -4,8 +4,7 @@ use Rattle.yq_nodes.specs.Nodes.{node_of}
 use Rattle.yq_planner.specs.Substitutes.{verdict}
 use Rattle.yq_semantics.{specs.Judgement.{Judges, gives}, specs.Places.root_place, specs.RightValues.right_value, specs.View.term_of}
 use Rattle.yq_eval.{specs.FoundView.found_places, proofs.EachLaws.failed}
-use Rattle.yq_expr.{proofs.AllChanges.value_fails, proofs.VerdictLaws.{list_judged, value_judged, verdict_fails}}
-use Rattle.yq_expr.specs.Oversized.{ReplacesList}
+use Rattle.yq_expr.{proofs.AllChanges.value_fails, proofs.VerdictLaws.{small_judged, value_judged, verdict_fails}, specs.Oversized.HasSmall}
 use Rattle.yq_expr.proofs.judging.judge_right.Goals as goal
 
 pub returns-in_err-value : goal.returns-in_err-value
@@ -24,7 +23,7 @@ pub returns-in-Some : goal.returns-in-Some
 returns-in-Some c =
     let root = node_of c.args.found.now.document.root in
     let j = right_value c.args.found.now.document.doc (map term_of c.args.right.now) (root_place root) in
-    let large : ReplacesList j (value_node c.in-Some.small) = search (rules, c.in-Some.is, c.of_root-from.ensures) in
+    let large : HasSmall j (value_node c.in-Some.small) = search (rules, c.in-Some.is, c.of_root-from.ensures) in
     subst (Judges (λ _. tt) c.judge_one.result)
-    (sym (list_judged root j c.args.adds (found_places c.args.found.now.places) (value_node c.in-Some.small) c.requires.some large))
+    (sym (small_judged root j c.args.adds (found_places c.args.found.now.places) (value_node c.in-Some.small) c.requires.some large))
     (c.judge_one.ensures root c.requires.aliases c.requires.places.within)

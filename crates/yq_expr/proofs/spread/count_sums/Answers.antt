@@ -1,7 +1,7 @@
 use Rattle.std.proofs.Common.{rules, ℕ, ◌+◌, List, drop, map, sym, subst, arith}
 use Rattle.yq_eval.{specs.PlaceView.{place_of, places_of}, specs.TreeScalars.HaveScalars, proofs.EachLaws.reached}
 use Rattle.yq_semantics.{specs.Program.Term, specs.RightValues.right_value, specs.View.term_of}
-use Rattle.yq_expr.{specs.Oversized.{GiveItems, GivesList}, proofs.OversizedLaws.{fewer_given, given_so_far, none_given, one_given}}
+use Rattle.yq_expr.{specs.Oversized.{GiveItems, GivesSized}, proofs.OversizedLaws.{fewer_given, given_so_far, none_given, one_given}}
 use Rattle.yq_expr.proofs.spread.count_sums.Goals as goal
 
 pub places-init : goal.places-init
@@ -17,11 +17,11 @@ places-preserved c =
     let right : List Term = map term_of c.args.right.now in
     let rest = places_of (drop (c.places.place-index + 1) c.args.places.now) in
     let step = reached place_of c.args.places.now c.places.place-index c.place-item.result c.places-test.true c.place-item.is in
-    let sized : GivesList (right_value doc right (place_of c.place-item.result)) c.in-Some.size = rw c.in-Some.is at c.in_ok-size.ensures in
+    let sized : GivesSized (right_value doc right (place_of c.place-item.result)) c.in-Some.size = rw c.in-Some.is at c.in_ok-size.ensures in
     let so_far : (m : ℕ) → GiveItems doc right rest m → GiveItems doc right (places_of c.args.places.now) (c.saturating_add-count.result + m) =
-    λ m h. fewer_given doc right (places_of c.args.places.now) (c.places.count + (c.in-Some.size.items + m)) (c.saturating_add-count.result + m)
-    (c.places.invariant.so_far (c.in-Some.size.items + m) (subst (λ qs. GiveItems doc right qs (c.in-Some.size.items + m)) (sym step)
-    (one_given doc right (place_of c.place-item.result) rest c.in-Some.size m sized h)))
+    λ m h. fewer_given doc right (places_of c.args.places.now) (c.places.count + (c.items-size.result + m)) (c.saturating_add-count.result + m)
+    (c.places.invariant.so_far (c.items-size.result + m) (subst (λ qs. GiveItems doc right qs (c.items-size.result + m)) (sym step)
+    (one_given doc right (place_of c.place-item.result) rest c.in-Some.size c.items-size.result m c.items-size.ensures sized h)))
     (omega (arith, c.saturating_add-count.ensures)) in
     record {
       scalars = (subst HaveScalars step c.places.invariant.scalars).1;

@@ -26,5 +26,6 @@ returns-in-Ok c = λ many.
       value = value_node c.in-Ok.value;
       by = ap update_of c.in-Some.ensures.is ∙ (ap (λ o. assign left o (map term_of a.right.items)) kept.1 ∙ ap (λ ts. assign left op (map term_of ts)) (sym c.deref-right.ensures.value));
       found = subst (λ p. right_value d.doc right p ≡ gives (value_node c.in-Ok.value)) c.of_root-from.ensures c.in-Ok.ensures;
-      spreads = c.is_spread.ensures many;
+      spreads = c.is_spread.ensures.spread many;
+      whole = λ adds. c.is_spread.ensures.whole many (kept.1 ∙ ap (λ (b : Bool). if b then operator.Add else operator.Set) adds);
     }

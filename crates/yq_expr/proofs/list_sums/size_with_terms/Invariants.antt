@@ -3,7 +3,7 @@ use Rattle.yq_core.specs.Tree.{Children, list}
 use Rattle.yq_semantics.{specs.RightValues.{sum_from, term_value}, specs.View.term_of}
 use Rattle.yq_eval.specs.PlaceView.{place_of}
 use Rattle.yq_expr.specs.Oversized.{AddsItems, AreItemsOf}
-use Rattle.yq_expr.proofs.oversized.size_with_terms.Given as goal
+use Rattle.yq_expr.proofs.list_sums.size_with_terms.Given as goal
 
 abbrev pub invariant-terms : goal.invariant-terms
 invariant-terms l = record {

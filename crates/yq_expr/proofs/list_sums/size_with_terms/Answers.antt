@@ -3,7 +3,7 @@ use Rattle.yq_core.specs.Tree.{list}
 use Rattle.yq_eval.{specs.PlaceView.place_of, proofs.EachLaws.reached}
 use Rattle.yq_semantics.{specs.RightValues.{sum_from, term_value}, specs.View.term_of}
 use Rattle.yq_expr.{specs.Oversized.AddsItems, proofs.OversizedLaws.one_more}
-use Rattle.yq_expr.proofs.oversized.size_with_terms.Goals as goal
+use Rattle.yq_expr.proofs.list_sums.size_with_terms.Goals as goal
 
 pub terms-preserved : goal.terms-preserved
 terms-preserved c =
