@@ -1,22 +1,20 @@
 -- One more item or entry put into a collection of a head that was empty, right after the last one.
-use Rattle.std.proofs.Common.{◌≡◌, ℕ, ◌-◌, ◌≤◌, ◌<◌, Bool, true, cond, List, [], ◌∷◌, ◌++◌, drop, length, take, Option, Some, None, refl}
-use Rattle.std.{proofs.Common.{sym, ap, ◌∙◌, append-nil, arith}, proofs.lemmas.Bool.false≢true}
-use Rattle.std.{proofs.lemmas.List.{drop_all, length-drop, length-take-le}, specs.Option.option_or}
-use Rattle.yq_text.{specs.Limit.text_limit, specs.Script.{Segment, new_text, splice_at}}
-use Rattle.yq_core.{specs.Answers.◌>>=◌, specs.Paths.Step, specs.Tree.Node, specs.Collections.CollPieces}
+use Rattle.std.proofs.Common.{◌≡◌, ℕ, ◌-◌, ◌≤◌, ◌<◌, Bool, true, cond, List, [], ◌∷◌, ◌++◌, drop, length, take, Option, Some, refl, sym, ap}
+use Rattle.std.{proofs.Common.{◌∙◌, append-nil, arith}, proofs.lemmas.Bool.false≢true}
+use Rattle.std.proofs.lemmas.List.{drop_all, length-drop, length-take-le}
+use Rattle.yq_text.{specs.Limit.text_limit, specs.Script.{new_text, splice_at}}
+use Rattle.yq_core.{specs.Paths.Step, specs.Tree.Node, specs.Collections.CollPieces}
 use Rattle.yq_flow_edits.specs.FlowEdits.{FlowEdit, after_appended}
 use Rattle.yq_row_table.specs.Rows.{Cut, cut_text}
 use Rattle.yq_documents.specs.Reading.{read_at}
-use Rattle.yq_places.specs.FlowNodes.{flow_collection}
 use Rattle.yq_semantics.{specs.Operations.append, specs.declared.refusal.Refusal.TheVariants.TooLarge}
-use Rattle.yq_edit_rules.{specs.Edits.{op_edits, or_stay}, specs.FlowParts.{flow_more, flow_segments, takes_key}, specs.Operands.HasOperand}
+use Rattle.yq_edit_rules.{specs.FlowParts.{flow_segments, takes_key}, specs.Operands.HasOperand}
 use Rattle.yq_edit_laws.{specs.PartPuts.more_edit, proofs.CutLaws.text_read}
-use Rattle.yq_edit_laws.proofs.FlowAppendLaws.{appended_reads, following_end, head_after, next, following_part}
-use Rattle.yq_edit_laws.{proofs.HeadPlacements.no_rows_more, proofs.LaterEnds.ends_on, specs.Carried.{carried, carry_one}}
-use Rattle.yq_edit_laws.{specs.Edit.{by_reading, edit_of_segments, gives, refuses}, specs.Theorems.IsFitting}
+use Rattle.yq_edit_laws.{proofs.FlowAppendLaws.{appended_reads, following_end, head_after, next, following_part}, proofs.LaterEnds.ends_on}
+use Rattle.yq_edit_laws.{specs.Carried.carried, specs.Edit.{edit_of_segments, gives, refuses}, specs.Theorems.IsFitting}
 use Rattle.yq_batch.{specs.FilledRuns.IsFilledCollection, specs.Runs.{IsPutRun, text_with_run}}
-use Rattle.yq_batch.{proofs.PutComes.{made_text, new_is, segments_come, segments_large}, proofs.RunEdits.{fits_now, run_out, run_splices}}
-use Rattle.yq_batch.proofs.HeadRunLaws.{head_row_on}
+use Rattle.yq_batch.proofs.PutComes.{made_text, new_is, segments_come, segments_large, more_comes}
+use Rattle.yq_batch.{proofs.RunEdits.{fits_now, run_out, run_splices}, proofs.HeadRunLaws.head_row_on}
 use Rattle.yq_edit_laws.proofs.FlowAppendLaws as more
 
 module _ (c : Cut) (n : ℕ) (stem left : List Step) (key : Option (List ℕ)) (v : Node) (out : List ℕ) (done : ℕ) (run : IsPutRun c n stem out done)
@@ -45,16 +43,8 @@ module _ (c : Cut) (n : ℕ) (stem left : List Step) (key : Option (List ℕ)) (
   takes_now : takes_key z.close key ≡ true
   takes_now = ap (λ (k : ℕ). takes_key k key) f.close ∙ takes
 
-  edits : op_edits (append n path key v) run.cut ≡ Some (flow_segments (cut_text run.cut) e)
-  edits =
-      ap (λ (o : Option (List Segment)). option_or o (flow_collection n path run.cut >>= flow_more (cut_text run.cut) key v)) (no_rows_more run.cut n path z key v read f.found)
-      ∙ (ap (λ (o : Option CollPieces). o >>= flow_more (cut_text run.cut) key v) f.found
-      ∙ ap (λ (b : Bool). cond b (Some (flow_segments (cut_text run.cut) e)) None) takes_now)
-
   comes : carried (append n path key v) now ≡ edit_of_segments (flow_segments (cut_text run.cut) e)
-  comes =
-      ap (carried (append n path key v)) (sym text)
-      ∙ (ap (by_reading (carry_one (append n path key v))) read ∙ ap (λ (o : Option (List Segment)). edit_of_segments (or_stay run.cut o)) edits)
+  comes = more_comes now run.cut n path key v z run.read f.found takes_now
 
   -- it comes where the run ends
   split : cut_text run.cut ≡ out ++ (e.old ++ e.after)

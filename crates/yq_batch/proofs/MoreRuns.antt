@@ -1,23 +1,21 @@
 -- One more item or entry put into a collection of a head, after what was put before.
-use Rattle.std.proofs.Common.{◌≡◌, ℕ, ◌+◌, ◌-◌, ◌≤◌, ◌<◌, Bool, true, cond, List, [], ◌∷◌, ◌++◌, drop, length, Option, Some, None, refl}
-use Rattle.std.{proofs.Common.{sym, ap, ◌∙◌, arith}, specs.Option.option_or}
-use Rattle.yq_core.{specs.NodesWritten.{flow_key, flow_of}, specs.Answers.◌>>=◌, specs.Paths.Step, specs.Tree.Node}
-use Rattle.yq_core.specs.Collections.{CollPieces}
-use Rattle.yq_text.{specs.Limit.text_limit, specs.Script.{Segment, new_text, script_text_before, keep, put}}
+use Rattle.std.proofs.Common.{◌≡◌, ℕ, ◌+◌, ◌-◌, ◌≤◌, ◌<◌, Bool, true, cond, List, [], ◌∷◌, ◌++◌, drop, length, Option, Some, refl, sym, ap}
+use Rattle.std.proofs.Common.{◌∙◌, arith}
+use Rattle.yq_core.{specs.NodesWritten.{flow_key, flow_of}, specs.Paths.Step, specs.Tree.Node, specs.Collections.CollPieces}
+use Rattle.yq_text.{specs.Limit.text_limit, specs.Script.{new_text, script_text_before, keep, put}}
 use Rattle.yq_flow_edits.{specs.FlowEdits.{FlowEdit, is_none}, specs.FlowPlaces.PlacedEdit}
 use Rattle.yq_row_table.specs.Rows.{Cut, cut_text}
 use Rattle.yq_documents.specs.Reading.{read_at}
 use Rattle.yq_places.specs.FlowNodes.{flow_collection}
 use Rattle.yq_semantics.{specs.Operations.append, specs.declared.refusal.Refusal.TheVariants.TooLarge}
-use Rattle.yq_edit_rules.{specs.Edits.{op_edits, or_stay}, specs.FlowParts.{flow_more, flow_segments, takes_key}, specs.Operands.HasOperand}
+use Rattle.yq_edit_rules.{specs.FlowParts.{flow_segments, takes_key}, specs.Operands.HasOperand}
 use Rattle.yq_edit_laws.{specs.PartPuts.{EndsAsIn, IsEditPlace, more_edit}, proofs.CutLaws.text_read}
-use Rattle.yq_edit_laws.proofs.FlowAppendLaws.{appended_reads, following_end, head_after, next, following_part}
-use Rattle.yq_edit_laws.{proofs.HeadPlacements.no_rows_more, proofs.LaterEnds.ends_on, specs.Carried.{carried, carry_one}}
-use Rattle.yq_edit_laws.{specs.Edit.{by_reading, edit_of_segments, gives, refuses}, specs.Theorems.IsFitting}
+use Rattle.yq_edit_laws.{proofs.FlowAppendLaws.{appended_reads, following_end, head_after, next, following_part}, proofs.LaterEnds.ends_on}
+use Rattle.yq_edit_laws.{specs.Carried.carried, specs.Edit.{edit_of_segments, gives, refuses}, specs.Theorems.IsFitting}
 use Rattle.yq_batch.specs.Runs.{IsPutRun, text_with_run}
 use Rattle.yq_batch.proofs.RunEdits.{edit_large, edit_size, edit_there, fits_now, left_is, new_text_is, run_out, run_splices}
 use Rattle.yq_batch.{proofs.CollectionLeft.{after_first, has_some, more_there, with_items}, specs.FilledRuns.IsFilledCollection}
-use Rattle.yq_batch.proofs.HeadRunLaws.{head_row_on}
+use Rattle.yq_batch.{proofs.HeadRunLaws.head_row_on, proofs.PutComes.more_comes}
 use Rattle.yq_edit_laws.proofs.FlowAppendLaws as more
 
 module _ (c : Cut) (n : ℕ) (stem left : List Step) (key : Option (List ℕ)) (v : Node) (out : List ℕ) (done : ℕ) (run : IsPutRun c n stem out done)
@@ -76,16 +74,8 @@ module _ (c : Cut) (n : ℕ) (stem left : List Step) (key : Option (List ℕ)) (
       λ i. let b : List ℕ = there.2.after i in
       keep (script_text_before (cut_text run.cut) b) ∷ (put [] (cond (there.2.none i) [] (44 ∷ (32 ∷ []))) ∷ (put [] e.written ∷ (keep b ∷ [])))
 
-  edits : op_edits (append n path key v) run.cut ≡ Some (flow_segments (cut_text run.cut) e)
-  edits =
-      ap (λ (o : Option (List Segment)). option_or o (flow_collection n path run.cut >>= flow_more (cut_text run.cut) key v)) (no_rows_more run.cut n path z key v read there.1)
-      ∙ (ap (λ (o : Option CollPieces). o >>= flow_more (cut_text run.cut) key v) there.1
-      ∙ (ap (λ (b : Bool). cond b (Some (flow_segments (cut_text run.cut) (more_edit key v z))) None) takes_now ∙ ap Some same_segments))
-
   comes : carried (append n path key v) now ≡ edit_of_segments (flow_segments (cut_text run.cut) e)
-  comes =
-      ap (carried (append n path key v)) (sym text)
-      ∙ (ap (by_reading (carry_one (append n path key v))) read ∙ ap (λ (o : Option (List Segment)). edit_of_segments (or_stay run.cut o)) edits)
+  comes = more_comes now run.cut n path key v z run.read there.1 takes_now ∙ ap edit_of_segments same_segments
 
   abbrev new_out : List ℕ
   new_out = run_out t out done start (place.lead ++ written)

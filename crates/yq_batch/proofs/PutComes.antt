@@ -9,12 +9,13 @@ use Rattle.yq_flow_edits.specs.FlowEdits.{FlowEdit}
 use Rattle.yq_row_table.specs.Rows.{Cut, cut_text}
 use Rattle.yq_documents.specs.Reading.{read_at}
 use Rattle.yq_places.{specs.NodesAt.node_in, specs.Placements.{FlowPart, Placement, flow_part, flow_placement, last_step, placement_at}}
-use Rattle.yq_semantics.{specs.Operations.replace, specs.declared.refusal.Refusal.TheVariants.TooLarge}
-use Rattle.yq_edit_rules.{specs.Edits.{op_edits, or_stay}, specs.FlowParts.{flow_put, flow_segments}, specs.Layouts.layout_of}
-use Rattle.yq_edit_rules.{specs.ReplaceEdits.{has_text, value_put}, specs.Replacing.keeps_scalar}
-use Rattle.yq_edit_laws.{specs.PartPuts.put_edit, proofs.CutLaws.cut_read, proofs.FlowEditLaws.before_is}
+use Rattle.yq_places.specs.FlowNodes.{flow_collection}
+use Rattle.yq_semantics.{specs.Operations.{replace, append}, specs.declared.refusal.Refusal.TheVariants.TooLarge}
+use Rattle.yq_edit_rules.{specs.Edits.{op_edits, or_stay}, specs.FlowParts.{flow_put, flow_segments, flow_more, takes_key}}
+use Rattle.yq_edit_rules.{specs.Layouts.layout_of, specs.ReplaceEdits.{has_text, value_put}, specs.Replacing.keeps_scalar}
+use Rattle.yq_edit_laws.{specs.PartPuts.{put_edit, more_edit}, proofs.CutLaws.{cut_read, text_read}, proofs.FlowEditLaws.before_is}
 use Rattle.yq_edit_laws.{proofs.FlowPartNodes.{none_there, part_node}, proofs.FlowPlacements.EntryAt, specs.Carried.{carried, carry_one}}
-use Rattle.yq_edit_laws.specs.Edit.{by_reading, exchange_edit, edit_of_segments, gives, refuses}
+use Rattle.yq_edit_laws.{specs.Edit.{by_reading, exchange_edit, edit_of_segments, gives, refuses}, proofs.HeadPlacements.no_rows_more}
 use Rattle.yq_text.specs.Exchanging as exchange
 
 -- ---- the splices
@@ -91,3 +92,16 @@ module _ (d : Cut) (n : ℕ) (path : List Step) (v : Node) (read : read_at (cut_
   -- another value
   pub put_comes : keeps_scalar (Some (tree_of a.item.node)) v ≡ false → carried (replace n path v) t ≡ edit_of_segments (flow_segments t (put_edit v part))
   put_comes other = comes (flow_put t v part) (by_kept false other)
+
+-- one more item or entry in a collection that takes it
+pub more_comes : (now : List ℕ) (d : Cut) (n : ℕ) (path : List Step) (key : Option (List ℕ)) (v : Node) (z : CollPieces) → read_at now ≡ Some d → flow_collection n path d ≡ Some z → takes_key z.close key ≡ true →
+    carried (append n path key v) now ≡ edit_of_segments (flow_segments (cut_text d) (more_edit key v z))
+more_comes now d n path key v z is found takes =
+    let text : cut_text d ≡ now = text_read now d is in
+    let read : read_at (cut_text d) ≡ Some d = ap read_at text ∙ is in
+    let edits : op_edits (append n path key v) d ≡ Some (flow_segments (cut_text d) (more_edit key v z)) =
+    ap (λ (o : Option (List Segment)). option_or o (flow_collection n path d >>= flow_more (cut_text d) key v)) (no_rows_more d n path z key v read found)
+    ∙ (ap (λ (o : Option CollPieces). o >>= flow_more (cut_text d) key v) found
+    ∙ ap (λ (b : Bool). cond b (Some (flow_segments (cut_text d) (more_edit key v z))) None) takes) in
+    ap (carried (append n path key v)) (sym text)
+    ∙ (ap (by_reading (carry_one (append n path key v))) read ∙ ap (λ (o : Option (List Segment)). edit_of_segments (or_stay d o)) edits)

@@ -1,22 +1,21 @@
 -- One more item or entry put into a collection of a head, whatever was put at other places.
 use Rattle.std.proofs.Common.{◌≡◌, ℕ, ◌+◌, ◌-◌, ◌≤◌, Bool, true, false, cond, List, [], ◌∷◌, ◌++◌, drop, take, length, Option, Some, None}
 use Rattle.std.{proofs.Common.{refl, sym, ap, ◌∙◌, subst, arith, append_assoc, append-nil, length-append}, proofs.Math.Seq.drop-append_seam}
-use Rattle.std.{proofs.lemmas.List.{drop_all, length-take-le}, specs.Option.option_or, proofs.lemmas.Bool.false≢true}
-use Rattle.std.{proofs.lemmas.Option.none-some, specs.Str.IsCharBoundary}
-use Rattle.yq_text.{specs.Limit.text_limit, specs.Script.{Segment, splice_at}}
-use Rattle.yq_core.{specs.Answers.◌>>=◌, specs.Paths.Step, specs.Tree.Node, specs.Collections.CollPieces}
+use Rattle.std.{proofs.lemmas.List.{drop_all, length-take-le}, proofs.lemmas.Bool.false≢true, proofs.lemmas.Option.none-some}
+use Rattle.std.specs.Str.{IsCharBoundary}
+use Rattle.yq_text.{specs.Limit.text_limit, specs.Script.splice_at}
+use Rattle.yq_core.{specs.Paths.Step, specs.Tree.Node, specs.Collections.CollPieces}
 use Rattle.yq_flow_edits.{specs.FlowEdits.{FlowEdit, is_none}, specs.FlowPlaces.PlacedEdit}
 use Rattle.yq_row_table.specs.Rows.{Cut, cut_text}
 use Rattle.yq_documents.specs.Reading.{documents, read_at}
 use Rattle.yq_places.specs.FlowNodes.{flow_collection}
 use Rattle.yq_semantics.{specs.Fits.Fits, specs.Operations.append, specs.Rooms.room_of}
-use Rattle.yq_edit_rules.{specs.Edits.{op_edits, or_stay}, specs.FlowParts.{flow_more, flow_segments, takes_key}, specs.Operands.HasOperand}
+use Rattle.yq_edit_rules.{specs.FlowParts.{flow_segments, takes_key}, specs.Operands.HasOperand}
 use Rattle.yq_edit_laws.{specs.PartPuts.{IsEditPlace, more_edit}, proofs.CutLaws.text_read}
 use Rattle.yq_edit_laws.proofs.EarlierPuts.{coll_before_more, part_before_more}
-use Rattle.yq_edit_laws.proofs.FlowAppendLaws.{appended_reads, following_end, head_after, next, following_part}
-use Rattle.yq_edit_laws.{proofs.HeadPlacements.no_rows_more, specs.Carried.{carried, carry_one}}
-use Rattle.yq_edit_laws.{specs.Edit.{by_reading, edit_of_segments, gives}, specs.Theorems.IsFitting}
-use Rattle.yq_batch.{proofs.PutComes.{made_text, new_is, segments_come}, proofs.RunEdits.{edit_size, fits_now}}
+use Rattle.yq_edit_laws.{proofs.FlowAppendLaws.{appended_reads, following_end, head_after, next, following_part}, specs.Carried.carried}
+use Rattle.yq_edit_laws.{specs.Edit.{edit_of_segments, gives}, specs.Theorems.IsFitting}
+use Rattle.yq_batch.{proofs.PutComes.{made_text, new_is, segments_come, more_comes}, proofs.RunEdits.{edit_size, fits_now}}
 use Rattle.yq_batch.specs.declared.slots.SlotPlace.{SlotPlace}
 use Rattle.yq_batch.specs.Slots.{AreInOrder, IsPutIn, SlotView, count_of, slot_places, put_or, put_text, slot_text, text_from}
 use Rattle.yq_batch.specs.OpenRuns.{AreCharEdges, AreStill, EndsBefore, IsOpenRun, IsStill}
@@ -128,16 +127,8 @@ module _ (c : Cut) (n : ℕ) (stem left : List Step) (key : Option (List ℕ)) (
   abbrev e2 : FlowEdit
   e2 = more_edit key v z
 
-  edits : op_edits (append n path key v) run.cut ≡ Some (flow_segments (cut_text run.cut) e2)
-  edits =
-      ap (λ (o : Option (List Segment)). option_or o (flow_collection n path run.cut >>= flow_more (cut_text run.cut) key v)) (no_rows_more run.cut n path z key v read ends.is)
-      ∙ (ap (λ (o : Option CollPieces). o >>= flow_more (cut_text run.cut) key v) ends.is
-      ∙ ap (λ (b : Bool). cond b (Some (flow_segments (cut_text run.cut) e2)) None) takes_now)
-
   comes : carried (append n path key v) now ≡ edit_of_segments (flow_segments (cut_text run.cut) e2)
-  comes =
-      ap (carried (append n path key v)) (sym text)
-      ∙ (ap (by_reading (carry_one (append n path key v))) read ∙ ap (λ (o : Option (List Segment)). edit_of_segments (or_stay run.cut o)) edits)
+  comes = more_comes now run.cut n path key v z run.read ends.is takes_now
 
   nothing_old : drop start (take finish t) ≡ []
   nothing_old = drop_all start (take finish t) (omega (arith, start_is, finish_is, length-take-le finish t (omega (arith, finish_is))))

@@ -131,43 +131,33 @@ module _ (c cut next : Cut) (n : ℕ) (stem : List Step) (gone made : List ℕ) 
   old_length : (s : SlotView) → s.new ≡ None → s.place.end ≤ length t → length (slot_text t s) ≡ size_of s
   old_length s no_text within = ap (λ (o : Option (List ℕ)). length (put_or o (drop s.place.start (take s.place.end t)))) no_text ∙ between_length t s.place.start s.place.end within
 
+  size_next : (p : SlotPlace) (s : SlotView) (ss : List SlotView) → AreInOrder p.end (slot_places (s ∷ ss)) (length t) →
+      length (text_from t p.end (s ∷ ss)) ≡ (s.place.start - p.end) + (length (slot_text t s) + length (text_from t s.place.end ss))
+  size_next p s ss order =
+      let within = order_within s.place.end (length t) (slot_places ss) order.3 in
+      omega (
+        arith,
+        ap length (split_at t p.end [] s ss order),
+        length-append (drop p.end (take s.place.start t)) (slot_text t s ++ text_from t s.place.end ss),
+        length-append (slot_text t s) (text_from t s.place.end ss),
+        between_length t p.end s.place.start (omega (arith, order.1, within)),
+      )
+
   pub room_next : (p : SlotPlace) (ss : List SlotView) → IsBeforeFirst p (slot_places ss) → AreInOrder p.end (slot_places ss) (length t) → length (text_from t p.end ss) + apart_by ≤ last → HasRoom ss
   room_next p [] first order small = tt
-  room_next p (s ∷ ss) first order small = (λ one. go first one, omega (arith, small, all))
+  room_next p (s ∷ ss) first order small = (λ one. go first one, omega (arith, small, size_next p s ss order))
     where
-      all : length (text_from t p.end (s ∷ ss)) ≡ (s.place.start - p.end) + (length (slot_text t s) + length (text_from t s.place.end ss))
-      all =
-          let within = order_within s.place.end (length t) (slot_places ss) order.3 in
-          omega (
-            arith,
-            ap length (split_at t p.end [] s ss order),
-            length-append (drop p.end (take s.place.start t)) (slot_text t s ++ text_from t s.place.end ss),
-            length-append (slot_text t s) (text_from t s.place.end ss),
-            between_length t p.end s.place.start (omega (arith, order.1, within)),
-          )
-
       go : ComesFirst p s.place → s.place.more ≡ false → length (slot_text t s) + length (text_from t s.place.end ss) < last
-      go (inl less) one = omega (arith, less, small, all)
+      go (inl less) one = omega (arith, less, small, size_next p s ss order)
       go (inr is) one = absurd (false≢true (sym one ∙ is.2))
 
   pub room_more : (p : SlotPlace) (ss : List SlotView) → p.more ≡ true → IsBeforeFirst p (slot_places ss) → AreInOrder p.end (slot_places ss) (length t) → length (text_from t p.end ss) ≤ last → apart_by ≤ 1 → HasRoom ss
   room_more p [] more first order small one = tt
-  room_more p (s ∷ ss) more first order small one = (λ _. omega (arith, small, all, less first), omega (arith, small, all, less first, one))
+  room_more p (s ∷ ss) more first order small one = (λ _. omega (arith, small, size_next p s ss order, less first), omega (arith, small, size_next p s ss order, less first, one))
     where
       less : ComesFirst p s.place → p.end < s.place.start
       less (inl h) = h
       less (inr h) = absurd (false≢true (sym h.1 ∙ more))
-
-      all : length (text_from t p.end (s ∷ ss)) ≡ (s.place.start - p.end) + (length (slot_text t s) + length (text_from t s.place.end ss))
-      all =
-          let within = order_within s.place.end (length t) (slot_places ss) order.3 in
-          omega (
-            arith,
-            ap length (split_at t p.end [] s ss order),
-            length-append (drop p.end (take s.place.start t)) (slot_text t s ++ text_from t s.place.end ss),
-            length-append (slot_text t s) (text_from t s.place.end ss),
-            between_length t p.end s.place.start (omega (arith, order.1, within)),
-          )
 
   stills_after : (q : ℕ) (ss : List SlotView) → AreInOrder q (slot_places ss) (length t) → HasRoom ss → AreStill c cut n stem ss → AreStill c next n stem ss
   stills_after q [] order room h = tt

@@ -8,7 +8,7 @@ use Rattle.yq_batch.{specs.OpenRuns.{AreCharEdges, HasWritten, MayWrite}, proofs
 
 -- there is a place at least
 pub some_slots : (s : Slots) → 1 ≤ length (slots_of s)
-some_slots (One s) = omega arith
+some_slots (One p o) = omega arith
 some_slots (Two' p left split olds news q right) = omega (arith, some_slots left, length-append (slots_of left) (slots_of right))
 
 edges_front : (t : List ℕ) (xs ys : List SlotView) → AreCharEdges t (xs ++ ys) → AreCharEdges t xs

@@ -1,7 +1,7 @@
 -- Places of a text at which values are put in any order, and the text then (YAML 1.2.2, 7.4; own).
 use Rattle.std.specs.Prelude.{◌≡◌, ⊤, ◌⊎◌, ℕ, ◌+◌, ◌-◌, ◌<◌, ◌≤◌, true, false, List, [], ◌∷◌, ◌++◌, drop, take, length, map, Option, Some}
-use Rattle.std.specs.Prelude.{None, IfSome, option_map, string_bytes}
-use Rattle.yq_batch.{specs.declared.slots.Slot.Slot, specs.declared.slots.SlotPlace.SlotPlace, specs.declared.slots.Slots.Slots}
+use Rattle.std.{specs.Prelude.{None, IfSome, option_map, string_bytes, String}, specs.declared.alloc.Global.Global}
+use Rattle.yq_batch.{specs.declared.slots.SlotPlace.SlotPlace, specs.declared.slots.Slots.Slots}
 use Rattle.yq_batch.specs.declared.slots.Slots.TheVariants.{One, Two'}
 
 -- a place, and the text that was put there (own)
@@ -10,12 +10,12 @@ pub record SlotView : Type 0 where
   pub new : Option (List ℕ)
 
 -- that of the code (own)
-abbrev pub slot_view : Slot → SlotView
-slot_view s = record { place = s.place; new = option_map string_bytes s.text }
+abbrev pub slot_of : SlotPlace → Option (String Global) → SlotView
+slot_of p o = record { place = p; new = option_map string_bytes o }
 
 -- those of the code, in order (own)
 abbrev pub slots_of : Slots → List SlotView
-slots_of (One s) = slot_view s ∷ []
+slots_of (One p o) = slot_of p o ∷ []
 slots_of (Two' p left split olds news q right) = slots_of left ++ slots_of right
 
 -- a place at which nothing was put (own)
@@ -48,7 +48,7 @@ news_of (s ∷ ss) = length (put_text s) + news_of ss
 
 -- the counts of the code are those (own)
 abbrev pub HasCounts : Slots → Type 0
-HasCounts (One s) = ⊤
+HasCounts (One p o) = ⊤
 HasCounts (Two' p left split olds news q right) = (olds ≡ olds_of (slots_of left)) × (news ≡ news_of (slots_of left)) × HasCounts left × HasCounts right
 
 -- A text is put at a place after a lead, where nothing was put yet, or at the end of a collection that has an item or entry (own).

@@ -130,15 +130,15 @@ impl Slots {
             (string_bytes out.old) done.old (string_bytes out.new) done.new) }
     {
         match self {
-            Slots::One(slot) => {
-                let Some(put) = &slot.text else {
+            Slots::One(place, put) => {
+                let Some(put) = put else {
                     return Ok(());
                 };
-                let kept = between(text, *done, slot.place.start);
+                let kept = between(text, *done, place.start);
                 out.push_str(kept.front)?;
                 out.push_str(kept.back)?;
                 out.push_str(put)?;
-                *done = slot.place.end;
+                *done = place.end;
                 Ok(())
             }
             Slots::Two(left, _, _, _, right) => {

@@ -13,18 +13,11 @@ pub(crate) struct SlotPlace {
     pub(crate) more: bool,
 }
 
-/// A place, and what was put there.
-#[derive(Drop)]
-pub(crate) struct Slot {
-    pub(crate) place: SlotPlace,
-    pub(crate) text: Option<String>,
-}
-
-/// Places in order: one, or those before an offset and those from there on. Of the ones before, how many bytes were
-/// replaced, and by how many.
+/// Places in order: one with what was put there, or those before an offset and those from there on. Of the ones before,
+/// how many bytes were replaced, and by how many.
 #[derive(Drop)]
 pub(crate) enum Slots {
-    One(Slot),
+    One(SlotPlace, Option<String>),
     Two(Box<Slots>, usize, usize, usize, Box<Slots>),
 }
 
@@ -36,45 +29,44 @@ pub(crate) fn moved(at: usize, olds: usize, news: usize) -> Option<usize>
     longer.checked_sub(olds)
 }
 
-impl Slot {
-    /// Puts a text there, after a lead: a content once, an item or entry more after those that were put. Reports where
-    /// it comes in the text as it was then, and of how many bytes of the first text it takes the place.
-    fn put(
-        &mut self,
-        alloc: Global,
-        place: SlotPlace,
-        lead: &str,
-        written: &str,
-    ) -> Result<Option<(usize, usize)>, AllocError>
-        ensures { IfOk result (λ o. IfSome o (λ p. spec.IsPutAt (spec.slot_view self.old)
-            (spec.slot_view self.new) place lead.now written.now p.0 p.1)) }
-    {
-        if self.place.start != place.start || self.place.end != place.end {
-            return Ok(None);
-        }
-        if self.place.more != place.more || place.end < place.start {
-            return Ok(None);
-        }
-        let Some(text) = &mut self.text else {
-            let mut new = String::from_str(alloc, lead)?;
-            new.push_str(written)?;
-            self.text = Some(new);
-            return Ok(Some((place.start, place.end - place.start)));
-        };
-        if !place.more || lead.is_empty() {
-            return Ok(None);
-        }
-        let Some(at) = place.start.checked_add(text.len()) else {
-            return Ok(None);
-        };
-        text.push_str(lead)?;
-        text.push_str(written)?;
-        Ok(Some((at, 0)))
+/// Puts a text, after a lead, at a place that is this one: a content once, an item or entry more after those that were
+/// put. Reports where it comes in the text as it was then, and of how many bytes of the first text it takes the place.
+fn put_at(
+    alloc: Global,
+    own: SlotPlace,
+    put: &mut Option<String>,
+    place: SlotPlace,
+    new: (&str, &str),
+) -> Result<Option<(usize, usize)>, AllocError>
+    ensures { IfOk result (λ o. IfSome o (λ p. spec.IsPutAt (spec.slot_of own put.old)
+        (spec.slot_of own put.new) place new.entry.0.now new.entry.1.now p.0 p.1)) }
+{
+    let (lead, written) = new;
+    if own.start != place.start || own.end != place.end {
+        return Ok(None);
     }
+    if own.more != place.more || place.end < place.start {
+        return Ok(None);
+    }
+    let Some(text) = put else {
+        let mut first = String::from_str(alloc, lead)?;
+        first.push_str(written)?;
+        *put = Some(first);
+        return Ok(Some((place.start, place.end - place.start)));
+    };
+    if !place.more || lead.is_empty() {
+        return Ok(None);
+    }
+    let Some(at) = place.start.checked_add(text.len()) else {
+        return Ok(None);
+    };
+    text.push_str(lead)?;
+    text.push_str(written)?;
+    Ok(Some((at, 0)))
 }
 
 impl Slots {
-    /// The same at one of the places.
+    /// The same at one of these places.
     pub(crate) fn put(
         &mut self,
         alloc: Global,
@@ -88,7 +80,7 @@ impl Slots {
             (spec.slots_of self.new) place lead.now written.now p.0 p.1)) }
     {
         match self {
-            Slots::One(slot) => slot.put(alloc, place, lead, written),
+            Slots::One(own, put) => put_at(alloc, *own, put, place, (lead, written)),
             Slots::Two(left, split, olds, news, right) => {
                 if place.start >= *split {
                     let Some(put) = right.put(alloc, place, lead, written)? else {
@@ -127,10 +119,7 @@ pub(crate) fn slots_at(alloc: Global, places: &[SlotPlace]) -> Result<Option<Slo
         return Ok(None);
     };
     if others.is_empty() {
-        return Ok(Some(Slots::One(Slot {
-            place: *first,
-            text: None,
-        })));
+        return Ok(Some(Slots::One(*first, None)));
     }
     let (front, back) = places.split_at(places.len() / 2);
     let Some(left) = slots_at(alloc, front)? else {

@@ -12,8 +12,9 @@ use Rattle.yq_batch.proofs.change.more_change.Goals as goal
 pub collection_near-requires : goal.collection_near-requires
 collection_near-requires c = subst (λ (b : Inline). IsUniqueNode (inline_view b)) (sym c.deref-2.ensures) (unique_head c.args.at.now c.requires.there)
 
-pub moved_place-requires : goal.moved_place-requires
-moved_place-requires c =
+more : (c : goal.In-Some-put) → AreMore c.in-Append.path.doc (steps_of c.in-Append.path) (borrowed c.as_deref.result) (value_node c.in-Append.value) (cut_with c.args.at.now) c.args.at.now.head.before
+    (Some (c.in-Some-put.place, c.in-Some-put.written))
+more c =
     let steps = sym (ap (map tree_step) c.deref.ensures.value) ∙ c.in-Some.ensures in
     let x = head_with c.args.at.now.head c.in-Some.left in
     let q = inline_view c.in-Some-collection_near.node.now in
@@ -21,23 +22,15 @@ moved_place-requires c =
     (more_head c.args.at.now c.requires.there c.in-Append.path.doc (steps_of c.in-Append.path) c.in-Some.left c.if-path-at.false steps) refl
     (c.in-Some-collection_near.ensures
     ∙ ap (λ (b : Inline). collection_along (map tree_step c.in-Some.left.now) (inline_view b)) c.deref-2.ensures) in
-    let h =
     subst (AreMore c.in-Append.path.doc (steps_of c.in-Append.path) (borrowed c.as_deref.result) (value_node c.in-Append.value) (cut_with c.args.at.now) c.args.at.now.head.before) c.in-Some-put.is
-    (more_found _ _ _ (borrowed c.as_deref.result) (value_node c.in-Append.value) x q f c.in_ok-put.put c.in_ok-put.ensures) in
-    record { order = omega (arith, h.2.1.lies.order); small = omega (arith, h.2.1.lies.small, h.2.1.lies.end.0) }
+    (more_found _ _ _ (borrowed c.as_deref.result) (value_node c.in-Append.value) x q f c.in_ok-put.put c.in_ok-put.ensures)
+
+pub moved_place-requires : goal.moved_place-requires
+moved_place-requires c = let h = more c in record { order = omega (arith, h.2.1.lies.order); small = omega (arith, h.2.1.lies.small, h.2.1.lies.end.0) }
 
 pub returns : goal.returns
 returns c =
     let steps = sym (ap (map tree_step) c.deref.ensures.value) ∙ c.in-Some.ensures in
-    let x = head_with c.args.at.now.head c.in-Some.left in
-    let q = inline_view c.in-Some-collection_near.node.now in
-    let f = coll_found c.args.at.now.cut.now c.in-Append.path.doc (steps_of c.in-Append.path) (Some x) x q c.requires.there.read
-    (more_head c.args.at.now c.requires.there c.in-Append.path.doc (steps_of c.in-Append.path) c.in-Some.left c.if-path-at.false steps) refl
-    (c.in-Some-collection_near.ensures
-    ∙ ap (λ (b : Inline). collection_along (map tree_step c.in-Some.left.now) (inline_view b)) c.deref-2.ensures) in
-    let h =
-    subst (AreMore c.in-Append.path.doc (steps_of c.in-Append.path) (borrowed c.as_deref.result) (value_node c.in-Append.value) (cut_with c.args.at.now) c.args.at.now.head.before) c.in-Some-put.is
-    (more_found _ _ _ (borrowed c.as_deref.result) (value_node c.in-Append.value) x q f c.in_ok-put.put c.in_ok-put.ensures) in
     let place = c.moved_place.ensures in
     subst (λ (b : Bool). ChangesBy b (operation_of c.args.op.now) c.args.at.now
     (record {
@@ -51,5 +44,5 @@ returns c =
     (borrowed c.as_deref.result) (value_node c.in-Append.value) (c.in-Some-put.place, c.in-Some-put.written) _
     (ap operation_of c.in-Append.is
     ∙ ap (λ (k : Option (List ℕ)). append c.in-Append.path.doc (steps_of c.in-Append.path) k (value_node c.in-Append.value))
-    (sym c.as_deref.ensures.value)) c.requires.operand c.if-path-at.false steps h refl
+    (sym c.as_deref.ensures.value)) c.requires.operand c.if-path-at.false steps (more (goal.at.returns c).In-Some-put) refl
     (λ i. record { start = place.start i; end = place.end i; lead = c.in-Some-put.place.lead.now }) refl)

@@ -1,5 +1,5 @@
 use Rattle.std.{proofs.Common.{ℕ, Option, sym, [], ◌∷◌, ◌++◌, subst, arith, rules}, specs.Prelude.{IfOk, IfSome}}
-use Rattle.yq_batch.{specs.Slots.{IsPutIn, HasCounts, slot_view, slots_of}, proofs.SlotCounts.{counts_put, in_right, one_put}}
+use Rattle.yq_batch.{specs.Slots.{IsPutIn, HasCounts, slot_of, slots_of}, proofs.SlotCounts.{counts_put, in_right, one_put}}
 use Rattle.yq_batch.specs.declared.slots.Slots.{Slots}
 use Rattle.yq_batch.proofs.slots.Slots.+put.Goals as goal
 
@@ -33,5 +33,5 @@ returns-in-Some-checked_add-3-clause-counts t c =
 
 pub returns-in-One-clause-put : goal.returns-in-One-clause-put
 returns-in-One-clause-put t c =
-    subst (λ (x : Slots). IfOk c.put.result (λ o. IfSome o (λ p. IsPutIn (slots_of x) (slot_view c.put.new.self ∷ []) c.args.place c.args.lead.now c.args.written.now p.0 p.1))) (sym c.in-One.is)
-    (one_put c.args.place c.args.lead.now c.args.written.now (slot_view c.in-One.slot) (slot_view c.put.new.self) c.put.result c.put.ensures)
+    subst (λ (x : Slots). IfOk c.put_at.result (λ o. IfSome o (λ p. IsPutIn (slots_of x) (slot_of c.in-One.own c.put_at.new.put ∷ []) c.args.place c.args.lead.now c.args.written.now p.0 p.1))) (sym c.in-One.is)
+    (one_put c.args.place c.args.lead.now c.args.written.now (slot_of c.in-One.own c.in-One.put) (slot_of c.in-One.own c.put_at.new.put) c.put_at.result c.put_at.ensures)
