@@ -1,68 +1,36 @@
 -- Steps lead to the same lines where no heads are written, in an outline in which nothing is under a line with a head.
-use Rattle.std.proofs.Common.{◌≡◌, ℕ, suc, ◌+◌, nat_lt, Bool, true, false, cond, List, [], ◌∷◌, ◌++◌, length, map, Option, Some, None}
-use Rattle.std.proofs.Common.{option_map, option_and_then, refl, sym, ap, ◌∙◌, subst, rules, arith, length-append}
-use Rattle.std.{proofs.lemmas.List.map-append, proofs.lemmas.Option.{none-some, same_Some}, specs.Prelude.⊤}
+use Rattle.std.proofs.Common.{◌≡◌, ℕ, suc, ◌+◌, Bool, true, false, cond, List, [], ◌∷◌, ◌++◌, length, map, Option, Some, None, option_map}
+use Rattle.std.proofs.Common.{option_and_then, refl, sym, ap, ◌∙◌, subst, arith, length-append}
+use Rattle.std.{proofs.lemmas.List.{length-map, map-append}, proofs.lemmas.Option.{none-some, same_Some}, specs.Prelude.⊤}
 use Rattle.yq_core.{specs.Paths.{Step, is_here, further}, specs.Tree.Node}
-use Rattle.yq_outline.{specs.Ends.{found_line, line_at_steps}, specs.Group.{deeper_lines, shallow, group}}
-use Rattle.yq_outline.specs.Outline.{LineMark, Bare, Key, Dash, IsEven, IsOpen, Line, level, Outline, end, row, flatten, label}
+use Rattle.yq_outline.{specs.Ends.{found_line, line_at_steps}, specs.Group.group}
+use Rattle.yq_outline.specs.Outline.{LineMark, Bare, Key, Dash, IsEven, IsOpen, Line, Outline, end, row, flatten, label}
 use Rattle.yq_outline.specs.Places.{Context, here, below, beside, lines_before, compose, FoundLine, next_to, find_row, place_inside}
 use Rattle.yq_outline.{specs.Places.{bare_or, in_head, find}, specs.Lines.{lines_from, lines_of_rows, row_lines}}
 use Rattle.yq_outline.specs.Comments.{head_comment}
 use Rattle.yq_row_table.specs.Rows.{Content, Row}
-use Rattle.yq_places.{proofs.PlacedPartLaws.map_some, proofs.StrippedLines.shape_lines}
+use Rattle.yq_places.proofs.PlacedPartLaws.{map_some}
+use Rattle.yq_places.proofs.StrippedLines.{heads_before, heads_find_row, heads_found, heads_group, heads_outline, heads_place, shape_lines}
+use Rattle.yq_places.proofs.StrippedLines.{with_heads}
 use Rattle.yq_row_table.specs.Rows as rows
 
+-- no head
+abbrev no_head : Option Node → Option Node
+no_head h = None
+
 abbrev pub erased : Line → Line
-erased l = record { column = l.column; mark = l.mark; anchor = None; head = None; head_comment = []; line_comment = None }
+erased l = with_heads no_head l
 
 abbrev erase : Outline → Outline
-erase end = end
-erase (row l u a) = row (erased l) (erase u) (erase a)
-
-abbrev erase_place : Context → Context
-erase_place here = here
-erase_place (below l p a) = below (erased l) (erase_place p) (erase a)
-erase_place (beside l u p) = beside (erased l) (erase u) (erase_place p)
+erase o = heads_outline no_head o
 
 abbrev erase_found : FoundLine → FoundLine
-erase_found f = record { place = erase_place f.place; line = erased f.line; under = erase f.under; after = erase f.after }
-
--- ---- lines grouped
-
-same_level : (l : Line) → level (erased l) ≡ level l
-unfolding level
-same_level l = refl
-
-outline_if : (b : Bool) (x y : Outline) → cond b (erase x) (erase y) ≡ erase (cond b x y)
-outline_if true x y = refl
-outline_if false x y = refl
-
-deeper_erased : (n : ℕ) (o : Outline) → deeper_lines n (erase o) ≡ erase (deeper_lines n o)
-deeper_erased n end = refl
-deeper_erased n (row l u a) =
-    (λ i. cond (nat_lt n (same_level l i)) (row (erased l) (erase u) (deeper_erased n a i)) end) ∙ outline_if (nat_lt n (level l)) (row l u (deeper_lines n a)) end
-
-shallow_erased : (n : ℕ) (o : Outline) → shallow n (erase o) ≡ erase (shallow n o)
-shallow_erased n end = refl
-shallow_erased n (row l u a) =
-    (λ i. cond (nat_lt n (same_level l i)) (shallow_erased n a i) (row (erased l) (erase u) (erase a))) ∙ outline_if (nat_lt n (level l)) (shallow n a) (row l u a)
-
-group_erased : (ls : List Line) → group (map erased ls) ≡ erase (group ls)
-group_erased [] = refl
-group_erased (l ∷ ls) = search (rules, same_level, deeper_erased, shallow_erased, group_erased ls)
+erase_found f = heads_found no_head f
 
 -- ---- how many lines are in front
 
-flatten_size : (o : Outline) → length (flatten (erase o)) ≡ length (flatten o)
-flatten_size end = refl
-flatten_size (row l u a) =
-    omega (arith, flatten_size u, flatten_size a, length-append (flatten (erase u)) (flatten (erase a)), length-append (flatten u) (flatten a))
-
-before_size : (p : Context) → length (lines_before (erase_place p)) ≡ length (lines_before p)
-before_size here = refl
-before_size (below l p a) = ap suc (before_size p)
-before_size (beside l u p) =
-    omega (arith, flatten_size u, before_size p, length-append (flatten (erase u)) (lines_before (erase_place p)), length-append (flatten u) (lines_before p))
+before_size : (p : Context) → length (lines_before (heads_place no_head p)) ≡ length (lines_before p)
+before_size p = ap length (heads_before no_head p) ∙ length-map (lines_before p) erased
 
 inside_size : (p q : Context) → length (lines_before (compose p q)) ≡ length (lines_before p) + length (lines_before q)
 inside_size here q = omega arith
@@ -83,20 +51,6 @@ even_open n (row l u a) h = (h.1, even_open h.3.0 u h.3.2, even_open n a h.4)
 
 abbrev number : Option (FoundLine × List Step) → Option ℕ
 number o = option_and_then (λ x. found_line x.0 x.1) o
-
-here_erased : (s : Step) (l : Line) → is_here s (label (erased l)) ≡ is_here s (label l)
-here_erased s l = search rules
-
-row_found : (b : Bool) (l : Line) (u a : Outline) (o : Option FoundLine) →
-    cond b (Some (erase_found (record { place = here; line = l; under = u; after = a }))) (option_map (next_to (erased l) (erase u)) (option_map erase_found o))
-    ≡ option_map erase_found (cond b (Some (record { place = here; line = l; under = u; after = a })) (option_map (next_to l u) o))
-row_found b l u a o = search rules
-
-find_row_erased : (s : Step) (o : Outline) → find_row s (erase o) ≡ option_map erase_found (find_row s o)
-find_row_erased s end = refl
-find_row_erased s (row l u a) =
-    (λ i. cond (here_erased s l i) (Some (erase_found (record { place = here; line = l; under = u; after = a }))) (option_map (next_to (erased l) (erase u)) (find_row_erased (further s) a i)))
-    ∙ row_found (is_here s (label l)) l u a (find_row (further s) a)
 
 -- a line that is found has nothing under it, if it has a head
 abbrev IsFoundOpen : FoundLine → Type 0
@@ -156,16 +110,16 @@ find_number s ss end open' = refl
 find_number s [] (row l u a) open' =
     bare_number l.mark (erase_found (record { place = here; line = l; under = u; after = a })) (record { place = here; line = l; under = u; after = a }) s []
     (option_map (λ f. (f, [])) (find_row s (erase (row l u a)))) (option_map (λ f. (f, [])) (find_row s (row l u a)))
-    (ap (λ (o : Option FoundLine). number (option_map (λ f. (f, [])) o)) (find_row_erased s (row l u a)) ∙ last_number (find_row s (row l u a)))
+    (ap (λ (o : Option FoundLine). number (option_map (λ f. (f, [])) o)) (heads_find_row no_head s (row l u a)) ∙ last_number (find_row s (row l u a)))
 find_number s (t ∷ ts) (row l u a) open' =
     bare_number l.mark (erase_found (record { place = here; line = l; under = u; after = a })) (record { place = here; line = l; under = u; after = a }) s (t ∷ ts)
     (option_and_then (go_on t ts) (find_row s (erase (row l u a)))) (option_and_then (go_on t ts) (find_row s (row l u a)))
-    (ap (λ (o : Option FoundLine). number (option_and_then (go_on t ts) o)) (find_row_erased s (row l u a))
+    (ap (λ (o : Option FoundLine). number (option_and_then (go_on t ts) o)) (heads_find_row no_head s (row l u a))
     ∙ on_number t ts (λ o. find_number t ts o) (find_row s (row l u a)) (λ f is. find_row_open s (row l u a) f is open'))
 
 line_erased : (n : ℕ) (steps : List Step) (ls : List Line) → IsEven n (group ls) → line_at_steps steps (map erased ls) ≡ line_at_steps steps ls
 line_erased n [] ls even = refl
-line_erased n (s ∷ ss) ls even = ap (λ (o : Outline). number (find s ss o)) (group_erased ls) ∙ find_number s ss (group ls) (even_open n (group ls) even)
+line_erased n (s ∷ ss) ls even = ap (λ (o : Outline). number (find s ss o)) (heads_group no_head ls) ∙ find_number s ss (group ls) (even_open n (group ls) even)
 
 -- ---- rows
 

@@ -3,8 +3,8 @@ use Rattle.std.specs.Prelude.{◌≡◌, ℕ, ◌+◌, ◌-◌, ◌≤◌, false
 use Rattle.yq_core.{specs.Entries.tree_step, specs.Paths.{Step, To, Nth}, specs.Text.is_empty}
 use Rattle.yq_documents.{specs.Located.steps_of, specs.declared.path.Path.Path, specs.declared.path.Span.Span}
 use Rattle.yq_row_table.specs.Rows.{Cut}
-use Rattle.yq_places.{specs.Placements.Held, specs.RemovalPlaces.{Removal, removal_place}, specs.RemovalReading.{RowCounts, mark_counts}}
-use Rattle.yq_places.specs.declared.places.rows_of_entry.RowsOfEntry.{RowsOfEntry}
+use Rattle.yq_places.{specs.Placements.{Held, LinesIn}, specs.RemovalPlaces.{Removal, removal_place}}
+use Rattle.yq_places.{specs.RemovalReading.{RowCounts, mark_counts}, specs.declared.places.rows_of_entry.RowsOfEntry.RowsOfEntry}
 use Rattle.yq_lookup.specs.HeldRows.{IsHeldUpto}
 use Rattle.yq_batch.{specs.RowRemovals.stop_after, specs.declared.changed_rows.ChangedRows.ChangedRows}
 use Rattle.yq_core.specs.declared.path.Step as declared
@@ -20,8 +20,8 @@ pub record IsPlaceBelow (h : Held) (start finish : ℕ) : Type 0 where
   pub finish_is : finish ≡ start + length h.break + length h.lines
 
 -- how much of a text comes before the lines that are taken out of it and with them (own)
-abbrev pub lines_out : Removal → ℕ
-lines_out x = length x.before + length x.gone
+abbrev pub lines_out : LinesIn → ℕ
+lines_out x = length x.before + length x.lines
 
 -- Steps lead to the sole item or entry that is left of the collection to which those above lead, in a text of which rows were changed: it has whole rows,
 -- which come right after the row of the key or dash and end where the changed ones begin, with the rest of the collection; an empty collection comes

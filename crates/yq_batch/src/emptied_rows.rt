@@ -3,7 +3,7 @@
 ghost use Rattle.std.specs.Prelude.{◌≡◌, ◌+◌, [], false, length, map, IfErr, IfOk, IfSome, IsTrue, None};
 ghost use Rattle.yq_core.{specs.Entries.tree_step, specs.Text.is_empty};
 ghost use Rattle.yq_text.{specs.Halves.whole, specs.TextGapBuffer.buffer_text};
-ghost use Rattle.yq_places.{specs.PlacementViews.held_view, specs.RemovalReading.removal_view};
+ghost use Rattle.yq_places.specs.PlacementViews.{held_view, lines_view};
 ghost use Rattle.yq_documents.{specs.Located.steps_of, specs.Reading.cut_of};
 ghost use Rattle.yq_edit_laws.specs.Theorems.{IsFitting};
 ghost use Rattle.yq_batch.specs.EmptiedRows as empty;
@@ -15,7 +15,7 @@ use std::alloc::Global;
 use yq_core::Step;
 use yq_documents::{Path, Span};
 use yq_edit_laws::last_step;
-use yq_lookup::{CutText, Held, Removal};
+use yq_lookup::{CutText, Held, LinesIn};
 use yq_semantics::ExprError;
 use yq_text::Halves;
 
@@ -62,12 +62,12 @@ fn place_below(held: &Held<'_>) -> Option<Span>
 }
 
 /// Where the lines end that are taken out of a text.
-fn lines_end(removal: &Removal<'_>) -> Option<usize>
-    ensures { IfSome result (λ n. n ≡ empty.lines_out (removal_view removal.now)) }
+fn lines_end(gone: &LinesIn<'_>) -> Option<usize>
+    ensures { IfSome result (λ n. n ≡ empty.lines_out (lines_view gone.now)) }
 {
-    let before = halves_len(removal.before)?;
-    let gone = halves_len(removal.gone)?;
-    before.checked_add(gone)
+    let before = halves_len(gone.before)?;
+    let lines = halves_len(gone.lines)?;
+    before.checked_add(lines)
 }
 
 /// Where an empty collection comes, after the row of the key or dash of the collection: in the place of the sole item or
@@ -82,10 +82,10 @@ fn sole_place(
 ) -> Option<(usize, Span)>
     ensures { IfSome result (empty.IsLeftAlone path.now above.now (cut_of cut.now) from keep) }
 {
-    let removal = cut.removal(path)?;
+    let (gone, _) = cut.removal(path)?;
     let own = cut.own(path)?;
     let found = cut.held_upto(path.doc, above, own.2)?;
-    let end = lines_end(&removal)?;
+    let end = lines_end(&gone)?;
     let place = place_below(&found.1)?;
     if end > keep {
         return None;

@@ -130,20 +130,20 @@ fn take_rows(
     ensures err { IfErr result (λ e. spec.FailsOn e (spec.removal_of path.now) run.old) }
 {
     let _text = cut.text();
-    let Some(removal) = cut.removal(path) else {
+    let Some((gone, seam)) = cut.removal(path) else {
         return Ok(None);
     };
     let Some((_, first, stop)) = cut.own(path) else {
         return Ok(None);
     };
-    let start = removal.before.len();
-    let end = start + removal.gone.len();
-    let next = least_for(removal.gap, from.least);
-    if end > run.keep || !stays_at(removal.seam, next) {
+    let start = gone.before.len();
+    let end = start + gone.lines.len();
+    let next = least_for(gone.last, from.least);
+    if end > run.keep || !stays_at(seam, next) {
         return Ok(None);
     }
-    is_text(removal.before);
-    is_text(removal.gone);
+    is_text(gone.before);
+    is_text(gone.lines);
     exchange(alloc, run, start, end, "")?;
     let stop = from.stop_after(stop);
     Ok(Some(ChangedRows {

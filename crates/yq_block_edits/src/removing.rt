@@ -12,7 +12,7 @@ use yq_core::lines::split_line;
 use yq_core::text::{is_blank, split_white};
 use yq_documents::Path;
 use yq_lookup::CutText;
-use yq_places::{Removal, Seam};
+use yq_places::{LinesIn, Seam};
 use yq_scalar::block_repair::{is_outside, is_short};
 use yq_scalar_reader::push_spaces;
 use yq_text::{Halves, Segment, Segments};
@@ -117,14 +117,18 @@ fn push_gap<'t>(
 }
 
 /// The segments in which the rows of an item or entry go, and the gap after them is mended.
-fn take_out<'d>(alloc: Global, removal: &Removal<'d>) -> Result<Segments<'d>, AllocError>
-    ensures { IfOk result (λ ss. ss ≡ spec.rows_removed (removal_view removal.now)) }
+fn take_out<'d>(
+    alloc: Global,
+    gone: &LinesIn<'d>,
+    seam: Option<Seam>,
+) -> Result<Segments<'d>, AllocError>
+    ensures { IfOk result (λ ss. ss ≡ spec.rows_removed (removal_view gone.now seam)) }
 {
     let mut segments = Segments::new(Vec::new(alloc));
-    segments.push(Segment::Keep(removal.before))?;
-    segments.push(Segment::Put(removal.gone, String::new(alloc)))?;
-    push_gap(alloc, &mut segments, removal.seam, removal.gap)?;
-    segments.push(Segment::Keep(removal.after))?;
+    segments.push(Segment::Keep(gone.before))?;
+    segments.push(Segment::Put(gone.lines, String::new(alloc)))?;
+    push_gap(alloc, &mut segments, seam, gone.last)?;
+    segments.push(Segment::Keep(gone.after))?;
     Ok(segments)
 }
 
@@ -158,8 +162,8 @@ pub fn one_removed<'d>(
 ) -> Result<Option<Segments<'d>>, AllocError>
     ensures { GivesSegments result (at_path entries.one_removed path.now cut.now) }
 {
-    if let Some(removal) = cut.removal(path) {
-        return take_out(alloc, &removal).map(Some);
+    if let Some((gone, seam)) = cut.removal(path) {
+        return take_out(alloc, &gone, seam).map(Some);
     }
     let Some((before, gone, after)) = cut.first_removal(path) else {
         return Ok(None);

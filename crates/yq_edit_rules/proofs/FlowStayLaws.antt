@@ -16,8 +16,8 @@ use Rattle.yq_places.specs.FlowNodes.{bare_line, content_flow, find_head, flow_c
 use Rattle.yq_places.{specs.FlowViews.LeadsToHead, specs.NodeReading.head_line_of, proofs.FlowNodeLaws.{collection_is, rows_collection}}
 use Rattle.yq_places.{proofs.FlowViewLaws.{head_found, numbered}, proofs.RemovalLines.front_some, proofs.WalkDocuments.row_line_number}
 use Rattle.yq_places.proofs.RemovalViewLaws.{slice_seam}
-use Rattle.yq_places.proofs.StrippedLines.{before_strip, find_strip, group_strip, head_strip, strip_found, strip_outline, strip_pair}
-use Rattle.yq_places.proofs.StrippedLines.{compose_strip, stripped}
+use Rattle.yq_places.proofs.StrippedLines.{find_strip, head_strip, heads_before, heads_compose, heads_found, heads_group, heads_outline}
+use Rattle.yq_places.proofs.StrippedLines.{null_head, strip_pair, stripped}
 use Rattle.yq_edit_rules.{specs.Changed.{put_document, put_part}, specs.DocumentRows.after_document}
 use Rattle.yq_edit_rules.{specs.FlowRows.{FlowAt, InlineRow, text_after_node, with_node}, specs.Rooms.row_shape}
 use Rattle.yq_edit_rules.{proofs.ChangedLaws.{document_put, first_stays, nth_changed}, proofs.FlowKeptLaws.one_other}
@@ -29,30 +29,30 @@ use Rattle.yq_edit_rules.proofs.ShapeLaws.{rows_strip, shapes_lines}
 abbrev Reached : Type 0
 Reached = FoundLine × List Step
 
-bare_strip : (o : Outline) → bare_line (strip_outline o) ≡ option_map strip_found (bare_line o)
-bare_strip o = search (rules, strip_found)
+bare_strip : (o : Outline) → bare_line (heads_outline null_head o) ≡ option_map (heads_found null_head) (bare_line o)
+bare_strip o = search (rules, heads_found)
 
-under_strip : (f : FoundLine) (o : Option FoundLine) → option_map {U = Reached} (λ g. (place_inside (strip_found f) g, [])) (option_map strip_found o) ≡ option_map strip_pair (option_map {U = Reached} (λ g. (place_inside f g, [])) o)
+under_strip : (f : FoundLine) (o : Option FoundLine) → option_map {U = Reached} (λ g. (place_inside (heads_found null_head f) g, [])) (option_map (heads_found null_head) o) ≡ option_map strip_pair (option_map {U = Reached} (λ g. (place_inside f g, [])) o)
 under_strip f None = refl
-under_strip f (Some g) = λ i. Some (record (strip_found g) { place = compose_strip f.place (below f.line g.place f.after) i }, [])
+under_strip f (Some g) = λ i. Some (record (heads_found null_head g) { place = heads_compose null_head f.place (below f.line g.place f.after) i }, [])
 
-line_strip : (f : FoundLine) (left : List Step) → head_line (strip_found f) left ≡ option_map strip_pair (head_line f left)
-line_strip f left = search (rules, strip_found, bare_strip, under_strip, head_strip)
+line_strip : (f : FoundLine) (left : List Step) → head_line (heads_found null_head f) left ≡ option_map strip_pair (head_line f left)
+line_strip f left = search (rules, heads_found, bare_strip, under_strip, head_strip)
 
-find_head_strip : (steps : List Step) (o : Outline) → find_head steps (strip_outline o) ≡ option_map strip_pair (find_head steps o)
-find_head_strip [] o = search (rules, bare_strip, strip_found, strip_pair)
+find_head_strip : (steps : List Step) (o : Outline) → find_head steps (heads_outline null_head o) ≡ option_map strip_pair (find_head steps o)
+find_head_strip [] o = search (rules, bare_strip, heads_found, strip_pair)
 find_head_strip (s ∷ ss) o = search (rules, find_strip, strip_pair, line_strip)
 
 -- where a path leads in rows of the same shapes
 shape_head : (p q : Part) → map row_shape q.rows ≡ map row_shape p.rows → (steps : List Step) → option_map strip_pair (find_head steps (part_outline q)) ≡ option_map strip_pair (find_head steps (part_outline p))
 shape_head p q h steps =
     sym (find_head_strip steps (part_outline q))
-    ∙ (ap (find_head steps) (sym (group_strip (lines_of_rows q.rows)) ∙ (ap group (rows_strip q.rows ∙ (ap shapes_lines h ∙ sym (rows_strip p.rows))) ∙ group_strip (lines_of_rows p.rows)))
+    ∙ (ap (find_head steps) (sym (heads_group null_head (lines_of_rows q.rows)) ∙ (ap group (rows_strip q.rows ∙ (ap shapes_lines h ∙ sym (rows_strip p.rows))) ∙ heads_group null_head (lines_of_rows p.rows)))
     ∙ find_head_strip steps (part_outline p))
 
 same_numbers : (o : Option Reached) → option_map numbered o ≡ option_map numbered (option_map strip_pair o)
 same_numbers None = refl
-same_numbers (Some x) = λ i. Some (sym (ap length (before_strip x.0.place) ∙ length-map (lines_before x.0.place) stripped) i, x.1)
+same_numbers (Some x) = λ i. Some (sym (ap length (heads_before null_head x.0.place) ∙ length-map (lines_before x.0.place) stripped) i, x.1)
 
 numbers_stay : (p q : Part) → map row_shape q.rows ≡ map row_shape p.rows → (steps : List Step) → head_line_of steps (lines_of_rows q.rows) ≡ head_line_of steps (lines_of_rows p.rows)
 numbers_stay p q h steps =

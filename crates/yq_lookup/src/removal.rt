@@ -8,7 +8,7 @@ ghost use Rattle.yq_places.specs.RemovalReading as reading;
 
 use crate::cut_text::CutText;
 use yq_documents::Path;
-use yq_places::{Removal, first_out, own_rows, rows_out};
+use yq_places::{LinesIn, Seam, first_out, own_rows, rows_out};
 use yq_text::Halves;
 
 impl<'t> CutText<'_, 't> {
@@ -23,10 +23,10 @@ impl<'t> CutText<'_, 't> {
     }
 
     /// What is taken out of the text with the item or entry at a path: the lines of the comment above
-    /// it, and its rows, less the gap before the first one. None, where its line is not the first one of
-    /// a row, as in flow, or after another dash.
-    pub fn removal(&self, path: &Path) -> Option<Removal<'t>>
-        ensures { option_map reading.removal_view result ≡
+    /// it, and its rows, less the gap before the first one; with the seam of the gap after them. None,
+    /// where its line is not the first one of a row, as in flow, or after another dash.
+    pub fn removal(&self, path: &Path) -> Option<(LinesIn<'t>, Option<Seam>)>
+        ensures { option_map (λ x. reading.removal_view x.0 x.1) result ≡
             spec.removal_place path.now.doc (steps_of path.now) (cut_of self.now) }
     {
         let whole = self.whole();

@@ -1,6 +1,6 @@
 -- Lines without what is written after their marks but that there is a head: steps lead among them to the lines of the same numbers.
-use Rattle.std.proofs.Common.{◌≡◌, ℕ, suc, ◌+◌, nat_lt, Bool, true, false, cond, List, [], ◌∷◌, ◌++◌, length, map, Option, Some, None}
-use Rattle.std.{proofs.Common.{option_map, option_and_then, refl, sym, ap, ◌∙◌, rules}, proofs.lemmas.List.{map-append, length-map}}
+use Rattle.std.proofs.Common.{◌≡◌, ℕ, suc, ◌+◌, nat_lt, Bool, true, false, cond, List, [], ◌∷◌, ◌++◌, map, Option, Some, None, option_map}
+use Rattle.std.{proofs.Common.{option_and_then, refl, sym, ap, ◌∙◌, rules}, proofs.lemmas.List.{map-append, length-map}}
 use Rattle.std.specs.Option.{is_some}
 use Rattle.yq_core.{specs.Paths.{Step, is_here, further}, specs.Tree.Node}
 use Rattle.yq_outline.{specs.Ends.{found_line, line_at_steps}, specs.Group.{deeper_lines, shallow, group}}
@@ -10,74 +10,83 @@ use Rattle.yq_outline.{specs.Places.{bare_or, in_head, find}, specs.Lines.{head_
 use Rattle.yq_row_table.specs.Rows.{Content}
 use Rattle.yq_row_table.specs.Rows as rows
 
-abbrev pub stripped : Line → Line
-stripped l = record { column = l.column; mark = l.mark; anchor = None; head = option_map (λ n. null_node) l.head; head_comment = []; line_comment = None }
+-- Lines with other heads, and without anchors and comments.
+module _ (f : Option Node → Option Node) where
+  abbrev pub with_heads : Line → Line
+  with_heads l = record { column = l.column; mark = l.mark; anchor = None; head = f l.head; head_comment = []; line_comment = None }
 
-abbrev pub strip_outline : Outline → Outline
-strip_outline end = end
-strip_outline (row l u a) = row (stripped l) (strip_outline u) (strip_outline a)
+  abbrev pub heads_outline : Outline → Outline
+  heads_outline end = end
+  heads_outline (row l u a) = row (with_heads l) (heads_outline u) (heads_outline a)
 
-abbrev pub strip_place : Context → Context
-strip_place here = here
-strip_place (below l p a) = below (stripped l) (strip_place p) (strip_outline a)
-strip_place (beside l u p) = beside (stripped l) (strip_outline u) (strip_place p)
+  abbrev pub heads_place : Context → Context
+  heads_place here = here
+  heads_place (below l p a) = below (with_heads l) (heads_place p) (heads_outline a)
+  heads_place (beside l u p) = beside (with_heads l) (heads_outline u) (heads_place p)
 
-abbrev pub strip_found : FoundLine → FoundLine
-strip_found f = record { place = strip_place f.place; line = stripped f.line; under = strip_outline f.under; after = strip_outline f.after }
+  abbrev pub heads_found : FoundLine → FoundLine
+  heads_found x = record { place = heads_place x.place; line = with_heads x.line; under = heads_outline x.under; after = heads_outline x.after }
 
-abbrev pub strip_pair : FoundLine × List Step → FoundLine × List Step
-strip_pair x = (strip_found x.0, x.1)
+  same_level : (l : Line) → level (with_heads l) ≡ level l
+  unfolding level
+  same_level l = refl
 
-same_level : (l : Line) → level (stripped l) ≡ level l
-unfolding level
-same_level l = refl
+  outline_if : (b : Bool) (x y : Outline) → cond b (heads_outline x) (heads_outline y) ≡ heads_outline (cond b x y)
+  outline_if b x y = search rules
 
-outline_if : (b : Bool) (x y : Outline) → cond b (strip_outline x) (strip_outline y) ≡ strip_outline (cond b x y)
-outline_if b x y = search rules
+  heads_deeper : (n : ℕ) (o : Outline) → deeper_lines n (heads_outline o) ≡ heads_outline (deeper_lines n o)
+  heads_deeper n end = refl
+  heads_deeper n (row l u a) =
+      (λ i. cond (nat_lt n (same_level l i)) (row (with_heads l) (heads_outline u) (heads_deeper n a i)) end) ∙ outline_if (nat_lt n (level l)) (row l u (deeper_lines n a)) end
 
-deeper_strip : (n : ℕ) (o : Outline) → deeper_lines n (strip_outline o) ≡ strip_outline (deeper_lines n o)
-deeper_strip n end = refl
-deeper_strip n (row l u a) =
-    (λ i. cond (nat_lt n (same_level l i)) (row (stripped l) (strip_outline u) (deeper_strip n a i)) end) ∙ outline_if (nat_lt n (level l)) (row l u (deeper_lines n a)) end
+  heads_shallow : (n : ℕ) (o : Outline) → shallow n (heads_outline o) ≡ heads_outline (shallow n o)
+  heads_shallow n end = refl
+  heads_shallow n (row l u a) =
+      (λ i. cond (nat_lt n (same_level l i)) (heads_shallow n a i) (row (with_heads l) (heads_outline u) (heads_outline a))) ∙ outline_if (nat_lt n (level l)) (shallow n a) (row l u a)
 
-shallow_strip : (n : ℕ) (o : Outline) → shallow n (strip_outline o) ≡ strip_outline (shallow n o)
-shallow_strip n end = refl
-shallow_strip n (row l u a) =
-    (λ i. cond (nat_lt n (same_level l i)) (shallow_strip n a i) (row (stripped l) (strip_outline u) (strip_outline a))) ∙ outline_if (nat_lt n (level l)) (shallow n a) (row l u a)
+  pub heads_group : (ls : List Line) → group (map with_heads ls) ≡ heads_outline (group ls)
+  heads_group [] = refl
+  heads_group (l ∷ ls) = search (rules, same_level, heads_deeper, heads_shallow, heads_group ls)
 
-pub group_strip : (ls : List Line) → group (map stripped ls) ≡ strip_outline (group ls)
-group_strip [] = refl
-group_strip (l ∷ ls) = search (rules, same_level, deeper_strip, shallow_strip, group_strip ls)
+  heads_flatten : (o : Outline) → flatten (heads_outline o) ≡ map with_heads (flatten o)
+  heads_flatten end = refl
+  heads_flatten (row l u a) = ap (λ ls. with_heads l ∷ ls) ((λ i. heads_flatten u i ++ heads_flatten a i) ∙ sym (map-append with_heads (flatten u) (flatten a)))
 
-flatten_strip : (o : Outline) → flatten (strip_outline o) ≡ map stripped (flatten o)
-flatten_strip end = refl
-flatten_strip (row l u a) = ap (λ ls. stripped l ∷ ls) ((λ i. flatten_strip u i ++ flatten_strip a i) ∙ sym (map-append stripped (flatten u) (flatten a)))
+  pub heads_before : (p : Context) → lines_before (heads_place p) ≡ map with_heads (lines_before p)
+  heads_before here = refl
+  heads_before (below l p a) = ap (λ ls. with_heads l ∷ ls) (heads_before p)
+  heads_before (beside l u p) = ap (λ ls. with_heads l ∷ ls) ((λ i. heads_flatten u i ++ heads_before p i) ∙ sym (map-append with_heads (flatten u) (lines_before p)))
 
-pub before_strip : (p : Context) → lines_before (strip_place p) ≡ map stripped (lines_before p)
-before_strip here = refl
-before_strip (below l p a) = ap (λ ls. stripped l ∷ ls) (before_strip p)
-before_strip (beside l u p) = ap (λ ls. stripped l ∷ ls) ((λ i. flatten_strip u i ++ before_strip p i) ∙ sym (map-append stripped (flatten u) (lines_before p)))
+  pub heads_compose : (p q : Context) → compose (heads_place p) (heads_place q) ≡ heads_place (compose p q)
+  heads_compose here q = refl
+  heads_compose (below l p a) q = ap (λ x. below (with_heads l) x (heads_outline a)) (heads_compose p q)
+  heads_compose (beside l u p) q = ap (λ x. beside (with_heads l) (heads_outline u) x) (heads_compose p q)
 
-pub compose_strip : (p q : Context) → compose (strip_place p) (strip_place q) ≡ strip_place (compose p q)
-compose_strip here q = refl
-compose_strip (below l p a) q = ap (λ x. below (stripped l) x (strip_outline a)) (compose_strip p q)
-compose_strip (beside l u p) q = ap (λ x. beside (stripped l) (strip_outline u) x) (compose_strip p q)
+  heads_here : (s : Step) (l : Line) → is_here s (label (with_heads l)) ≡ is_here s (label l)
+  heads_here s l = search rules
+
+  row_found : (b : Bool) (l : Line) (u a : Outline) (o : Option FoundLine) →
+      cond b (Some (heads_found (record { place = here; line = l; under = u; after = a }))) (option_map (next_to (with_heads l) (heads_outline u)) (option_map heads_found o))
+      ≡ option_map heads_found (cond b (Some (record { place = here; line = l; under = u; after = a })) (option_map (next_to l u) o))
+  row_found b l u a o = search rules
+
+  heads_find_row : (s : Step) (o : Outline) → find_row s (heads_outline o) ≡ option_map heads_found (find_row s o)
+  heads_find_row s end = refl
+  heads_find_row s (row l u a) =
+      (λ i. cond (heads_here s l i) (Some (heads_found (record { place = here; line = l; under = u; after = a }))) (option_map (next_to (with_heads l) (heads_outline u)) (heads_find_row (further s) a i)))
+      ∙ row_found (is_here s (label l)) l u a (find_row (further s) a)
 
 -- ---- where steps lead among them
 
-here_strip : (s : Step) (l : Line) → is_here s (label (stripped l)) ≡ is_here s (label l)
-here_strip s l = search rules
+-- a head by that it is there
+abbrev pub null_head : Option Node → Option Node
+null_head h = option_map (λ n. null_node) h
 
-row_found : (b : Bool) (l : Line) (u a : Outline) (o : Option FoundLine) →
-    cond b (Some (strip_found (record { place = here; line = l; under = u; after = a }))) (option_map (next_to (stripped l) (strip_outline u)) (option_map strip_found o))
-    ≡ option_map strip_found (cond b (Some (record { place = here; line = l; under = u; after = a })) (option_map (next_to l u) o))
-row_found b l u a o = search rules
+abbrev pub stripped : Line → Line
+stripped l = with_heads null_head l
 
-find_row_strip : (s : Step) (o : Outline) → find_row s (strip_outline o) ≡ option_map strip_found (find_row s o)
-find_row_strip s end = refl
-find_row_strip s (row l u a) =
-    (λ i. cond (here_strip s l i) (Some (strip_found (record { place = here; line = l; under = u; after = a }))) (option_map (next_to (stripped l) (strip_outline u)) (find_row_strip (further s) a i)))
-    ∙ row_found (is_here s (label l)) l u a (find_row (further s) a)
+abbrev pub strip_pair : FoundLine × List Step → FoundLine × List Step
+strip_pair x = (heads_found null_head x.0, x.1)
 
 bare_strip : (m : LineMark) (x y : Option (FoundLine × List Step)) → bare_or m (option_map strip_pair x) (option_map strip_pair y) ≡ option_map strip_pair (bare_or m x y)
 bare_strip m x y = search rules
@@ -89,34 +98,34 @@ deeper_found f x = (place_inside f x.0, x.1)
 abbrev go_on : Step → List Step → FoundLine → Option (FoundLine × List Step)
 go_on t ts f = in_head f.line.head (Some (f, t ∷ ts)) (option_map (deeper_found f) (find t ts f.under))
 
-inside_strip : (f : FoundLine) (o : Option (FoundLine × List Step)) → option_map (deeper_found (strip_found f)) (option_map strip_pair o) ≡ option_map strip_pair (option_map (deeper_found f) o)
+inside_strip : (f : FoundLine) (o : Option (FoundLine × List Step)) → option_map (deeper_found (heads_found null_head f)) (option_map strip_pair o) ≡ option_map strip_pair (option_map (deeper_found f) o)
 inside_strip f None = refl
 inside_strip f (Some x) =
-    λ i. Some (record { place = compose_strip f.place (below f.line x.0.place f.after) i; line = stripped x.0.line; under = strip_outline x.0.under; after = strip_outline x.0.after }, x.1)
+    λ i. Some (record { place = heads_compose null_head f.place (below f.line x.0.place f.after) i; line = stripped x.0.line; under = heads_outline null_head x.0.under; after = heads_outline null_head x.0.after }, x.1)
 
 pub head_strip : (h : Option Node) (x y : Option (FoundLine × List Step)) → in_head (option_map (λ n. null_node) h) (option_map strip_pair x) (option_map strip_pair y) ≡ option_map strip_pair (in_head h x y)
 head_strip h x y = search rules
 
-none_left : (o : Option FoundLine) → option_map (λ f. (f, [])) (option_map strip_found o) ≡ option_map strip_pair (option_map (λ f. (f, [])) o)
+none_left : (o : Option FoundLine) → option_map (λ f. (f, [])) (option_map (heads_found null_head) o) ≡ option_map strip_pair (option_map (λ f. (f, [])) o)
 none_left o = search rules
 
-on_strip : (t : Step) (ts : List Step) → ((o : Outline) → find t ts (strip_outline o) ≡ option_map strip_pair (find t ts o)) → (o : Option FoundLine) →
-    option_and_then (go_on t ts) (option_map strip_found o) ≡ option_map strip_pair (option_and_then (go_on t ts) o)
+on_strip : (t : Step) (ts : List Step) → ((o : Outline) → find t ts (heads_outline null_head o) ≡ option_map strip_pair (find t ts o)) → (o : Option FoundLine) →
+    option_and_then (go_on t ts) (option_map (heads_found null_head) o) ≡ option_map strip_pair (option_and_then (go_on t ts) o)
 on_strip t ts h1 o = search (rules, inside_strip, head_strip)
 
-pub find_strip : (s : Step) (ss : List Step) (o : Outline) → find s ss (strip_outline o) ≡ option_map strip_pair (find s ss o)
+pub find_strip : (s : Step) (ss : List Step) (o : Outline) → find s ss (heads_outline null_head o) ≡ option_map strip_pair (find s ss o)
 find_strip s ss end = refl
-find_strip s [] (row l u a) = search (rules, find_row_strip, none_left, bare_strip, option_and_then, on_strip)
+find_strip s [] (row l u a) = search (rules, heads_find_row, none_left, bare_strip, option_and_then, on_strip)
 find_strip s (t ∷ ts) (row l u a) =
     ap (bare_or l.mark (Some (strip_pair (record { place = here; line = l; under = u; after = a }, s ∷ (t ∷ ts)))))
-    (ap (option_and_then (go_on t ts)) (find_row_strip s (row l u a)) ∙ on_strip t ts (λ o. find_strip t ts o) (find_row s (row l u a)))
+    (ap (option_and_then (go_on t ts)) (heads_find_row null_head s (row l u a)) ∙ on_strip t ts (λ o. find_strip t ts o) (find_row s (row l u a)))
     ∙ bare_strip l.mark (Some (record { place = here; line = l; under = u; after = a }, s ∷ (t ∷ ts))) (option_and_then (go_on t ts) (find_row s (row l u a)))
 
 found_strip : (o : Option (FoundLine × List Step)) → option_and_then (λ x. found_line x.0 x.1) (option_map strip_pair o) ≡ option_and_then (λ x. found_line x.0 x.1) o
-found_strip o = search (rules, before_strip, length-map)
+found_strip o = search (rules, heads_before, length-map)
 
 pub line_strip : (steps : List Step) (ls : List Line) → line_at_steps steps (map stripped ls) ≡ line_at_steps steps ls
-line_strip steps ls = search (rules, option_and_then, group_strip, find_strip, found_strip)
+line_strip steps ls = search (rules, option_and_then, heads_group, find_strip, found_strip)
 
 -- ---- those of a row
 

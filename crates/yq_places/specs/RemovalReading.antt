@@ -6,7 +6,7 @@ use Rattle.yq_row_table.{specs.Grammar.{IsCut, no_rows}, specs.Rows.{Cut, Row, P
 use Rattle.yq_row_table.specs.View.{Slices, Bound, bounds_at, RowsView, rows_view, rows_of}
 use Rattle.yq_documents.{specs.Documents.document_parts, specs.Reading.cut_of, specs.LinesInRows.document_row}
 use Rattle.yq_places.{specs.PlacedRows.{PlacedPart, placed_document}, specs.RemovalPlaces.{OwnRows, own_rows, Seam, Removal}}
-use Rattle.yq_places.specs.declared.places.removal_place.Removal as declared
+use Rattle.yq_places.specs.declared.places.lines_cut.LinesIn as declared
 use Rattle.yq_places.specs.declared.places.removal_place.Seam as seams
 
 -- the gap of a row and its column; or where a part ends in front of it, the gap at that end and 0
@@ -63,5 +63,5 @@ abbrev pub seam_view : seams.Seam → Seam
 seam_view s = record { keeps = s.keeps; indent = s.indent; column = s.column }
 
 -- what is taken out, as the code lends it
-abbrev pub removal_view : declared.Removal → Removal
-removal_view r = record { before = whole r.before; gone = whole r.gone; gap = r.gap.now; after = whole r.after; seam = option_map seam_view r.seam }
+abbrev pub removal_view : declared.LinesIn → Option seams.Seam → Removal
+removal_view x s = record { before = whole x.before; gone = whole x.lines; gap = x.last.now; after = whole x.after; seam = option_map seam_view s }

@@ -21,7 +21,7 @@ pub use places::node_at::{NodeAt, block_node, head_node};
 pub use places::node_place::{node_place, place_line};
 pub use places::piece::TextPiece;
 pub use places::placement::Placement;
-pub use places::removal_place::{Removal, Seam, own_rows, rows_out};
+pub use places::removal_place::{Seam, own_rows, rows_out};
 pub use places::root_placement::rows_placement;
 pub use places::rows_of_entry::{RowsOfEntry, entry_along};
 pub use places::steps::{StepSearch, first_step, search_step, searched_before};

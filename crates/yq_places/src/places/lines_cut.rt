@@ -14,12 +14,13 @@ use yq_core::text::split_white;
 use yq_row_table::Rows;
 use yq_text::Halves;
 
-/// Lines of a text, less their last break, between the text before them and the text after them.
+/// Lines of a text, between the text before them and the text after them: those of a collection less their last break, or
+/// those that go with an item or entry.
 #[derive(Clone, Copy)]
 pub struct LinesIn<'t> {
     pub before: Halves<'t>,
     pub lines: Halves<'t>,
-    /// The break of the last one.
+    /// The break of the last one; after lines that go, the gap after them.
     pub last: &'t str,
     pub after: Halves<'t>,
 }

@@ -10,6 +10,7 @@ ghost use Rattle.yq_places.specs.RemovalPlaces as spec;
 ghost use Rattle.yq_places.specs.RemovalReading as reading;
 
 use crate::places::halves::is_text;
+use crate::places::lines_cut::LinesIn;
 use crate::places::row_place::row_stop;
 use yq_core::Step;
 use yq_core::lines::split_line;
@@ -28,21 +29,6 @@ pub struct Seam {
     pub indent: usize,
     /// In which column the next row begins; 0 at the document's end.
     pub column: usize,
-}
-
-/// What is taken out of a text with an item or entry.
-#[derive(Clone, Copy)]
-pub struct Removal<'d> {
-    /// The text before the lines that go.
-    pub before: Halves<'d>,
-    /// The lines that go: the comment above the item or entry, and its rows.
-    pub gone: Halves<'d>,
-    /// The gap after them.
-    pub gap: &'d str,
-    /// The text after that gap.
-    pub after: Halves<'d>,
-    /// The seam of that gap, where it then comes after a block scalar.
-    pub seam: Option<Seam>,
 }
 
 /// A gap cut before the comment that ends it.
@@ -134,12 +120,17 @@ fn seam_of(block: Option<(bool, usize)>, column: usize, kept: &str) -> Option<Se
     })
 }
 
-/// What is taken out of a text with these rows of a document.
-pub fn rows_out<'d>(rows: &Rows<'d>, text: Halves<'d>, marks: (usize, usize, usize)) -> Removal<'d>
+/// The lines that go from a text with these rows of a document, which are the comment above them and they, with the
+/// gap after them; and the seam of that gap, where it then comes after a block scalar.
+pub fn rows_out<'d>(
+    rows: &Rows<'d>,
+    text: Halves<'d>,
+    marks: (usize, usize, usize),
+) -> (LinesIn<'d>, Option<Seam>)
     requires { reading.HasOwn (whole text) rows.now (marks.0, marks.1, marks.2) }
     ensures { (d : PlacedPart) (x : spec.OwnRows) →
         reading.IsOwn (whole text.entry) rows.now d x (marks.0, marks.1, marks.2) →
-        reading.removal_view result ≡ spec.rows_out d x }
+        reading.removal_view result.0 result.1 ≡ spec.rows_out d x }
 {
     is_text(text);
     let (first, at, end) = marks;
@@ -149,13 +140,13 @@ pub fn rows_out<'d>(rows: &Rows<'d>, text: Halves<'d>, marks: (usize, usize, usi
     let (gap, column) = gap_before(rows, end);
     let block = block_before(rows, first, at);
     let (before, rest) = text.split_at(start);
-    let (gone, rest) = rest.split_at(stop - start);
+    let (lines, rest) = rest.split_at(stop - start);
     let (_, after) = rest.split_at(gap.len());
-    Removal {
+    let gone = LinesIn {
         before,
-        gone,
-        gap,
+        lines,
+        last: gap,
         after,
-        seam: seam_of(block, column, kept),
-    }
+    };
+    (gone, seam_of(block, column, kept))
 }

@@ -6,18 +6,18 @@ use Rattle.yq_batch.proofs.row_removals.take_rows.Goals as goal
 
 pub len-requires : goal.len-requires
 len-requires c =
-    let small = out_small c.args.cut.now c.args.path.now.doc (steps_of c.args.path.now) (removal_view c.in-Some.removal) c.text-text.ensures.read (sym c.in-Some.ensures) in
+    let small = out_small c.args.cut.now c.args.path.now.doc (steps_of c.args.path.now) (removal_view c.in-Some.gone c.in-Some.seam) c.text-text.ensures.read (sym c.in-Some.ensures) in
     omega (arith, small)
 
 pub overflow_add-end : goal.overflow_add-end
 overflow_add-end c =
-    let small = out_small c.args.cut.now c.args.path.now.doc (steps_of c.args.path.now) (removal_view c.in-Some.removal) c.text-text.ensures.read (sym c.in-Some.ensures) in
+    let small = out_small c.args.cut.now c.args.path.now.doc (steps_of c.args.path.now) (removal_view c.in-Some.gone c.in-Some.seam) c.text-text.ensures.read (sym c.in-Some.ensures) in
     omega (arith, small, c.len-start.ensures, c.len.ensures)
 
 found : (c : goal.After-is_text-2) → CanTake (removal_of c.args.path.now) (cut_of c.args.cut.now) c.args.path.now.doc c.args.run.now
     (rows_changed c.args.from c.least_for-next.result (c.in-Some-own.field-0-0, c.in-Some-own.first, c.in-Some-own.stop)) c.len-start.result (c.len-start.result + c.len.result) []
 found c =
-    found_rows c.args.cut.now c.args.path.now.doc (steps_of c.args.path.now) (removal_view c.in-Some.removal) _ c.args.from c.least_for-next.result c.args.run.now c.len-start.result c.len.result
+    found_rows c.args.cut.now c.args.path.now.doc (steps_of c.args.path.now) (removal_view c.in-Some.gone c.in-Some.seam) _ c.args.from c.least_for-next.result c.args.run.now c.len-start.result c.len.result
     c.text-text.ensures.read c.in-Some.ensures c.in-Some-own.ensures c.requires.run c.requires.others c.requires.fits c.len-start.ensures c.len.ensures c.if-end-run.false (c.if-not-stays_at.ensures refl)
     c.least_for-next.ensures c.is_text.ensures c.is_text-2.ensures
 
