@@ -1,12 +1,12 @@
 //! Items and entries removed from flow collections.
-ghost use Rattle.std.specs.Prelude.{◌≡◌, ◌-◌, IfOk, IfSome, IsTrue, None, Some, false, if◌then◌else◌, length, map, option_map};
+ghost use Rattle.std.specs.Prelude.{◌≡◌, ◌-◌, IfOk, IfSome, IsTrue, List, None, Some, length, option_map};
 ghost use Rattle.yq_core.specs.Entries.{tree_step};
 ghost use Rattle.yq_flow_edits.specs.FlowPlaces.{edit_view};
 ghost use Rattle.yq_lookup.specs.RowFronts.{found_summary, summary_along};
 ghost use Rattle.yq_places.specs.NodesAt.{node_view};
+ghost use Rattle.yq_inline.specs.declared.before_offset.LeadingNode.{LeadingNode};
 ghost use Rattle.yq_core.specs.Paths as path;
 ghost use Rattle.yq_inline.specs.Neighbours as inline;
-ghost use Rattle.yq_places.specs.NodesAt as nodes;
 ghost use Rattle.yq_edit_laws.specs.FlowRemovals as removals;
 ghost use Rattle.yq_edit_laws.specs.EditPlaces as spec;
 
@@ -15,7 +15,7 @@ use std::alloc::{AllocError, Global};
 use yq_core::Step;
 use yq_documents::Path;
 use yq_flow_edits::{EditPlace, remove_between};
-use yq_inline::{LeadingNode, Neighbours, PassedPart, collection_end, part_neighbours};
+use yq_inline::{Neighbours, PassedPart, part_neighbours};
 use yq_lookup::{CutText, FoundNode};
 use yq_places::NodeAt;
 use yq_text::Segments;
@@ -60,32 +60,27 @@ fn is_alone(part: Neighbours<'_>) -> bool
     part.before.is_none() && part.next.is_none()
 }
 
-/// What is known of a collection that has no more than one item or entry, by whether it is a mapping.
-fn sole_kind<'t>(keyed: bool) -> NodeAt<'t>
-    ensures { node_view result ≡ (if keyed then nodes.map false else nodes.list false) }
+/// What is known of a flow collection in which the only item or entry is at this step.
+fn sole_kind<'t>(step: &Step) -> NodeAt<'t>
+    ensures { node_view result ≡ removals.sole_kind (tree_step step.now) }
 {
-    if keyed {
-        NodeAt::Map(false)
-    } else {
-        NodeAt::List(false)
+    match step {
+        Step::Key(_) => NodeAt::Map(false),
+        Step::Index(_) => NodeAt::List(false),
     }
 }
 
 /// What is known of the flow collection to which steps lead in the node in front of a text, if the only item or entry in
-/// it is this one.
-fn sole_in_flow<'t>(
-    front: LeadingNode<'_>,
-    left: &[Step],
-    part: Neighbours<'_>,
-) -> Option<NodeAt<'t>>
-    ensures { (s : path.Step) → inline.FindsAround (map tree_step left.now) s front.entry (Some part.entry) →
-        IfSome result (λ node. Some (node_view node) ≡ summary_along (map tree_step left.now) front.entry) }
+/// it is this one, to which one more step leads.
+fn sole_in_flow<'t>(last: &Step, part: Neighbours<'_>) -> Option<NodeAt<'t>>
+    ensures { (ss : List path.Step) (n : LeadingNode) →
+        inline.FindsAround ss (tree_step last.now) n (Some part.entry) →
+        IfSome result (λ node. Some (node_view node) ≡ summary_along ss n) }
 {
     if !is_alone(part) {
         return None;
     }
-    let end = collection_end(front, left)?;
-    Some(sole_kind(end.keyed))
+    Some(sole_kind(last))
 }
 
 /// An item or entry removed from a flow collection, by what is found above it, with the white space and comma that go
@@ -113,7 +108,7 @@ fn removed_or_sole<'d>(
     };
     let text = cut.text();
     let Some(place) = place_between(front.text, part) else {
-        return Ok((None, sole_in_flow(*front, left, part)));
+        return Ok((None, sole_in_flow(last, part)));
     };
     let nothing = String::new(alloc);
     let segments = edit_at(alloc, text, *before, place, nothing)?;
