@@ -1,5 +1,5 @@
 //! One operation carried out on a text with its cut.
-ghost use Rattle.std.specs.Prelude.{◌≡◌, IfErr, IfOk};
+ghost use Rattle.std.specs.Prelude.{◌≡◌, IfErr, IfOk, OnErr};
 ghost use Rattle.yq_semantics.specs.Operations.{operation_of};
 ghost use Rattle.yq_documents.specs.Reading.{cut_of};
 ghost use Rattle.yq_text.specs.Changing.{IsChange};
@@ -43,22 +43,28 @@ fn change(alloc: Global, cut: &CutText<'_, '_>, op: &Op) -> Result<ChangedMiddle
     changes(alloc, &segments)?.ok_or(Refusal::TooLarge.error())
 }
 
-/// What an operation changes in a text with its cut, and what is known after it: of its way, and of steps.
+/// What an operation changes in a text with its cut. From then on that is known which is known after it: of its way,
+/// and of steps.
 pub fn change_one<'d, 'o: 'd>(
     alloc: Global,
     cut: &mut CutText<'d, '_>,
+    known: &mut Knowledge,
     op: &'o Op,
-) -> Result<(ChangedMiddle, Knowledge), ExprError>
-    ensures ok { IfOk result (λ x. IsChange (segments_by (operation_of op.now) (cut_of cut.old))
-        x.0) }
-    ensures known { IfOk result (λ x. KnowledgeStays x.0.front (cut_of cut.old) x.1) }
+) -> Result<ChangedMiddle, ExprError>
+    ensures ok { IfOk result (IsChange (segments_by (operation_of op.now) (cut_of cut.old))) }
+    ensures known { IfOk result (λ x. KnowledgeStays x.front (cut_of cut.old) known.new) }
     ensures err { IfErr result (λ e. EditFails e (spec.carry_one (operation_of op.now)
         (cut_of cut.old))) }
+    ensures kept { OnErr result (known.new ≡ known.old) }
 {
     go_on(alloc, cut, op);
-    let changed = change(alloc, cut, op)?;
-    let known = cut.known_before(alloc, changed.front);
-    Ok((changed, known))
+    match change(alloc, cut, op) {
+        Ok(changed) => {
+            *known = cut.known_before(alloc, changed.front);
+            Ok(changed)
+        }
+        Err(e) => Err(e),
+    }
 }
 
 /// An operation carried out on a text with its cut, where the way to it goes on from what is known.

@@ -1,7 +1,7 @@
 -- A text with its cut, which a session keeps, and what is borrowed of it.
 use Rattle.std.proofs.Common.{◌≡◌, ℕ, ◌-◌, Bool, true, false, cond, ltb, List, [], ◌∷◌, ◌++◌, length, take, drop, Some, refl, sym, ap, ◌∙◌}
 use Rattle.std.{proofs.Common.{subst, arith, append-nil}, proofs.lemmas.Bool.le-ltb, proofs.lemmas.List.{length-take-le, take-append-drop}}
-use Rattle.std.{specs.Str.{IsCharBoundary, IsUtf8, is_utf8}, specs.Prelude.Result}
+use Rattle.std.{specs.Str.{IsCharBoundary, IsUtf8, is_utf8}, specs.Prelude.{Err, Ok, OnErr, Result}}
 use Rattle.yq_text.{specs.Halves.whole, specs.TextGapBuffer.{TextGapView, buffer_text}, specs.declared.halves.Halves.Halves}
 use Rattle.yq_text.{specs.Changing.IsChange, specs.Script.new_text, specs.declared.changed.ChangedMiddle.ChangedMiddle}
 use Rattle.yq_text.specs.declared.edited.Edited.{Edited}
@@ -19,6 +19,17 @@ use Rattle.yq_edit_laws.{proofs.TextFaults.{FailsToRead, text_unread}, proofs.Up
 use Rattle.yq_rows.specs.Following.{ArePlacesOf}
 use Rattle.yq_splice.specs.Session.{HasPlaces, Knows, NotOpened}
 use Rattle.yq_failure.specs.declared.failure.Failure.TheVariants as reading
+
+-- ---- what failed
+
+-- what is known where it failed is known of what it answers
+pub on_err : {A E : Type 0} (r : Result A E) (P : Type 0) → P → OnErr r P
+on_err (Ok x) P h = tt
+on_err (Err e) P h = h
+
+pub on_err_then : {A E : Type 0} (r : Result A E) (P Q : Type 0) → (P → Q) → OnErr r P → OnErr r Q
+on_err_then (Ok x) P Q f h = tt
+on_err_then (Err e) P Q f h = f h
 
 -- ---- a text with its cut
 

@@ -4,14 +4,14 @@ use Rattle.yq_core.{specs.declared.fault.FaultKind.TheVariants.NotUtf8, specs.An
 use Rattle.yq_row_table.{specs.Kept.IsPlaced, specs.Meter.{count_after, line_count}, specs.Rows.Cut, specs.Touched.TouchesOnly}
 use Rattle.yq_row_table.{specs.Items.items_of_cut, specs.View.rows_view, specs.declared.places.Places.Places}
 use Rattle.yq_documents.specs.Reading.{cut_of, read_at}
-use Rattle.yq_lookup.{specs.Knowledge.IsKnowledge, specs.declared.knowledge.Knowledge.Knowledge}
-use Rattle.yq_semantics.specs.Operations.{Operation}
+use Rattle.yq_lookup.{specs.Knowledge.{IsKnowledge, KnowledgeStays}, specs.declared.knowledge.Knowledge.Knowledge}
+use Rattle.yq_semantics.{specs.Judgement.ExprError, specs.Operations.Operation}
 use Rattle.yq_text.{specs.Changing.IsChange, specs.Script.{Segment, kept_front, kept_back, new_text}, specs.Splice.Splice}
 use Rattle.yq_text.specs.declared.changed.ChangedMiddle.{ChangedMiddle}
 use Rattle.yq_rows.{specs.Following.read_text, specs.declared.kept.Kept.Kept}
 use Rattle.yq_edit_rules.specs.Edits.{op_edits}
-use Rattle.yq_edit_laws.{specs.Carried.{carried, carry_one}, specs.Edit.{Edit, gives}, specs.TouchedRanges.{PutAreTouched, put_ranges}}
-use Rattle.yq_edit_laws.{specs.Theorems.HasReading, specs.Valid.segments_by}
+use Rattle.yq_edit_laws.{specs.Answers.EditFails, specs.Carried.{carried, carry_one}, specs.Edit.{Edit, gives}}
+use Rattle.yq_edit_laws.{specs.TouchedRanges.{PutAreTouched, put_ranges}, specs.Theorems.HasReading, specs.Valid.segments_by}
 use Rattle.yq_splice.specs.TouchedLines.{touched_lines}
 use Rattle.yq_failure.specs.declared.failure.Failure.TheVariants as reading
 
@@ -33,6 +33,14 @@ Knows t known = IsKnowledge (rows_view (cut_of t)) known
 -- what an operation changes in a text (own)
 abbrev pub IsChangeBy : Operation → List ℕ → ChangedMiddle → Type 0
 IsChangeBy op t x = IsChange (segments_by op (cut_of t)) x
+
+-- what is kept stays known of a text after a change of it (own)
+abbrev pub KnowsAfter : List ℕ → Knowledge → ChangedMiddle → Type 0
+KnowsAfter t known x = KnowledgeStays x.front (cut_of t) known
+
+-- why an operation isn't carried out on a text (own)
+abbrev pub OpFails : Operation → List ℕ → ExprError → Type 0
+OpFails op t e = EditFails e (carried op t)
 
 -- what an operation gives on a text by its cut (own)
 abbrev pub carried_by_cut : Operation → List ℕ → Edit

@@ -1,15 +1,16 @@
 //! What is done on the halves of a session's text and on its rows, while they are borrowed.
-ghost use Rattle.std.specs.Prelude.{◌<◌, IfErr, IfOk};
-ghost use Rattle.yq_documents.specs.Reading.{cut_of, documents_of};
+ghost use Rattle.std.specs.Prelude.{◌<◌, IfErr, IfOk, OnErr};
+ghost use Rattle.yq_documents.specs.Reading.{documents_of};
 ghost use Rattle.yq_text.specs.Halves.{whole};
 ghost use Rattle.yq_places.specs.RowWalk.{HasCut};
-ghost use Rattle.yq_lookup.specs.Knowledge.{IsKnowledge, KnowledgeStays};
+ghost use Rattle.yq_lookup.specs.Knowledge.{IsKnowledge};
 ghost use Rattle.yq_semantics.{specs.Operations.operation_of, specs.Program.update_count, specs.View.program_of};
 ghost use Rattle.yq_edit_laws.specs.Answers.{Edits, EditFails};
 ghost use Rattle.yq_expr.specs.FixedPaths.{IfAny, IsSole, PlansAlone};
-ghost use Rattle.yq_splice.specs.Session.{IsChangeBy, Knows, carried_by_cut};
+ghost use Rattle.yq_splice.specs.Session.{IsChangeBy, Knows, KnowsAfter, carried_by_cut};
 
 use std::alloc::{AllocError, Global};
+use std::mem;
 use yq_expr::{Program, plan_by_rows};
 use yq_lookup::{CutText, Knowledge};
 use yq_operation::{carry_along, change_one};
@@ -17,23 +18,25 @@ use yq_row_table::Rows;
 use yq_semantics::{ExprError, Op};
 use yq_text::{ChangedMiddle, Edited, Halves};
 
-/// What an operation changes in a text of which something is known, and what is known after it.
+/// What an operation changes in a text of which something is known. From then on that is known which is known after it.
 pub(crate) fn change_in<'d, 'o: 'd, 't>(
     alloc: Global,
     text: Halves<'t>,
     rows: &'d Rows<'t>,
-    known: Knowledge,
+    known: &mut Knowledge,
     op: &'o Op,
-) -> Result<(ChangedMiddle, Knowledge), ExprError>
+) -> Result<ChangedMiddle, ExprError>
     requires cut { HasCut (whole text) rows.now }
-    requires known { IsKnowledge rows.now known }
-    ensures ok { IfOk result (λ x. IsChangeBy (operation_of op.now) (whole text.entry) x.0) }
-    ensures known { IfOk result (λ x. KnowledgeStays x.0.front (cut_of (whole text.entry)) x.1) }
+    requires known { IsKnowledge rows.now known.old }
+    ensures ok { IfOk result (IsChangeBy (operation_of op.now) (whole text.entry)) }
+    ensures known { IfOk result (KnowsAfter (whole text.entry) known.new) }
+    ensures kept { OnErr result (Knows (whole text.entry) known.new) }
     ensures err { IfErr result (λ e. EditFails e
         (carried_by_cut (operation_of op.now) (whole text.entry))) }
 {
-    let mut cut = CutText::resumed(text, rows, known);
-    change_one(alloc, &mut cut, op)
+    let before = mem::replace(known, Knowledge::none(alloc));
+    let mut cut = CutText::resumed(text, rows, before);
+    change_one(alloc, &mut cut, known, op)
 }
 
 /// An operation carried out on a text of which something is known.

@@ -4,13 +4,12 @@ ghost use Rattle.yq_documents.specs.Reading.{cut_of, documents_of, read_at};
 ghost use Rattle.yq_semantics.{specs.Operations.operation_of, specs.Program.update_count, specs.View.program_of};
 ghost use Rattle.yq_row_table.specs.Meter.{count_after, line_count};
 ghost use Rattle.yq_core.specs.Answers.{Gives};
-ghost use Rattle.yq_text.specs.Halves.{whole};
-ghost use Rattle.yq_lookup.specs.Knowledge.{KnowledgeStays};
+ghost use Rattle.yq_text.{specs.Halves.whole, specs.TextGapBuffer.buffer_text};
 ghost use Rattle.yq_edit_rules.specs.Operands.{HasOperand};
 ghost use Rattle.yq_edit_laws.{specs.Answers.{Edits, EditFails}, specs.Carried.carried, specs.Edit.{edit_after, gives}};
 ghost use Rattle.yq_edit_laws.specs.Theorems.{HasReading, IsApplied, IsFitting, OpRefused};
 ghost use Rattle.yq_expr.specs.FixedPaths.{IfAny, IsSole, PlansAlone};
-ghost use Rattle.yq_splice.specs.Session.{GivesNew, HasPlaces, IsChangeBy, NotOpened, Scans, ScansNew};
+ghost use Rattle.yq_splice.specs.Session.{OpFails, GivesNew, HasPlaces, IsChangeBy, Knows, KnowsAfter, NotOpened, Scans, ScansNew};
 
 use crate::borrowed::{carry_in, change_in, plan_in};
 use crate::carrying::edited_after;
@@ -52,6 +51,33 @@ impl Model for Session {
         Knows (buffer_text s.text) s.known };
 }
 
+/// What an operation changes in a text with the places of its rows, of which something is known. From then on that is
+/// known which is known after it, from which the next one may go on.
+fn change(
+    alloc: Global,
+    text: &mut TextGapBuffer,
+    places: &mut Places,
+    known: &mut Knowledge,
+    op: &Op,
+) -> Result<ChangedMiddle, ExprError>
+    requires places { HasPlaces (buffer_text text.old) places.old }
+    requires known { Knows (buffer_text text.old) known.old }
+    ensures same { buffer_text text.new ≡ buffer_text text.old }
+    ensures places { HasPlaces (buffer_text text.old) places.new }
+    ensures ok { IfOk result (IsChangeBy (operation_of op.now) (buffer_text text.old)) }
+    ensures known { IfOk result (KnowsAfter (buffer_text text.old) known.new) }
+    ensures kept { OnErr result (Knows (buffer_text text.old) known.new) }
+    ensures err { IfErr result (OpFails (operation_of op.now) (buffer_text text.old)) }
+{
+    let before = mem::replace(places, Places::new(alloc));
+    text.move_split(before.split);
+    let halves = text.halves();
+    let rows = before.rows(halves);
+    let changed = change_in(alloc, halves, &rows, known, op);
+    *places = rows.into_places();
+    changed
+}
+
 impl Session {
     /// Begins with a text, whose lines are counted.
     ///
@@ -89,23 +115,6 @@ impl Session {
             known: Knowledge::none(alloc),
             meter: Meter::new(),
         }
-    }
-
-    /// What an operation changes in the text, and what is known after it, from which the next one may go on.
-    fn change(&mut self, op: &Op) -> Result<(ChangedMiddle, Knowledge), ExprError>
-        ensures same { self.new ≡ self.old }
-        ensures ok { IfOk result (λ x. IsChangeBy (operation_of op.now) self.old.text x.0) }
-        ensures known { IfOk result (λ x. KnowledgeStays x.0.front (cut_of self.old.text) x.1) }
-        ensures err { IfErr result (λ e. EditFails e (carried (operation_of op.now) self.old.text)) }
-    {
-        let places = mem::replace(&mut self.places, Places::new(self.alloc));
-        let known = mem::replace(&mut self.known, Knowledge::none(self.alloc));
-        self.text.move_split(places.split);
-        let text = self.text.halves();
-        let rows = places.rows(text);
-        let changed = change_in(self.alloc, text, &rows, known, op);
-        self.places = rows.into_places();
-        changed
     }
 
     /// The operation that carries out update `nth` of a program on the text, if rows plan it (see
@@ -162,7 +171,13 @@ impl Session {
         ensures scanned { IfOk result (ScansNew (operation_of op.now) self.old self.new) }
         ensures kept { OnErr result (self.new ≡ self.old) }
     {
-        let (changed, known) = self.change(op)?;
+        let changed = change(
+            self.alloc,
+            &mut self.text,
+            &mut self.places,
+            &mut self.known,
+            op,
+        )?;
         let ChangedMiddle {
             front,
             back,
@@ -170,7 +185,6 @@ impl Session {
             splices,
         } = changed;
         if splices.is_empty() {
-            self.known = known;
             return Ok(splices);
         }
         let kept = Kept { front, back };
@@ -183,7 +197,6 @@ impl Session {
             &new,
             &mut meter,
         )?;
-        self.known = known;
         self.meter = meter;
         Ok(splices)
     }
