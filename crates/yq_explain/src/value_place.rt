@@ -4,23 +4,33 @@ use std::alloc::{AllocError, Global};
 use yq_core::{DEPTH_LIMIT, Step};
 use yq_documents::{Documents, Path};
 use yq_eval::{owned, step_to};
-use yq_nodes::Node;
-use yq_planner::aliases_of;
+use yq_nodes::{Node, NodeKind};
 use yq_semantics::{Refusal, Refused};
 use yq_tree::locate;
 
-/// The first item or value of a node in which an alias is, after the step to it.
-fn child_with_alias<'d, 't>(
+/// The steps from a node to the first alias in it, in the text's order, where it isn't nested deeper than that.
+#[cycle(aliases)]
+fn first_alias<'d, 't>(
     alloc: Global,
     node: &Node<'d, 't>,
-) -> Result<Option<(Step, Node<'d, 't>)>, AllocError> {
+    depth: usize,
+) -> Result<Option<Vec<Step>>, AllocError> {
+    match node.kind() {
+        NodeKind::Alias => return Ok(Some(Vec::new(alloc))),
+        NodeKind::Scalar(_) => return Ok(None),
+        NodeKind::List | NodeKind::Map => {}
+    }
+    if depth == 0 {
+        return Ok(None);
+    }
     let mut children = node.children();
     'children: for before in 0..node.count() {
         let Some(child) = children.next() else {
             return Ok(None);
         };
-        if !aliases_of(alloc, &child)?.is_empty() {
-            return Ok(Some((owned(alloc, step_to(&child, before))?, child)));
+        if let Some(mut steps) = first_alias(alloc, &child, depth - 1)? {
+            steps.insert(0, owned(alloc, step_to(&child, before))?)?;
+            return Ok(Some(steps));
         }
     }
     Ok(None)
@@ -28,17 +38,14 @@ fn child_with_alias<'d, 't>(
 
 /// The path to the first alias in the value at a path: a copy of that value is refused there.
 fn to_alias(alloc: Global, documents: &Documents<'_>, path: Path) -> Result<Path, AllocError> {
-    let Some(mut node) = locate(documents, &path) else {
+    let Some(node) = locate(documents, &path) else {
+        return Ok(path);
+    };
+    let Some(mut steps) = first_alias(alloc, &node, DEPTH_LIMIT)? else {
         return Ok(path);
     };
     let mut path = path;
-    'levels: for _ in 0..DEPTH_LIMIT {
-        let Some((step, child)) = child_with_alias(alloc, &node)? else {
-            return Ok(path);
-        };
-        path.steps.push(step)?;
-        node = child;
-    }
+    path.steps.append(&mut steps)?;
     Ok(path)
 }
 
