@@ -129,16 +129,16 @@ SUMMED = {
 }
 ENTRIES = [".[] += {" + ",".join(f'"k{number}":1' for number in range(count)) + "}" for count in (20, 100)]
 BELOW = "del(." + "[]" * 60 + ".a[])"
-OWN = {name: SUMS for name in SUMMED} | {"a long string": SUMS, "mappings and nulls": ENTRIES, "a list below long keys": [BELOW]}
+OWN = {name: SUMS for name in SUMMED} | {"a long string": SUMS, "ten long strings": SUMS, "mappings and nulls": ENTRIES, "a list below long keys": [BELOW]}
 TEXTS.update(SUMMED)
 TEXTS["a long string"] = lambda size: "- " + "x" * size + "\n"
+TEXTS["ten long strings"] = lambda size: ("- " + "x" * (size // 10) + "\n") * 10
 TEXTS["mappings and nulls"] = lambda size: "- {a: 1}\n- null\n" * (size // 16)
 LONG_KEYS = "".join(f"{' ' * n}{n:01000}:\n" for n in range(60))
 TEXTS["a list below long keys"] = lambda size: LONG_KEYS + " " * 60 + "a: [" + "1, " * (size * 3 // 10) + "1]\n"
 
 # What takes more, by its cause: texts, and expressions on them.
 ABOVE = [
-    ("the string of a sum is made, however long", ["a long string"], SUMS[:1]),
     ("entries that come to mappings and nulls by turns go one by one", ["mappings and nulls"], ENTRIES[:1]),
 ]
 KNOWN = {(name, expression): cause for cause, names, expressions in ABOVE for name in names for expression in expressions}

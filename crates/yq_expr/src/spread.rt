@@ -1,5 +1,5 @@
 //! Values that are added, or put, at so many places that no text can hold all their items and entries.
-ghost use Rattle.std.specs.Prelude.{◌≡◌, ◌<◌, ◌*◌, IfOk, map, true};
+ghost use Rattle.std.specs.Prelude.{◌≡◌, ◌<◌, ◌*◌, IfOk, false, map, true};
 ghost use Rattle.yq_core.specs.Values.{value_node};
 ghost use Rattle.yq_nodes.specs.Nodes.{node_of};
 ghost use Rattle.yq_eval.{specs.PlaceView.places_of, specs.TreeScalars.{HasScalars, HaveScalars}};
