@@ -32,7 +32,9 @@ Reached = FoundLine × List Step
 bare_strip : (o : Outline) → bare_line (heads_outline null_head o) ≡ option_map (heads_found null_head) (bare_line o)
 bare_strip o = search (rules, heads_found)
 
-under_strip : (f : FoundLine) (o : Option FoundLine) → option_map {U = Reached} (λ g. (place_inside (heads_found null_head f) g, [])) (option_map (heads_found null_head) o) ≡ option_map strip_pair (option_map {U = Reached} (λ g. (place_inside f g, [])) o)
+under_strip : (f : FoundLine) (o : Option FoundLine) →
+    option_map {U = Reached} (λ g. (place_inside (heads_found null_head f) g, [])) (option_map (heads_found null_head) o)
+    ≡ option_map strip_pair (option_map {U = Reached} (λ g. (place_inside f g, [])) o)
 under_strip f None = refl
 under_strip f (Some g) = λ i. Some (record (heads_found null_head g) { place = heads_compose null_head f.place (below f.line g.place f.after) i }, [])
 

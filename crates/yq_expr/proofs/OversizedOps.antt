@@ -1,6 +1,7 @@
 -- The operations of an update that gives a place what no text can hold.
 use Rattle.std.proofs.Common.{◌≡◌, inl, inr, ℕ, zero, suc, true, false, List, [], ◌∷◌, ◌++◌, drop, length, None, if◌then◌else◌, Bool, refl}
-use Rattle.std.{proofs.Common.{sym, ap, ◌∙◌, subst, arith, append_assoc, one-mul}, proofs.lemmas.{Bool.false≢true, List.length-map}}
+use Rattle.std.{proofs.Common.{sym, ap, ◌∙◌, subst, arith, append_assoc, one-mul}, proofs.lemmas.Bool.false≢true}
+use Rattle.std.proofs.lemmas.List.{length-map}
 use Rattle.yq_core.{specs.Shapes.IsTree, specs.Tree.{Node, list}}
 use Rattle.yq_semantics.specs.Changes.{Room, Changed, add_at, at_each, changes_at, left_pipe, put_with_path, with_value}
 use Rattle.yq_semantics.{specs.Judgement.{Judgement, and_then, gives}, specs.Operations.Operation, specs.Pipes.places}
@@ -10,7 +11,7 @@ use Rattle.yq_semantics.{specs.Sizes.items_in, specs.PlacesApart.AreApart, specs
 use Rattle.yq_semantics.{proofs.JudgementLaws.{gives_same, then_gives}, proofs.updates.Each.joined_gives}
 use Rattle.yq_semantics.proofs.updates.SumValues.{right_pure}
 use Rattle.yq_expr.specs.Oversized.{BeginsLarge, BeginsOversized, GivesAt, GivesOversizedOps, HaveUtf8Keys, IsList, IsOversized, IsSpread}
-use Rattle.yq_expr.{specs.Oversized.{MayGiveOversized, is_scalar}, proofs.OversizedLaws.missing_keys}
+use Rattle.yq_expr.{specs.Oversized.{MayGiveOversized, is_scalar_node}, proofs.OversizedLaws.missing_keys}
 use Rattle.yq_expr.proofs.SpreadOps.{AllHaveUtf8Keys, ComesWhole, adds_begin, modified_begins, puts_begin}
 use Rattle.yq_expr.{specs.Parts.{document_ops, rest_ops}, specs.declared.document.DocumentRoot.DocumentRoot}
 use Rattle.yq_expr.proofs.PartLaws.{changes_both, ops_join, ops_there, rest_there}
@@ -51,7 +52,7 @@ sole_spread op v big = record { valid = big.valid; more = omega (arith, big.more
 
 -- a list comes whole
 list_whole : (v : Node) → IsList v → ComesWhole v
-list_whole v (cs, is) = record { no_scalar = ap is_scalar is; apart = λ es other. absurd (let both : list None cs ≡ tree.map None es = sym is ∙ other in cc) }
+list_whole v (cs, is) = record { no_scalar = ap is_scalar_node is; apart = λ es other. absurd (let both : list None cs ≡ tree.map None es = sym is ∙ other in cc) }
 
 -- ---- at the first of places
 

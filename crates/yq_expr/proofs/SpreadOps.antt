@@ -11,7 +11,7 @@ use Rattle.yq_semantics.{specs.Program.{is_index, PathStep, Term, key, index, ea
 use Rattle.yq_semantics.{specs.Sizes.{items_in, items_among}, proofs.JudgementLaws.{gives_same, then_gives}}
 use Rattle.yq_semantics.{proofs.updates.Each.joined_gives, proofs.updates.Planned.all_same}
 use Rattle.yq_semantics.{specs.declared.refusal.Refusal.TheVariants.{IndexOutOfRange, KindMismatch}, specs.PlacesApart.AreApart}
-use Rattle.yq_expr.specs.Oversized.{BeginsOversized, GiveItems, HaveUtf8Keys, is_scalar, items_limit}
+use Rattle.yq_expr.specs.Oversized.{BeginsOversized, GiveItems, HaveUtf8Keys, is_scalar_node, items_limit}
 use Rattle.yq_expr.proofs.Gains.{AreAppends, Gain, GainSome, no_more, one_place, appended, appends, merges, nothing, puts}
 use Rattle.yq_expr.{proofs.GrowthLaws.by_gains, proofs.PartLaws.ops_join}
 use Rattle.yq_core.specs.Tree as tree
@@ -113,7 +113,7 @@ HasEntriesApart v = (cs : Children) → v ≡ tree.map None cs → AreEntries cs
 
 -- all items and entries of a value that is added come: it is no scalar, and the keys of a mapping differ
 pub record ComesWhole (v : Node) : Type 0 where
-  pub no_scalar : is_scalar v ≡ false
+  pub no_scalar : is_scalar_node v ≡ false
   pub apart : HasEntriesApart v
 
 so_added : (doc : ℕ) (v : Node) → IsValueTree v → ComesWhole v → 0 < items_in v → SoAdded doc v
@@ -199,7 +199,7 @@ factor_some m zero k h = absurd (omega (arith, h, mul-zero m))
 factor_some m (suc n) k h = omega arith
 
 -- what is no scalar isn't null
-not_null : (v : Node) → is_scalar v ≡ false → is_null v ≡ false
+not_null : (v : Node) → is_scalar_node v ≡ false → is_null v ≡ false
 not_null (alias name) no_scalar = refl
 not_null (scalar a k t) no_scalar = absurd (false≢true (sym no_scalar))
 not_null (list a cs) no_scalar = refl

@@ -60,11 +60,11 @@ abbrev pub IsList : Node → Type 0
 IsList v = (cs : Children) × (v ≡ list None cs)
 
 -- a value is a scalar (own)
-abbrev pub is_scalar : Node → Bool
-is_scalar (alias name) = false
-is_scalar (scalar a k t) = true
-is_scalar (list a cs) = false
-is_scalar (tree.map a cs) = false
+abbrev pub is_scalar_node : Node → Bool
+is_scalar_node (alias name) = false
+is_scalar_node (scalar a k t) = true
+is_scalar_node (list a cs) = false
+is_scalar_node (tree.map a cs) = false
 
 -- A value that an assignment puts, or adds, if it is a list, has more items and entries than a text may have, and is valid (own).
 pub record IsOversized (op : Operator) (v : Node) : Type 0 where
@@ -158,7 +158,7 @@ pub record SpreadsTooMany (d : DocumentRoot) (u : declared.Update) (count : ℕ)
   pub by : update_of u ≡ assign left (if adds then operator.Add else operator.Set) right
   pub found : right_value d.doc right (root_place (node_of d.root)) ≡ gives value
   pub spreads : IsSpread value count
-  pub whole : adds ≡ true → is_scalar value ≡ false
+  pub whole : adds ≡ true → is_scalar_node value ≡ false
 
 -- in the valid value of terms from a place, with those of other places, are so many items and entries at least (own)
 abbrev pub GivesMore : ℕ → List Term → FoundPlace → (others : ℕ → Type 0) → ℕ → Type 0

@@ -21,6 +21,6 @@ pub use known_document::{KnownDocument, KnownDocuments};
 pub use laws::{comments_are_there, contents_spell, entries_spell, pieces_exist, pieces_hold};
 pub use node_at::FoundNode;
 pub use yq_places::{
-    EntryMark, FlowHead, Held, HeldRow, LinesIn, NodeAt, Placement, RowsOfEntry, Seam,
-    TextPiece, collection_along, line_end, split_break,
+    EntryMark, FlowHead, Held, HeldRow, LinesIn, NodeAt, Placement, RowsOfEntry, Seam, TextPiece,
+    collection_along, line_end, split_break,
 };
