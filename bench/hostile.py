@@ -129,11 +129,19 @@ SUMMED = {
 }
 ENTRIES = [".[] += {" + ",".join(f'"k{number}":1' for number in range(count)) + "}" for count in (20, 100)]
 BELOW = "del(." + "[]" * 60 + ".a[])"
-OWN = {name: SUMS for name in SUMMED} | {"a long string": SUMS, "ten long strings": SUMS, "mappings and nulls": ENTRIES, "a list below long keys": [BELOW]}
+OWN = {name: SUMS for name in SUMMED} | {
+    "a long string": SUMS,
+    "ten long strings": SUMS,
+    "mappings and nulls": ENTRIES,
+    "an alias last": [".c = .a"],
+    "a list below long keys": [BELOW],
+}
 TEXTS.update(SUMMED)
 TEXTS["a long string"] = lambda size: "- " + "x" * size + "\n"
 TEXTS["ten long strings"] = lambda size: ("- " + "x" * (size // 10) + "\n") * 10
 TEXTS["mappings and nulls"] = lambda size: "- {a: 1}\n- null\n" * (size // 16)
+SHORT_KEYS = "".join(f"{' ' * n}k:\n" for n in range(1, 61))
+TEXTS["an alias last"] = lambda size: "b: &x 1\na:\n" + SHORT_KEYS + (" " * 62 + "- 1\n") * (size // 66) + " " * 62 + "- *x\n"
 LONG_KEYS = "".join(f"{' ' * n}{n:01000}:\n" for n in range(60))
 TEXTS["a list below long keys"] = lambda size: LONG_KEYS + " " * 60 + "a: [" + "1, " * (size * 3 // 10) + "1]\n"
 
