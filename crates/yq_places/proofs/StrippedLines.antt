@@ -121,11 +121,16 @@ find_strip s (t ∷ ts) (row l u a) =
     (ap (option_and_then (go_on t ts)) (heads_find_row null_head s (row l u a)) ∙ on_strip t ts (λ o. find_strip t ts o) (find_row s (row l u a)))
     ∙ bare_strip l.mark (Some (record { place = here; line = l; under = u; after = a }, s ∷ (t ∷ ts))) (option_and_then (go_on t ts) (find_row s (row l u a)))
 
-found_strip : (o : Option (FoundLine × List Step)) → option_and_then (λ x. found_line x.0 x.1) (option_map strip_pair o) ≡ option_and_then (λ x. found_line x.0 x.1) o
+abbrev found_number : Option (FoundLine × List Step) → Option ℕ
+found_number o = option_and_then (λ x. found_line x.0 x.1) o
+
+found_strip : (o : Option (FoundLine × List Step)) → found_number (option_map strip_pair o) ≡ found_number o
 found_strip o = search (rules, heads_before, length-map)
 
 pub line_strip : (steps : List Step) (ls : List Line) → line_at_steps steps (map stripped ls) ≡ line_at_steps steps ls
-line_strip steps ls = search (rules, option_and_then, heads_group, find_strip, found_strip)
+line_strip [] ls = refl
+line_strip (s ∷ ss) ls =
+    ap (λ (o : Outline). found_number (find s ss o)) (heads_group null_head ls) ∙ (ap found_number (find_strip s ss (group ls)) ∙ found_strip (find s ss (group ls)))
 
 -- ---- those of a row
 
