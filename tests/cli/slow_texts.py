@@ -152,9 +152,11 @@ def check_collections_emptied_in_one_row(folder):
 
 
 def check_sums_that_no_text_holds(folder):
-    """They aren't made: a text has two bytes at least for each item."""
+    """They aren't made: a text has two bytes at least for each item, and for eight bytes of a string."""
     of_root, of_a = "+".join(["."] * 140), "+".join([".a"] * 140)
+    of_itself, of_first = "+".join(["."] * 600), "+".join([".[0]"] * 600)
     wanted = [*(("bare dashes", f". {operator} {of_root}") for operator in ("=", "|=", "+=")), ("commas", f".b = {of_a}")]
+    wanted += [("a long string", f".[] |= {of_itself}"), ("a long string", f".[0] = {of_first}")]
     for name, expression, status, seconds, megabytes in runs(folder, wanted, 8 * MANY):
         within = status, seconds <= SECONDS, megabytes <= MEGABYTES
         equal(within, (1, True, True), (name, expression[:9], status, seconds, megabytes))
