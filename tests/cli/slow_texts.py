@@ -152,7 +152,7 @@ def check_collections_emptied_in_one_row(folder):
 
 
 def check_sums_that_no_text_holds(folder):
-    """They aren't made: a text has two bytes at least for each item, and for eight bytes of a string."""
+    """They aren't made: a text has at least two bytes for each item, and for each eight bytes of a string."""
     of_root, of_a = "+".join(["."] * 140), "+".join([".a"] * 140)
     of_itself, of_first = "+".join(["."] * 600), "+".join([".[0]"] * 600)
     wanted = [*(("bare dashes", f". {operator} {of_root}") for operator in ("=", "|=", "+=")), ("commas", f".b = {of_a}")]
