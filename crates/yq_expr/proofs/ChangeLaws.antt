@@ -32,7 +32,7 @@ one_out {X} f xs x v w all some is under so_far =
     ∙ (ap (λ ys. nested ys v) (sym (map_push f front x)) ∙ (ap (λ (ys : List X). nested (map f ys) v) (sym (split_last xs x some is)) ∙ so_far)))
 
 -- a list, its first element apart
-split_first : {X : Type 0} (xs : List X) (x : X) → 1 ≤ length xs → x ≡ get_or xs 0 x → xs ≡ x ∷ take (length xs - 1) (drop 1 xs)
+pub split_first : {X : Type 0} (xs : List X) (x : X) → 1 ≤ length xs → x ≡ get_or xs 0 x → xs ≡ x ∷ take (length xs - 1) (drop 1 xs)
 split_first [] x some is = absurd (omega (arith, some))
 split_first (y ∷ ys) x some is = ap (λ z. z ∷ ys) (sym is) ∙ ap (λ zs. x ∷ zs) (sym (take_rest (y ∷ ys) 1))
 

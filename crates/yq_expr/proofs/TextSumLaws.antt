@@ -1,5 +1,5 @@
 -- Sums of strings of known lengths, and what no text can hold.
-use Rattle.std.proofs.Common.{◌≡◌, ℕ, ◌+◌, ◌/◌, ◌<◌, ◌≤◌, false, true, IsUtf8, List, [], ◌∷◌, ◌++◌, length, None, refl, sym, ap, subst}
+use Rattle.std.proofs.Common.{◌≡◌, ℕ, ◌+◌, ◌/◌, ◌<◌, ◌≤◌, false, true, IsUtf8, List, [], ◌∷◌, ◌++◌, length, None, refl, sym, ap, ◌∙◌, subst}
 use Rattle.std.{proofs.Common.{arith, length-append, map, Option, Result}, proofs.lemmas.Str.IsUtf8-append}
 use Rattle.std.specs.declared.alloc.AllocError.{AllocError}
 use Rattle.yq_core.{specs.Tree.{Node, list, scalar, Children}, specs.declared.kind.Kind.Kind}
@@ -9,7 +9,7 @@ use Rattle.yq_planner.specs.declared.updating.list_size.ListSize.{ListSize}
 use Rattle.yq_semantics.{specs.Judgement.{Judgement, and_then, gives}, specs.Places.FoundPlace, specs.Program.Term}
 use Rattle.yq_semantics.{specs.RightValues.{as_items, sum, sum_from, term_value}, specs.View.term_of}
 use Rattle.yq_semantics.specs.declared.program.Operator.{Operator}
-use Rattle.yq_expr.specs.Oversized.{AreItemsOf, GivesList, GivesString, IsLargeSum, ItemsOfSize, HasSmall, JoinsFrom, SumsFrom, found_sum}
+use Rattle.yq_expr.specs.Oversized.{AddsItems, AreItemsOf, GivesList, GivesString, IsLargeSum, ItemsOfSize, HasSmall, SumsFrom, found_sum}
 use Rattle.yq_expr.{specs.Oversized.{found_term, items_limit}, specs.FixedPaths.IfAny}
 use Rattle.yq_eval.specs.PlaceView.{place_of}
 use Rattle.yq_core.specs.declared.kind.Kind.TheVariants as kinds
@@ -34,6 +34,10 @@ start_list v cs size is valid sized =
     let ok : IsValueTree (list None cs) = subst IsValueTree is valid in
     (cs, ap gives is, record { valid = ok.1; sized = subst (λ w. HasSize (list None (as_items w)) size) is sized })
 
+-- a list as what a list gets
+pub list_adds : (j : Judgement Node) (size : ListSize) → GivesList j size → AddsItems j size
+list_adds j size h = (list None h.0, h.1, refl, h.2)
+
 -- ---- sums
 
 -- a string with that of one term more, and others after it
@@ -52,10 +56,11 @@ pub list_sum : (doc : ℕ) (p : found.FoundPlace) (t : declared.Term) (ts : List
 list_sum doc p t ts first result h sums =
     subst (λ j. IfAny result (GivesList (and_then (λ v. sum_from doc (place_of p) v (map term_of ts)) j))) (sym h.1) (sums h.0 h.2)
 
-pub text_sum : (doc : ℕ) (p : found.FoundPlace) (t : declared.Term) (ts : List declared.Term) (first : ℕ) (result : Result (Option ℕ) AllocError) → GivesString (found_term doc p t) first →
-    JoinsFrom doc p first ts result → IfAny result (GivesString (found_sum doc p (t ∷ ts)))
-text_sum doc p t ts first result h joins =
-    subst (λ j. IfAny result (GivesString (and_then (λ v. sum_from doc (place_of p) v (map term_of ts)) j))) (sym h.1) (joins h.0 h.2 h.3)
+pub text_sum : (doc : ℕ) (p : found.FoundPlace) (t : declared.Term) (ts all : List declared.Term) (first n : ℕ) → GivesString (found_term doc p t) first →
+    ((s : List ℕ) → IsUtf8 s → first ≤ length s → GivesString (sum_from doc (place_of p) (scalar None kinds.Text s) (map term_of ts)) n) → all ≡ t ∷ ts → GivesString (found_sum doc p all) n
+text_sum doc p t ts all first n h joins same =
+    subst (λ (us : List declared.Term). GivesString (found_sum doc p us) n) (sym same)
+    (subst (λ j. GivesString (and_then (λ v. sum_from doc (place_of p) v (map term_of ts)) j) n) (sym h.1) (joins h.0 h.2 h.3))
 
 -- ---- sizes
 

@@ -67,11 +67,11 @@ pub small_judged : (root : Node) (right : Judgement Node) (adds : Bool) (ps : Li
     verdict (with_value root right (if adds then add_at else put_with_path) ps) ≡ verdict (at_each root (value_at adds w) ps)
 small_judged root right adds ps w some h =
     ap verdict (value_judged root right adds ps h.0 some h.1)
-    ∙ places_alike root h.0 w adds ps (λ _ mapping. absurd (false≢true (sym h.2 ∙ mapping))) h.3
+    ∙ places_alike root h.0 w adds ps (λ _ mapping. absurd (false≢true (sym h.2.0 ∙ mapping))) h.2.1
 
 pub small_put : (root : Node) (p : FoundPlace) (right : Judgement Node) (w : Node) → HasSmall right w →
     verdict (and_then (all_allowed root) (and_then (put_with_path p) right)) ≡ verdict (and_then (all_allowed root) (put_with_path p w))
-small_put root p right w h = ap (λ j. verdict (and_then (all_allowed root) (and_then (put_with_path p) j))) h.1 ∙ put_alike root p h.0 w h.3
+small_put root p right w h = ap (λ j. verdict (and_then (all_allowed root) (and_then (put_with_path p) j))) h.1 ∙ put_alike root p h.0 w h.2.1
 
 -- an answer of which something is asked where it gives something
 pub ok_some : {A E B : Type 0} (r : Result (Option A) E) → B → IfOk r (λ o. IfSome o (λ _. B))

@@ -5,7 +5,6 @@ ghost use Rattle.yq_nodes.specs.Nodes.{node_of};
 ghost use Rattle.yq_eval.{specs.PlaceView.places_of, specs.TreeScalars.{HasScalars, HaveScalars}};
 ghost use Rattle.yq_semantics.specs.View.{term_of};
 ghost use Rattle.yq_expr.specs.Oversized.{BeginsLarge, GiveItems, IsSpread, ModifiesTooMuch, SpreadsTooMany, is_scalar_node, items_limit};
-ghost use Rattle.yq_semantics.specs.declared.program.Operator.TheVariants as operator;
 
 use crate::document::DocumentRoot;
 use crate::item_counts::count_in;
@@ -29,7 +28,7 @@ fn are_too_many(items: usize, count: usize) -> bool
 
 /// Whether all of a value is in what an assignment gives a place: what is left of a scalar that is added isn't known.
 fn comes_whole(operator: Operator, value: &Value) -> bool
-    ensures { result ≡ true → operator ≡ operator.Add → is_scalar_node (value_node value.now) ≡ false }
+    ensures { result ≡ true → operator ≡ Operator.Add → is_scalar_node (value_node value.now) ≡ false }
 {
     match (operator, value) {
         (Operator::Add, Value::Scalar(_)) => false,
@@ -41,7 +40,7 @@ fn comes_whole(operator: Operator, value: &Value) -> bool
 /// that is added to a mapping or list are in that afterwards.
 fn is_spread(operator: Operator, value: &Value, count: usize) -> bool
     ensures spread { result ≡ true → IsSpread (value_node value.now) count }
-    ensures whole { result ≡ true → operator ≡ operator.Add → is_scalar_node (value_node value.now) ≡ false }
+    ensures whole { result ≡ true → operator ≡ Operator.Add → is_scalar_node (value_node value.now) ≡ false }
 {
     value_holds(value);
     comes_whole(operator, value) && are_too_many(count_in(value), count)

@@ -62,7 +62,6 @@ fn puts(operator: Operator) -> bool
 }
 
 /// A small value that is refused where what has that size is.
-#[tactic(auto, using(crate::proofs::TextSumLaws::small_list, crate::proofs::TextSumLaws::small_text))]
 fn small_value(alloc: Global, size: &SumSize) -> Result<Value, AllocError>
     ensures { IfOk result (IsSmallFor size.now) }
 {
@@ -114,7 +113,7 @@ fn size_of_first<'a, 't>(
 }
 
 /// How large the sum of terms is, where that is a list or a string.
-#[tactic(auto, using(crate::proofs::TextSumLaws::list_sum, crate::proofs::TextSumLaws::text_sum))]
+#[tactic(auto, using(crate::proofs::TextSumLaws::list_sum))]
 fn size_of_sum<'a, 't>(
     alloc: Global,
     doc: usize,

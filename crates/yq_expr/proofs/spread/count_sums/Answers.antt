@@ -19,9 +19,9 @@ places-preserved c =
     let step = reached place_of c.args.places.now c.places.place-index c.place-item.result c.places-test.true c.place-item.is in
     let sized : GivesSized (right_value doc right (place_of c.place-item.result)) c.in-Some.size = rw c.in-Some.is at c.in_ok-size.ensures in
     let so_far : (m : ℕ) → GiveItems doc right rest m → GiveItems doc right (places_of c.args.places.now) (c.saturating_add-count.result + m) =
-    λ m h. fewer_given doc right (places_of c.args.places.now) (c.places.count + (c.items-size.result + m)) (c.saturating_add-count.result + m)
-    (c.places.invariant.so_far (c.items-size.result + m) (subst (λ qs. GiveItems doc right qs (c.items-size.result + m)) (sym step)
-    (one_given doc right (place_of c.place-item.result) rest c.in-Some.size c.items-size.result m c.items-size.ensures sized h)))
+    λ m h. fewer_given doc right (places_of c.args.places.now) (c.places.count + (c.items.result + m)) (c.saturating_add-count.result + m)
+    (c.places.invariant.so_far (c.items.result + m) (subst (λ qs. GiveItems doc right qs (c.items.result + m)) (sym step)
+    (one_given doc right (place_of c.place-item.result) rest c.in-Some.size c.items.result m c.items.ensures sized h)))
     (omega (arith, c.saturating_add-count.ensures)) in
     record {
       scalars = (subst HaveScalars step c.places.invariant.scalars).1;
