@@ -1,17 +1,17 @@
 # make: the program, crates/yq/out/yq, proved and built.
 # make test: the whole gate: every proof from nothing, wrong bodies, tests, and the program on real files; ANEW=1: also what is kept.
 # make ready: layout, imports, stray sources, definitions without a section, names that two files define, words that the glossary
-#   replaces, crates that aren't there, wide clauses, wrong bodies that can't be applied, versions that differ, options that aren't
-#   told as the table has them, and links of pages that lead nowhere, in some 20 seconds.
-# make look: an edit printed by the program as it is before any proof, in some two minutes.
+#   replaces, crates that aren't there, wide clauses, wrong bodies that can't be applied, versions that differ, options that
+#   differ from their table, and links of pages that lead nowhere, in some 20 seconds.
+# make look: builds the program without proofs and prints an edit, in some two minutes.
 # make demo: one edit and its undo, once all is proved.
-# make install, make uninstall: the program, its man page, pages for users and completions below PREFIX, or not; NAME=yqe: as yqe.
-# make dist: an archive of these for those who don't build, dist/yq-VERSION-linux-x86_64.tar.gz.
+# make install, make uninstall: puts the program, its man page, its pages and completions below PREFIX, or removes them; NAME=yqe: as yqe.
+# make dist: an archive of these, dist/yq-VERSION-linux-x86_64.tar.gz.
 # make wrong-bodies CRATES="yq_rows yq_lookup": the wrong bodies that the gate doesn't try; all crates where none is named.
 # make corpus DIR=FOLDER: edits and their undo in a copy of each YAML file of a folder.
 # make bench: time, instructions and memory of reading, editing and parsing; DIR=FOLDER names a folder of YAML files to be read too.
-# make clean: what was proved and built goes.
-# make help: these lines. YQ=PROGRAM has install, dist, corpus and bench take a program that is there, and build none.
+# make clean: removes what was proved and built.
+# make help: these lines. With YQ=PROGRAM install, dist, corpus and bench take that program, and build none.
 
 # The name under which the program is installed; man page, completions and help follow it.
 NAME ?= yq
@@ -19,7 +19,7 @@ PREFIX ?= $(HOME)/.local
 YQ := crates/yq/out/yq
 SOURCES := $(shell find crates -path '*/out' -prune -o -type f \( -name '*.rt' -o -name '*.antt' \) -print) crates.txt
 
-# Where what is installed stands below PREFIX.
+# Where files are installed, below PREFIX.
 PLACE := $(DESTDIR)$(PREFIX)
 PROGRAM := $(PLACE)/bin/$(NAME)
 MAN := $(PLACE)/share/man/man1/$(NAME).1
@@ -36,7 +36,7 @@ NAMED_WORDS := sed 's/yq/$(NAME)/g'
 # One line, and no more, where the toolchain isn't there.
 RATTLE := $(lastword $(or $(RT),rt))
 NO_RATTLE := no command $(RATTLE): the toolchain, which proves and builds, isn't there. Without it: make help, docs/, the archive that \
-	README.md tells of, and install, corpus and bench with YQ=PROGRAM
+	README.md names, and install, corpus and bench with YQ=PROGRAM
 need_rattle = $(if $(shell command -v $(RATTLE)),,$(error $(NO_RATTLE)))
 
 .PHONY: test ready wrong-bodies look demo install uninstall dist bench corpus no-folder clean help

@@ -2,8 +2,9 @@
 
 usage: hostile.py PATH_OF_YQ [TENTH]      with TENTH, every tenth of the runs alone, from that one on (0 to 9)
 
-62 texts of 1 MB by 20 expressions, and 15 texts by one or two of 1 KB. What is refused counts as what is done: here it matters
-what it takes. Runs that are known to take more are listed with their cause (KNOWN): they are run for 5 s at most, and told. The
+20 expressions on each of 62 texts of 1 MB, and one or two expressions of their own on the other texts. A refused run counts like
+others: what matters is what it takes. Runs that are known to take more are listed with their cause (KNOWN): they end after 5 s
+at most, and are reported. The
 last line is `N within, N known, N above`.
 """
 

@@ -12,8 +12,8 @@ KINDS = PROOF, TESTS, EDITS
 HEAD = """\
 # The gate by crate
 
-What `make test` took of each crate, in processor seconds, and its proof also in seconds by the clock. `tools/gate.py` writes this page
-where it has proved something and `rt ci` passed. What a run took from an earlier one keeps its numbers and its day.
+What `make test` took for each crate, in processor seconds, and for its proof also in seconds by the clock. `tools/gate.py` writes this
+page after a run that proved something and passed `rt ci`. A crate that the run didn't prove anew keeps its numbers and its day.
 
 """
 ROW = re.compile(r"\| `(\w+)` \|" + r" ([\d,]*) \|" * 4 + r" ([\d-]*) \|")

@@ -77,7 +77,7 @@ fn edited_len(alloc: Global, text: &str, expr: &str) -> Option<usize> {
     }
 }
 
-/// The number that tells what a call gives: none where memory was wanting.
+/// The number that says what a call gives: none where memory ran out.
 pub fn called(alloc: Global, inputs: Inputs<'_>, call: OnDocuments) -> Option<usize> {
     let Inputs {
         updates,

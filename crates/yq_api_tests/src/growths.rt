@@ -20,7 +20,7 @@ enum Call {
     Journal(OnJournal, &'static str),
 }
 
-/// Calls in order, and a number that tells what each gives: of a content, a gap and lines for how many bytes
+/// Calls in order, and a number that says what each gives: of a content, a gap and lines for how many bytes
 /// memory was taken, which is more only if it was taken twice.
 static CALLS: [(Call, usize); 50] = [
     (Call::Text(OnText::Content, "a\n b\n\n c"), 8),

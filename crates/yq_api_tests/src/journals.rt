@@ -65,7 +65,7 @@ fn is_started(
     }
 }
 
-/// Whether the call is carried out: not where memory was wanting.
+/// Whether the call is carried out: not where memory ran out.
 fn is_called(alloc: Global, journal: &mut Journal, call: OnJournal, text: &[u8]) -> bool {
     match call {
         OnJournal::Read => is_read(alloc, journal, TWO),
@@ -91,7 +91,7 @@ fn is_called(alloc: Global, journal: &mut Journal, call: OnJournal, text: &[u8])
     }
 }
 
-/// The journal's cursor after a call: none where memory was wanting.
+/// The journal's cursor after a call: none where memory ran out.
 pub fn called(alloc: Global, journal: &mut Journal, call: OnJournal, text: &[u8]) -> Option<usize> {
     if is_called(alloc, journal, call, text) {
         Some(journal.at())

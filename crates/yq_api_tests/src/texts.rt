@@ -68,7 +68,7 @@ fn node_end(alloc: Global, text: &str) -> Option<usize> {
     }
 }
 
-/// The number that tells what a call gives: none where memory was wanting.
+/// The number that says what a call gives: none where memory ran out.
 pub fn called(alloc: Global, call: OnText, text: &str) -> Option<usize> {
     match call {
         OnText::Content => piece_room(alloc, text, false),

@@ -13,11 +13,11 @@ cause_in (Err x) = Some x
 abbrev pub IsOfNoCall : Fault → Type 0
 IsOfNoCall e = (is_failure e ≡ false) × (is_output e ≡ false)
 
--- nothing is given for that cause, or for want of memory
+-- nothing is given for that cause, or for lack of memory
 abbrev pub FailsFor : {X : Type 0} → Result X Cause → {T : Type 0} → Result T Fault → Type 0
 FailsFor due r = IfErr r (λ e. e ≢ OutOfMemory → IsFor (cause_in due) e)
 
--- a command is refused for this cause, or for want of memory, and for nothing else
+-- a command is refused for this cause, or for lack of memory, and for nothing else
 abbrev pub IsUnparsed : Cause → {T : Type 0} → Result T Fault → Type 0
 IsUnparsed x r = MatchResult r (λ v. ⊥) (λ e. e ≢ OutOfMemory → IsFor (Some x) e)
 

@@ -31,7 +31,7 @@ abbrev pub Refuses : EditOutcome → Fault → Type 0
 Refuses (refused x) e = IsFor (Some x) e
 Refuses (edited text changes) e = ⊥
 
--- an edit is refused for that, or for want of memory (own)
+-- an edit is refused for that, or for lack of memory (own)
 abbrev pub RefusedBy : EditOutcome → {T : Type 0} → Result T Fault → Type 0
 RefusedBy outcome r = IfErr r (λ e. e ≢ OutOfMemory → Refuses outcome e)
 

@@ -131,7 +131,7 @@ StepsHistory c r old new =
     (file journal : List ℕ) → file ≢ journal → IsOn file journal c ⊎ IsUnrelated file journal c → (h : Option History) → GoodIn old file journal h →
     (k : Option History) × Goes file journal c h r k × GoodIn new file journal k
 
--- a command is refused for this cause, or for want of memory
+-- a command is refused for this cause, or for lack of memory
 abbrev pub ReportsUnparsed : Cause → Answer → Type 0
 ReportsUnparsed x (Refused e) = e ≢ OutOfMemory → IsFor (Some x) e
 ReportsUnparsed x _ = ⊥
@@ -200,7 +200,7 @@ failures_in as' = count_passing reports_failure as'
 abbrev pub output_failures_in : List Answer → ℕ
 output_failures_in as' = count_passing reports_output as'
 
--- the answer doesn't report want of memory
+-- the answer doesn't report lack of memory
 abbrev pub has_memory : Answer → Bool
 has_memory (Refused e) = not (is_memory e)
 has_memory _ = true

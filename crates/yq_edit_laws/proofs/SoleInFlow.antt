@@ -22,7 +22,7 @@ use Rattle.yq_places.specs.NodesAt as nodes
 -- ---- what a collection is
 
 abbrev kind_of : Bool → Bool → NodeAt
-kind_of keyed several = cond keyed (nodes.map several) (nodes.list several)
+kind_of by_key several = cond by_key (nodes.map several) (nodes.list several)
 
 named_kind : (a : List ℕ) (n : tree.Node) → node_summary (with_name a n) ≡ node_summary n
 named_kind a n = search rules

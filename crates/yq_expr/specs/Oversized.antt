@@ -66,7 +66,7 @@ is_scalar_node (scalar a k t) = true
 is_scalar_node (list a cs) = false
 is_scalar_node (tree.map a cs) = false
 
--- A value that an assignment puts, or adds, if it is a list, has more items and entries than a text may have, and is valid (own).
+-- A value that an assignment puts, or a list that it adds, is valid and has more items and entries than a text may have (own).
 pub record IsOversized (op : Operator) (v : Node) : Type 0 where
   pub valid : IsValueTree v
   pub added : op ≡ operator.Add → IsList v

@@ -20,7 +20,7 @@ use yq_semantics::{
     Assignment, Comment, CommentPlace, Op, Operator, PathStep, Program, Stage, Syntax, Term, Update,
 };
 
-/// Whether documents are one, in which no alias is.
+/// Whether there is one document, and it has no alias.
 pub fn is_sole(documents: &Documents<'_>) -> bool
     ensures { result ≡ true → IsSole (documents_of documents.now) }
 {
@@ -207,9 +207,11 @@ fn reaches(alloc: Global, cut: &mut CutText<'_, '_>, op: &Op) -> Result<bool, Al
 }
 
 /// The operation that carries out update `nth` of a program, counted from 0, on a text of one document
-/// without aliases, where the update changes one node at a fixed path that is there: it is planned by the
-/// rows on the way, which are known then. Nothing, where the program has no such update, or the update is
-/// another one, or the node or the room for a comment isn't there.
+/// without aliases, if the update changes one node that is there, at a path of keys and indices. It is
+/// planned by the rows on the way, which are known afterwards.
+///
+/// `None` if the program has no such update, if it is an update of another kind, or if the node or the
+/// room for a comment isn't there.
 pub fn plan_by_rows(
     alloc: Global,
     cut: &mut CutText<'_, '_>,

@@ -209,8 +209,8 @@ fn take_more<'a>(
     Ok(sum > room)
 }
 
-/// Whether the operations that update `nth` of a program, counted from 0, makes for documents would take so
-/// much memory that its plan is to be made in parts.
+/// Whether the operations of update `nth` of a program, counted from 0, would take so much memory on
+/// these documents that its plan has to be made in parts.
 pub fn is_heavy(
     alloc: Global,
     program: &Program,

@@ -277,8 +277,8 @@ fn judge_plan(alloc: Global, update: &Update, documents: &Documents<'_>) -> Resu
     judge_update(alloc, update, documents)
 }
 
-/// Judges update `nth` of a program, counted from 0, on documents: it has a plan there, or is refused, with the
-/// value at which it is.
+/// Judges update `nth` of a program, counted from 0, on documents: either it has a plan, or it is
+/// refused, with the path to the value at which it is.
 pub fn judge(
     alloc: Global,
     program: &Program,

@@ -11,7 +11,7 @@ use yq_eval::FoundPlace;
 use yq_planner::{Aliases, PlacedChange, allow};
 use yq_semantics::ExprError;
 
-/// Puts a change of a place's node after others, if nothing refuses it.
+/// Adds the change of a node at a place to others, if nothing refuses it.
 #[tactic(auto, using(yq_planner::proofs::ValidLaws::each_more))]
 pub fn push_change(
     alloc: Global,

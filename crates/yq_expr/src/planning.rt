@@ -32,8 +32,8 @@ fn plan_update(
     Ok(operations(alloc, is_removal(update), changes)?)
 }
 
-/// The operations that carry out update `nth` of a program, counted from 0, on documents: those of each document
-/// at and below one node, to which the steps are kept once.
+/// The operations that carry out update `nth` of a program, counted from 0, on documents. The
+/// operations of one document at and below one node share the steps to that node.
 pub fn plan_under(
     alloc: Global,
     program: &Program,

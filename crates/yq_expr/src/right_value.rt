@@ -209,7 +209,7 @@ fn scalar_terms<'a>(
     Some((kind, text, added))
 }
 
-/// The value of a sum of terms, from a place in document `doc`.
+/// The value of a sum of terms, found from a place in document `doc`, counted from 0.
 pub fn right_value<'a, 't>(
     alloc: Global,
     doc: usize,

@@ -51,7 +51,8 @@ fn push_in_quotes(lines: &mut String, text: &str) -> Result<(), AllocError>
     lines.push_str("\"")
 }
 
-/// Adds a text as a JSON string that hides nothing. One that is printed as it is is copied.
+/// Adds a text as a JSON string in which every character that a terminal would act on is escaped. A text
+/// without such characters is copied.
 fn push_string(lines: &mut String, alloc: Global, text: &str) -> Result<(), AllocError>
     ensures { AddsText result lines.old lines.new (visible (json.quoted text.now)) }
 {

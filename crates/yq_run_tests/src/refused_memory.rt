@@ -1,5 +1,5 @@
 //! Each growth of commands refused in turn, in one list and command by command: nothing is run, or a command is
-//! refused for want of memory. The file stays whole, and all is done once there is memory.
+//! refused for lack of memory. The file stays whole, and all is done once there is memory.
 
 use crate::asked::{FILE, Request, commands, store_with_file};
 use std::alloc::Global;

@@ -8,7 +8,7 @@ use Rattle.yq_edit_laws.{specs.Answers.EditFails, specs.Edit.{Edit, unreadable, 
 use Rattle.yq_edit_laws.specs.Theorems.{HasReading, ProgramRefused}
 use Rattle.yq_fault.specs.declared.fault.Fault.TheVariants as fault
 
--- what a fault says of an edit, and that no text is reported to be no UTF-8; want of memory says nothing, and no other fault comes (own)
+-- what each fault says of an edit: never that the text isn't UTF-8. Lack of memory says nothing, and there is no other fault (own).
 abbrev pub TextFails : Fault → Edit → Type 0
 TextFails (fault.Unreadable f) edit = (edit ≡ unreadable) × (f.kind ≢ NotUtf8)
 TextFails (fault.Refused why) edit = edit ≡ refuses why

@@ -34,7 +34,7 @@ Knows t known = IsKnowledge (rows_view (cut_of t)) known
 abbrev pub IsChangeBy : Operation → List ℕ → ChangedMiddle → Type 0
 IsChangeBy op t x = IsChange (segments_by op (cut_of t)) x
 
--- what is kept stays known of a text after a change of it (own)
+-- what is known of a text is still known after a change of it (own)
 abbrev pub KnowsAfter : List ℕ → Knowledge → ChangedMiddle → Type 0
 KnowsAfter t known x = KnowledgeStays x.front (cut_of t) known
 
@@ -51,9 +51,9 @@ abbrev pub NotOpened : ReadError → List ℕ → Type 0
 NotOpened (reading.Fault fault) t = (¬ HasReading t) × (fault.kind ≢ NotUtf8)
 NotOpened reading.Memory t = ⊤
 
--- The lines were counted that are read where an operation exchanges rows and ends of parts: of those that it wrote, in the place of those that its
--- segments touch, without an end after whose marker's line it begins and without the line of a marker that stays; and no others. Each of those is
--- touched by a range of what was put. They are no more than the lines that these ranges touch, of which a marker that stays has none (own).
+-- An operation counts the lines of the rows and ends of parts that it wrote, which replace those that its segments touch, and no others. It counts
+-- no end after whose marker's line it begins, and no line of a marker that stays. Each row and end that is counted is touched by a range of what was
+-- put. So the lines are no more than those that these ranges touch (own).
 pub record IsScanned (op : Operation) (t new : List ℕ) (before after : ℕ) : Type 0 where
   pub cut : Cut
   pub new_cut : Cut

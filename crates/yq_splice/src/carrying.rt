@@ -33,12 +33,11 @@ pub(crate) fn carry(alloc: Global, text: &str, op: &Op) -> Result<Edited, ExprEr
     carry_one(alloc, &CutText::new(text, &rows), op)
 }
 
-/// Carries out an operation on a text that has a reading and whose documents
-/// it fits: the text reads as the documents after it, and each byte that the
-/// operation doesn't name stays as it is.
+/// Carries out an operation on a text that has a reading, and whose documents the operation fits. The
+/// new text reads as the documents after it, and each byte that the operation doesn't name stays.
 ///
-/// It is refused where the new text would be larger than 16,777,216 bytes
-/// ([`Refusal::TooLarge`](yq_semantics::Refusal::TooLarge)), and for no other reason but memory.
+/// Refused exactly where the new text would have more than 16,777,216 bytes
+/// ([`Refusal::TooLarge`](yq_semantics::Refusal::TooLarge)), or because memory ran out.
 pub fn apply_op(alloc: Global, text: &str, op: &Op) -> Result<Edited, ExprError>
     requires { IsFitting (operation_of op.now) text.now }
     ensures exact { Edits result (spec.carried (operation_of op.now) text.now) }

@@ -8,7 +8,7 @@ pub fn edits_carry_out()
     ensures { EditsCarryOut }
 {}
 
-/// Every operation that fits the documents of a text has what it exchanges.
+/// For every operation that fits the documents of a text, it is defined what it replaces.
 pub fn fitting_has_edit()
     ensures { FittingHasEdit }
 {}

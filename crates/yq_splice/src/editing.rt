@@ -190,15 +190,15 @@ fn edit_read(
     update_each(alloc, text, documents, program)
 }
 
-/// Carries out a program on a text, one update after the other, and of each
-/// the operations of its plan, one after the other: each byte that no
-/// operation names stays as it is.
+/// Carries out a program on a text: one update after the other, and the operations of its plan one
+/// after the other. Each byte that no operation names stays.
 ///
-/// The errors, in their order: the text has no reading; the program is a read
-/// ([`Refusal::NotAnUpdate`]); an update is refused, as its plan on the text
-/// that the one before gave; a new text would be larger than 16,777,216 bytes
-/// ([`Refusal::TooLarge`]). The text is read again for an update that rows do not plan; of an update's operations
-/// each but the last one reads the rows that it wrote.
+/// Refused, first to last: if the text has no reading; if the program is a read
+/// ([`Refusal::NotAnUpdate`]); if an update is refused on the text that the one before left; if a new
+/// text would have more than 16,777,216 bytes ([`Refusal::TooLarge`]).
+///
+/// An update that isn't planned by rows reads the whole text again. After each of its operations but
+/// the last, the rows that it wrote are read.
 pub fn edit(alloc: Global, text: &str, program: &Program) -> Result<Edited, Fault>
     // The new text, or why there is none.
     ensures exact { EditsText result (spec.edit_of (program_of program.now) text.now) }

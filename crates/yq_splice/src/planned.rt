@@ -127,8 +127,8 @@ fn carry_on_rows(
     carry_rows(alloc, text, rows, splices, &ops)
 }
 
-/// The operations of a plan carried out on a text that was read; their splices come after others. For a
-/// sole one the text is not copied.
+/// Carries out the operations of a plan on a text that was read. Their splices come after the given
+/// ones. For a single operation the text isn't copied.
 pub fn carry_plan(
     alloc: Global,
     text: &str,

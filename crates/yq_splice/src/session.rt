@@ -26,10 +26,10 @@ use yq_semantics::{ExprError, Op};
 use yq_text::{ChangedMiddle, Edited, Halves, Splice, TextGapBuffer};
 use yq_tree::read;
 
-/// A text that reads, kept with where its rows are, both on two sides of where it was changed last: so that
-/// operations are applied to it one after the other, each passes what is between its place and the last
-/// one's, and of the rows only those that it touches are read again. The way to the next one's place goes on
-/// from what is known of the way of the last one.
+/// A text that reads, with the places of its rows, for operations that are applied one after the other.
+/// Text and places are kept in two halves, split where the text was changed last. So an operation moves
+/// only what is between its place and the last one's, and reads only the rows that it touches. The
+/// search for its place goes on from what is known of the way to the last one.
 #[derive(Drop)]
 pub struct Session {
     alloc: Global,
@@ -79,9 +79,10 @@ fn change(
 }
 
 impl Session {
-    /// Begins with a text, whose lines are counted.
+    /// Opens a session on a text, and counts its lines.
     ///
     /// # Errors
+    ///
     /// The text has no reading, or memory ran out.
     pub fn open(alloc: Global, text: &str) -> Result<Session, ReadError>
         ensures exact { Gives (λ s. cut_of s.text) result (read_at text.now) }
@@ -136,12 +137,15 @@ impl Session {
         planned
     }
 
-    /// Applies an operation that fits the documents of the text. Each byte that it doesn't name stays as
-    /// it is, and of the rows and ends of parts those that it wrote are read, and their lines are counted.
+    /// Applies an operation that fits the documents of the text, and gives its splices. Each byte that
+    /// it doesn't name stays. The rows and ends of parts that it wrote are read, and their lines are
+    /// counted.
     ///
     /// # Errors
-    /// It is refused where the new text would be larger than 16,777,216 bytes
-    /// ([`Refusal::TooLarge`](yq_semantics::Refusal::TooLarge)), and for no other reason but memory.
+    ///
+    /// Refused exactly where the new text would have more than 16,777,216 bytes
+    /// ([`Refusal::TooLarge`](yq_semantics::Refusal::TooLarge)), or because memory ran out. The session
+    /// then stays as it was.
     pub fn apply(&mut self, op: &Op) -> Result<Vec<Splice>, ExprError>
         requires { IsFitting (operation_of op.now) self.old.text }
         // What the operation gives by itself.
@@ -201,8 +205,8 @@ impl Session {
         Ok(splices)
     }
 
-    /// The text as it is, in the two halves in which it is kept: to lend it as one `&str` would move one
-    /// of them, which an operation after that would have to move back.
+    /// The text as it is now, in the two halves in which it is kept. To give it as one `&str`, one half
+    /// would have to be moved, and moved back for the next operation.
     pub fn text(&self) -> Halves<'_>
         ensures text { whole result ≡ self.now.text }
         ensures read { HasReading self.now.text }
@@ -210,14 +214,14 @@ impl Session {
         self.text.halves()
     }
 
-    /// How many lines were counted, up to the last value of a `u64`.
+    /// How many lines were counted so far, up to the greatest `u64`.
     pub fn scanned(&self) -> u64
         ensures { result ≡ self.now.scanned }
     {
         self.meter.count()
     }
 
-    /// The text, where the session ends.
+    /// Ends the session and gives its text.
     pub fn close(self) -> String
         ensures { string_bytes result ≡ self.text }
     {

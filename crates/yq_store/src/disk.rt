@@ -121,7 +121,7 @@ impl<
         }
     }
 
-    /// Replaces a file. Want of memory is an error only where every file is as before.
+    /// Replaces a file. Lack of memory is an error only where every file is as before.
     fn put(&mut self, name: &str, bytes: &[u8]) -> io::Result<()>
         ensures counts { self.new.counts ≡ self.old.counts }
     {

@@ -36,7 +36,7 @@ fn fill(file: &mut File, bytes: &[u8], rights: Rights) -> io::Result<()> {
 }
 
 /// Renames a temporary file over a path; gives whether it did, since it doesn't where another file is there
-/// than is to be replaced. Want of memory is reported where that isn't known.
+/// than is to be replaced. Lack of memory is reported where that isn't known.
 fn put_over<R: Files + Alloc<A = Global>>(
     rt: &R,
     temporary: &OpenedFile,

@@ -1,5 +1,6 @@
 use Rattle.std.proofs.Common.{◌-◌, drop, length, take}
-use Rattle.yq_expr.{specs.Oversized.{GivesList, GivesSized, GivesString, found_term}, proofs.ChangeLaws.split_first, proofs.TextSumLaws.{list_adds, text_sum}}
+use Rattle.yq_expr.{specs.Oversized.{GivesList, GivesSized, GivesString, found_term}, proofs.ChangeLaws.split_first}
+use Rattle.yq_expr.proofs.TextSumLaws.{list_adds, text_sum}
 use Rattle.yq_expr.proofs.sum_sizes.size_of_sum.Goals as goal
 
 pub size_with_terms-requires-clause-first : goal.size_with_terms-requires-clause-first
