@@ -7,6 +7,7 @@ use Rattle.yq_edit_laws.{specs.NearParts.{IsUniqueNode, head_with}, specs.PartPu
 use Rattle.yq_edit_laws.proofs.FlowAnswers.{coll_found}
 use Rattle.yq_semantics.specs.Operations.{append, operation_of}
 use Rattle.yq_batch.{specs.Runs.{ChangesBy, cut_with}, proofs.MoreAnswers.{adds_at, more_head}, proofs.RunAnswers.unique_head}
+use Rattle.yq_batch.proofs.change.more_change.Goals.{In-Some-put}
 use Rattle.yq_batch.proofs.change.more_change.Goals as goal
 
 pub collection_near-requires : goal.collection_near-requires

@@ -7,6 +7,7 @@ use Rattle.yq_edit_laws.{specs.NearParts.{IsUniqueNode, head_with}, proofs.FlowA
 use Rattle.yq_edit_laws.{proofs.PutAnswers.puts_found, specs.PartPuts.{IsValuePut, place_after}}
 use Rattle.yq_semantics.specs.Operations.{operation_of}
 use Rattle.yq_batch.{specs.Runs.{ChangesBy, cut_with}, proofs.RunAnswers.{head_there, puts_at, unique_head}}
+use Rattle.yq_batch.proofs.change.part_change.Goals.{After-replace_place-place}
 use Rattle.yq_batch.proofs.change.part_change.Goals as goal
 
 pub collection_near-requires : goal.collection_near-requires

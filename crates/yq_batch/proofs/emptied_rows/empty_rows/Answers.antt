@@ -3,6 +3,7 @@ use Rattle.yq_core.specs.Entries.{tree_step}
 use Rattle.yq_documents.{specs.Located.steps_of, specs.Reading.cut_of}
 use Rattle.yq_places.specs.Placements.{last_step}
 use Rattle.yq_batch.{proofs.EmptiedAnswers.{can_empty, three_bytes}, proofs.RowRemovalAnswers.CanTake}
+use Rattle.yq_batch.proofs.emptied_rows.empty_rows.Goals.{After-emptied_text}
 use Rattle.yq_semantics.specs.Operations.{remove}
 use Rattle.yq_batch.proofs.emptied_rows.empty_rows.Goals as goal
 

@@ -5,7 +5,7 @@ use Rattle.yq_batch.proofs.emptied_rows.sole_place.Goals as goal
 pub returns : goal.returns
 returns c = record {
   removal = removal_view c.in_ok-gone.gone c.in_ok-gone.field-0-1;
-  removal_is = c.in_ok-removal.ensures;
+  removal_is = c.in_ok-gone.ensures;
   short = (let less = c.if-end-keep.false in omega (arith, less, c.in_ok-end.ensures));
   marks = _;
   marks_are = c.in_ok-own.ensures;

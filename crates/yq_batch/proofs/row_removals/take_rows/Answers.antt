@@ -2,10 +2,16 @@ use Rattle.std.proofs.Common.{ℕ, refl, subst, sym, arith, ◌+◌, []}
 use Rattle.yq_documents.{specs.Located.steps_of, specs.Reading.cut_of}
 use Rattle.yq_places.specs.RemovalReading.{removal_view}
 use Rattle.yq_batch.{specs.RowRemovals.{RemovesRowsOn, removal_of}, proofs.RowRemovalAnswers.{found_rows, out_small, CanTake, rows_changed}}
+use Rattle.yq_batch.proofs.row_removals.take_rows.Goals.{After-is_text-2}
 use Rattle.yq_batch.proofs.row_removals.take_rows.Goals as goal
 
 pub len-requires : goal.len-requires
 len-requires c =
+    let small = out_small c.args.cut.now c.args.path.now.doc (steps_of c.args.path.now) (removal_view c.in-Some.gone c.in-Some.seam) c.text-text.ensures.read (sym c.in-Some.ensures) in
+    omega (arith, small)
+
+pub len-start-requires : goal.len-start-requires
+len-start-requires c =
     let small = out_small c.args.cut.now c.args.path.now.doc (steps_of c.args.path.now) (removal_view c.in-Some.gone c.in-Some.seam) c.text-text.ensures.read (sym c.in-Some.ensures) in
     omega (arith, small)
 
@@ -22,13 +28,13 @@ found c =
     c.least_for-next.ensures c.is_text.ensures c.is_text-2.ensures
 
 pub exchange-requires-clause-utf8 : goal.exchange-requires-clause-utf8
-exchange-requires-clause-utf8 c = (found c).utf8
+exchange-requires-clause-utf8 c = (found (goal.at.exchange-requires-clause-utf8 c).After-is_text-2).utf8
 
 pub exchange-requires-clause-start : goal.exchange-requires-clause-start
-exchange-requires-clause-start c = (found c).starts
+exchange-requires-clause-start c = (found (goal.at.exchange-requires-clause-start c).After-is_text-2).starts
 
 pub exchange-requires-clause-end : goal.exchange-requires-clause-end
-exchange-requires-clause-end c = (found c).finishes
+exchange-requires-clause-end c = (found (goal.at.exchange-requires-clause-end c).After-is_text-2).finishes
 
 pub returns-clause-ok : goal.returns-clause-ok
 returns-clause-ok c =

@@ -6,13 +6,13 @@ use Rattle.yq_batch.proofs.slots.Slots.+put.Goals as goal
 pub returns-then-place-split-clause-put : goal.returns-then-place-split-clause-put
 returns-then-place-split-clause-put t c =
     let own = subst (λ (o : Option (ℕ × ℕ)). IfSome o
-    (λ p. IsPutIn (slots_of c.deref_mut.result.now) (slots_of c.put-then-place-split.new.self) c.args.place c.args.lead.now c.args.written.now
+    (λ p. IsPutIn (slots_of c.deref_mut.result.now) (slots_of c.put.new.self) c.args.place c.args.lead.now c.args.written.now
     p.0 p.1)) c.in-Some.is c.in_ok-put-in-Two.ensures.put in
-    let h = subst (λ (s : Slots). IsPutIn (slots_of s) (slots_of c.put-then-place-split.new.self) c.args.place c.args.lead.now c.args.written.now c.in-Some.put.0 c.in-Some.put.1) c.deref_mut.ensures.value own in
+    let h = subst (λ (s : Slots). IsPutIn (slots_of s) (slots_of c.put.new.self) c.args.place c.args.lead.now c.args.written.now c.in-Some.put.0 c.in-Some.put.1) c.deref_mut.ensures.value own in
     let known : HasCounts c.args.self.now = search rules in
     let counts = subst HasCounts c.in-Two.is known in
-    subst (λ (s : Slots). IsPutIn (slots_of s) (slots_of c.in-Two.left.value ++ slots_of c.put-then-place-split.new.self) c.args.place c.args.lead.now c.args.written.now c.in-Some-moved.at c.in-Some.put.1) (sym c.in-Two.is)
-    (in_right c.args.place c.args.lead.now c.args.written.now (slots_of c.in-Two.left.value) (slots_of c.in-Two.right.value) (slots_of c.put-then-place-split.new.self) c.in-Some.put.0 c.in-Some-moved.at c.in-Some.put.1 h
+    subst (λ (s : Slots). IsPutIn (slots_of s) (slots_of c.in-Two.left.value ++ slots_of c.put.new.self) c.args.place c.args.lead.now c.args.written.now c.in-Some-moved.at c.in-Some.put.1) (sym c.in-Two.is)
+    (in_right c.args.place c.args.lead.now c.args.written.now (slots_of c.in-Two.left.value) (slots_of c.in-Two.right.value) (slots_of c.put.new.self) c.in-Some.put.0 c.in-Some-moved.at c.in-Some.put.1 h
     (omega (arith, c.in-Some-moved.ensures, counts.0, counts.1)))
 
 pub returns-in-Some-checked_add-3-clause-counts : goal.returns-in-Some-checked_add-3-clause-counts
