@@ -128,12 +128,14 @@ SUMMED = {
     for kind, one in LISTS.items()
     for count in (3, 10, 100, 10_000)
 }
-ENTRIES = [".[] += {" + ",".join(f'"k{number}":1' for number in range(count)) + "}" for count in (20, 100)]
+ENTRIES = [".[] += {" + ",".join(f'"k{number}":1' for number in range(count)) + "}" for count in (20, 100, 400)]
 BELOW = "del(." + "[]" * 60 + ".a[])"
 OWN = {name: SUMS for name in SUMMED} | {
     "a long string": SUMS,
     "ten long strings": SUMS,
-    "mappings and nulls": ENTRIES,
+    "mappings and nulls": ENTRIES[:2],
+    "few mappings and nulls": ENTRIES[2:],
+    "mappings alone on lines": ENTRIES[:1],
     "an alias last": [".c = .a"],
     "a list below long keys": [BELOW],
 }
@@ -141,14 +143,19 @@ TEXTS.update(SUMMED)
 TEXTS["a long string"] = lambda size: "- " + "x" * size + "\n"
 TEXTS["ten long strings"] = lambda size: ("- " + "x" * (size // 10) + "\n") * 10
 TEXTS["mappings and nulls"] = lambda size: "- {a: 1}\n- null\n" * (size // 16)
+TEXTS["few mappings and nulls"] = lambda size: "- {a: 1}\n- null\n" * (size // 1000)
+TEXTS["mappings alone on lines"] = lambda size: "-\n  {a: 1}\n" * (size // 11)
 SHORT_KEYS = "".join(f"{' ' * n}k:\n" for n in range(1, 61))
 TEXTS["an alias last"] = lambda size: "b: &x 1\na:\n" + SHORT_KEYS + (" " * 62 + "- 1\n") * (size // 66) + " " * 62 + "- *x\n"
 LONG_KEYS = "".join(f"{' ' * n}{n:01000}:\n" for n in range(60))
 TEXTS["a list below long keys"] = lambda size: LONG_KEYS + " " * 60 + "a: [" + "1, " * (size * 3 // 10) + "1]\n"
 
+ONE_BY_ONE = "entries are added to a flow mapping one by one, and each time those before them are read"
+
 # What takes more, by its cause: texts, and expressions on them.
 ABOVE = [
-    ("entries that come to mappings and nulls by turns go one by one", ["mappings and nulls"], ENTRIES[:1]),
+    (ONE_BY_ONE, ["mappings and nulls", "mappings alone on lines"], ENTRIES[:1]),
+    (ONE_BY_ONE, ["few mappings and nulls"], ENTRIES[2:]),
 ]
 KNOWN = {(name, expression): cause for cause, names, expressions in ABOVE for name in names for expression in expressions}
 
