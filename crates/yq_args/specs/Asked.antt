@@ -53,7 +53,7 @@ MayCallHelp words = (asks_help words ≡ true) × MayEndAtHelp (full_words words
 abbrev pub CallsHelp : List Text → Type 0
 CallsHelp words = (asks_help words ≡ true) × EndsAtHelp (full_words words)
 
--- the answer is help, or this error for want of memory
+-- the answer is help, or this error for lack of memory
 abbrev pub IsHelpOr : {E : Type 0} → E → Result Command E → Type 0
 IsHelpOr memory r = MatchResult r (λ c. c ≡ Help) (λ e. e ≡ memory)
 
@@ -124,7 +124,7 @@ abbrev pub names_fit : Option Text → Option Text → Bool
 names_fit None journal = false
 names_fit (Some file) journal = name_fits journal file
 
--- a word names a command, and what that needs besides its names is there and allowed
+-- a word names a command, and what that needs apart from its names is there and allowed
 abbrev pub words_fit : Text → List Row → Bool
 words_fit name rows =
     if bytes_eq name (codes "eval") then is_some (first_of (codes "expr") rows)
@@ -152,7 +152,7 @@ AreNamesMissed rows fault = RefusedWhere (names_fit (first_of (codes "file") row
 abbrev pub IsMissed : Text → List Row → WordsError → Type 0
 IsMissed name rows fault = RefusedWhere (passes name rows ≡ false) fault
 
--- what answers clap's fault, where a word asks for help or none does: want of memory answers that alone, and words that are no command any other,
+-- what answers clap's fault, where a word asks for help or none does: lack of memory answers that alone, and words that are no command any other,
 -- but not a call for help where one asks for it
 abbrev pub AnswersKind : ErrorKind → Bool → WordsError → Type 0
 AnswersKind kind asked fault =

@@ -1,6 +1,6 @@
 //! Options of `eval`.
 
-/// What `eval` is asked besides where its text goes.
+/// What `eval` is asked apart from where its text goes.
 #[derive(Clone, Copy, Debug, PartialEq, Eq)]
 pub struct EvalOptions {
     /// `-e`: a read is to find another value than null and false.

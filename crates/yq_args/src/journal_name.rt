@@ -35,7 +35,7 @@ fn escaped_path(alloc: Global, path: &str) -> Result<String, AllocError>
 }
 
 /// The journal of the file at a path, in a folder of journals. Its name has each byte of the path, `/` as
-/// `%2F` and `%` as `%25`, and `.undo.json` behind them: no other path has it. It is refused where it is longer
+/// `%2F` and `%` as `%25`, and `.undo.json` after them: no other path has it. It is refused where it is longer
 /// than 255 bytes.
 pub fn journal_in_folder(alloc: Global, folder: &str, path: &str) -> Result<String, WordsError>
     ensures ok { IfOk result (λ s. string_bytes s ≡ spec.journal_in_folder folder.now path.now) }

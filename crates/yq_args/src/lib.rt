@@ -1,5 +1,5 @@
-//! The words of the command line, read by `clap` as the command that they ask for.
-//! Why words are no command is put in lines for the person that wrote them.
+//! The words of the command line, read with `clap` as a command.
+//! For words that are no command: lines that say what is wrong with them.
 #![tactic(auto)]
 
 mod asked;

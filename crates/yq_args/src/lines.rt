@@ -11,7 +11,7 @@ use std::alloc::{AllocError, Global};
 /// How many characters of a word are shown.
 const MAX_CHARS: usize = 80;
 
-/// A line: what it tells, of which word if of one, and in what it ends; `%` means the program.
+/// A line: how it begins, the word that it is about, if it is about one, and how it ends; `%` means the program.
 type UsageLine<'w> = (&'static str, Option<&'w str>, &'static str);
 
 /// Adds a word in quotes, with `?` for each control character, and cut where it is long.
@@ -127,7 +127,7 @@ pub fn first_name<'w>(words: &[&'w str]) -> &'w str {
 }
 
 /// What a person should know whose words are no command, in lines: what is the matter, and what to do.
-/// `is_file` tells whether the first of those words that are neither a command's name nor options is
+/// `is_file` says whether the first of those words that are neither a command's name nor options is
 /// the name of a file that is there; `program` is the name by which the program was called.
 pub fn usage_text(
     alloc: Global,

@@ -64,7 +64,7 @@ const FOREIGN: [ForeignOption; 19] = [
     ForeignOption {
         letters: b"V",
         names: &["--version"],
-        hint: ": '% --help' tells the version",
+        hint: ": '% --help' shows the version",
     },
     ForeignOption {
         letters: b"vqD",

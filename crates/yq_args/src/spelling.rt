@@ -27,7 +27,7 @@ const OTHERS: [(&str, &str); 18] = [
     ("delete", ": '% -i del(PATH) FILE' edits FILE"),
     ("d", ": '% -i del(PATH) FILE' edits FILE"),
     ("diff", ": '% --diff EXPR FILE' shows what EXPR changes"),
-    ("version", ": '% --help' tells the version"),
+    ("version", ": '% --help' shows the version"),
     ("help", ": did you mean '--help'?"),
 ];
 

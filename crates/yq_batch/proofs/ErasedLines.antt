@@ -10,7 +10,8 @@ use Rattle.yq_outline.{specs.Places.{bare_or, in_head, find}, specs.Lines.{lines
 use Rattle.yq_outline.specs.Comments.{head_comment}
 use Rattle.yq_row_table.specs.Rows.{Content, Row}
 use Rattle.yq_places.proofs.PlacedPartLaws.{map_some}
-use Rattle.yq_places.proofs.StrippedLines.{heads_before, heads_found, heads_group, heads_outline, heads_place, shape_lines, with_heads}
+use Rattle.yq_places.proofs.StrippedLines.{heads_before, heads_find_row, heads_found, heads_group, heads_outline, heads_place, shape_lines}
+use Rattle.yq_places.proofs.StrippedLines.{with_heads}
 use Rattle.yq_row_table.specs.Rows as rows
 
 -- no head
@@ -50,20 +51,6 @@ even_open n (row l u a) h = (h.1, even_open h.3.0 u h.3.2, even_open n a h.4)
 
 abbrev number : Option (FoundLine × List Step) → Option ℕ
 number o = option_and_then (λ x. found_line x.0 x.1) o
-
-here_erased : (s : Step) (l : Line) → is_here s (label (erased l)) ≡ is_here s (label l)
-here_erased s l = search rules
-
-row_found : (b : Bool) (l : Line) (u a : Outline) (o : Option FoundLine) →
-    cond b (Some (erase_found (record { place = here; line = l; under = u; after = a }))) (option_map (next_to (erased l) (erase u)) (option_map erase_found o))
-    ≡ option_map erase_found (cond b (Some (record { place = here; line = l; under = u; after = a })) (option_map (next_to l u) o))
-row_found b l u a o = search rules
-
-find_row_erased : (s : Step) (o : Outline) → find_row s (erase o) ≡ option_map erase_found (find_row s o)
-find_row_erased s end = refl
-find_row_erased s (row l u a) =
-    (λ i. cond (here_erased s l i) (Some (erase_found (record { place = here; line = l; under = u; after = a }))) (option_map (next_to (erased l) (erase u)) (find_row_erased (further s) a i)))
-    ∙ row_found (is_here s (label l)) l u a (find_row (further s) a)
 
 -- a line that is found has nothing under it, if it has a head
 abbrev IsFoundOpen : FoundLine → Type 0
@@ -123,11 +110,11 @@ find_number s ss end open' = refl
 find_number s [] (row l u a) open' =
     bare_number l.mark (erase_found (record { place = here; line = l; under = u; after = a })) (record { place = here; line = l; under = u; after = a }) s []
     (option_map (λ f. (f, [])) (find_row s (erase (row l u a)))) (option_map (λ f. (f, [])) (find_row s (row l u a)))
-    (ap (λ (o : Option FoundLine). number (option_map (λ f. (f, [])) o)) (find_row_erased s (row l u a)) ∙ last_number (find_row s (row l u a)))
+    (ap (λ (o : Option FoundLine). number (option_map (λ f. (f, [])) o)) (heads_find_row no_head s (row l u a)) ∙ last_number (find_row s (row l u a)))
 find_number s (t ∷ ts) (row l u a) open' =
     bare_number l.mark (erase_found (record { place = here; line = l; under = u; after = a })) (record { place = here; line = l; under = u; after = a }) s (t ∷ ts)
     (option_and_then (go_on t ts) (find_row s (erase (row l u a)))) (option_and_then (go_on t ts) (find_row s (row l u a)))
-    (ap (λ (o : Option FoundLine). number (option_and_then (go_on t ts) o)) (find_row_erased s (row l u a))
+    (ap (λ (o : Option FoundLine). number (option_and_then (go_on t ts) o)) (heads_find_row no_head s (row l u a))
     ∙ on_number t ts (λ o. find_number t ts o) (find_row s (row l u a)) (λ f is. find_row_open s (row l u a) f is open'))
 
 line_erased : (n : ℕ) (steps : List Step) (ls : List Line) → IsEven n (group ls) → line_at_steps steps (map erased ls) ≡ line_at_steps steps ls

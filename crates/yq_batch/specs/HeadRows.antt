@@ -32,11 +32,11 @@ CollectionsStay c cut n stem keep tail =
     (left : List Step) (w : CollPieces) (mid : List ℕ) → flow_collection n (stem ++ left) c ≡ Some w → w.rest ≡ mid ++ drop keep (cut_text c) →
     flow_collection n (stem ++ left) cut ≡ Some (record w { rest = mid ++ tail })
 
--- the rows of heads of document n in front of a row are in another cut where they were, and so are their collections (own)
+-- the rows of heads in front of a row of document n, and their collections, are at the same places in another cut (own)
 abbrev pub HeadsStayBefore : (c cut : Cut) → (n row keep : ℕ) → (tail : List ℕ) → Type 0
 HeadsStayBefore c cut n row keep tail =
     (stem : List Step) (i : ℕ) → IsHeadInRow c n stem i → document_row n c + i < row → IsHeadInRow cut n stem i × CollectionsStay c cut n stem keep tail
 
--- the row of a head is in another cut where it was, and so are heads in front of it (own)
+-- the row of a head, and the heads in front of it, are at the same places in another cut (own)
 abbrev pub HeadRowKeeps : (c cut : Cut) → ℕ → List Step → (keep : ℕ) → (tail : List ℕ) → Type 0
 HeadRowKeeps c cut n stem keep tail = (i : ℕ) → IsHeadInRow c n stem i → IsHeadInRow cut n stem i × HeadsStayBefore c cut n (document_row n c + i) keep tail

@@ -97,7 +97,7 @@ DoesInside op c m o y = DoesBy y.place.more op c m o y
 abbrev pub MayPut : Cut → ℕ → Option EndOfEntries → Op → Option HeadChange → Type 0
 MayPut c m e op o = IfSome o (DoesInside (operation_of op) c m e)
 
--- the same of one in a text, whichever mapping's end it is that the code tells, if it does (own)
+-- the same of one in a text, whichever mapping's end it is that the code reports, if it does (own)
 abbrev pub MayDo : List ℕ → ℕ → Option EntriesEnd → Op → Option HeadChange → Type 0
 MayDo t m w op o = (e : Option EndOfEntries) → IsKnownEnd (cut_of t) m w e → MayPut (cut_of t) m e op o
 

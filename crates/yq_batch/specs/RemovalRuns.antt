@@ -23,8 +23,9 @@ use Rattle.yq_failure.specs.declared.failure.Failure.TheVariants as failure
 
 -- ---- runs
 
--- The last bytes of a cut's text were replaced by others, since items and entries were taken out of the collections of the head to which steps lead: the
--- text reads, the steps lead to a head in it, and each collection that ends in the bytes that stay is there, before the others, and so are heads in front of it (own).
+-- The last bytes of a cut's text were replaced, since items and entries were taken out of the collections of the head to which steps lead.
+-- The text reads, and the steps lead to a head in it. Each collection that ends in the bytes that stay is still there, and so are the heads
+-- in front of it (own).
 pub record IsRemovalRun (c : Cut) (n : ℕ) (stem : List Step) (keep : ℕ) (tail : List ℕ) : Type 0 where
   pub within : keep ≤ length (cut_text c)
   pub cut : Cut
@@ -74,7 +75,8 @@ pub record RemovesSo (c : Cut) (n : ℕ) (stem : List Step) (known : Option Left
   pub run : IsRemovalRun c n stem r.keep tail
   pub known_is : IsKnownLeft c run.cut n stem r.keep known
 
--- what is left of a collection that ends at a place, in a text so long: as is known of the last one, or all of one that ends before what was taken out (own)
+-- what is left of a collection that ends at a place, in a text of that size: what is known of the last one, or all of one that ends before
+-- what was taken out (own)
 abbrev pub IsLeftIn : List Step → Option LeftOf → (end keep size all : ℕ) → LeftOf → Type 0
 IsLeftIn steps known end keep size all k =
     ((known ≡ Some k) × (map tree_step k.steps.now ≡ steps)) ⊎ ((end ≤ keep) × (k.count ≡ all) × (k.after ≡ None) × (k.following + end ≡ size))

@@ -138,7 +138,7 @@ IsPlacedSo p t x = placement_at p.doc (steps_of p) (cut_of t) ≡ Some x
 abbrev pub EndsLineAt : (text last after : List ℕ) → ℕ → Type 0
 EndsLineAt text last after at = (is_empty last ≡ false) × (at + length after ≡ length text)
 
--- What the code tells of the end of a mapping is so (own).
+-- What the code reports of the end of a mapping is so (own).
 pub record IsEndAt (c : Cut) (m : ℕ) (w : EntriesEnd) (z : EndOfEntries) : Type 0 where
   pub document : w.path.now.doc ≡ m
   pub known : IsEndIn c m z
@@ -154,7 +154,7 @@ IsKnownEnd c m (Some w) (Some z) = IsEndAt c m w z
 IsKnownEnd c m None (Some z) = ⊥
 IsKnownEnd c m (Some w) None = ⊥
 
--- that of the text is known that the code tells (own)
+-- that of the text is known that the code reports (own)
 abbrev pub IsEndThere : List ℕ → EntriesEnd → Type 0
 IsEndThere t w = (z : EndOfEntries) × IsEndAt (cut_of t) w.path.now.doc w z
 

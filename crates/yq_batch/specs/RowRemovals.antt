@@ -100,7 +100,7 @@ pub record TakesFirst (ops : List Op) (n : ℕ) (op : Op) (beside : Bool) : Type
   pub takes : TakesFrom op n above
   pub next_takes : beside ≡ true → NextTakes rest n above
 
--- there are others beside the item or entry to which steps lead, as a text is read (own)
+-- there are others next to the item or entry to which steps lead, as a text is read (own)
 abbrev pub HasOthersNow : ℕ → List Step → List ℕ → Type 0
 HasOthersNow n steps t = (d : Cut) → read_at t ≡ Some d → has_others_at n steps d ≡ true
 

@@ -53,7 +53,7 @@ pub(crate) fn comes_later(last: Option<(usize, usize)>, doc: usize, row: usize) 
 }
 
 /// Carries out an operation on the text of a run, if it changes one row, after the last one that was
-/// changed; and tells which one that is then.
+/// changed. Answers which row that is then.
 fn put_one<'d>(
     alloc: Global,
     cut: &mut CutText<'d, '_>,

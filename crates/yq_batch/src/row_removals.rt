@@ -112,7 +112,7 @@ fn stays_at(seam: Option<Seam>, least: Option<usize>) -> bool
     }
 }
 
-/// Carries out the removal of an item or entry beside others on the text of a run, if its lines are before those that
+/// Carries out the removal of an item or entry next to others on the text of a run, if its lines are before those that
 /// were changed, and nothing else changes; and reports which rows are changed then.
 fn take_rows(
     alloc: Global,
@@ -153,7 +153,7 @@ fn take_rows(
     }))
 }
 
-/// The same of one at a path that is beside others, or of a sole one, in the place of whose collection an empty one comes.
+/// The same of one at a path that is next to others, or of a sole one, in the place of whose collection an empty one comes.
 fn take_out(
     alloc: Global,
     cut: &CutText<'_, '_>,

@@ -1,5 +1,5 @@
-//! The segments of a text that an operation exchanges outside flow collections: values that are put at a
-//! place, items and entries that are added or removed, and comments.
+//! The segments of a text that an operation replaces outside flow collections: values put at a place,
+//! items and entries that are added or removed, and comments.
 #![tactic(auto)]
 
 mod append;

@@ -21,8 +21,7 @@ use yq_lookup::CutText;
 use yq_places::Placement;
 use yq_text::Segments;
 
-/// A value in the place of what is there; `has_text` tells of a block scalar whether it has a
-/// text line.
+/// A value in the place of what is there; `has_text` is whether a block scalar there has a text line.
 fn value_put<'t>(
     alloc: Global,
     has_text: bool,

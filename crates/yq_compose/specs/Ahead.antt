@@ -1,4 +1,4 @@
--- Reading (own; a reader may skip it): what is made of the rows of a text from one on.
+-- Reading (own; you may skip it): what is made of the rows of a text from one on.
 use Rattle.std.specs.Prelude.{◌≡◌, ℕ, ◌≤◌, List}
 use Rattle.yq_documents.{specs.Decoded.{Rise, decoded_at}, specs.declared.decoded.Decoded.Decoded}
 

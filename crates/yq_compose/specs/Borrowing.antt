@@ -1,4 +1,4 @@
--- Reading (own; a reader may skip it): heads that the text lends.
+-- Reading (own; you may skip it): heads that the text lends.
 use Rattle.std.specs.Prelude.{◌≡◌, ◌≤◌, ℕ, List, true}
 use Rattle.yq_core.specs.Inline.{depth_limit}
 use Rattle.yq_inline.specs.Passed.{IsPassedHead}

@@ -1,4 +1,4 @@
--- Reading (own; a reader may skip it): a document of a text whose rows are cut, with what is made of these.
+-- Reading (own; you may skip it): a document of a text whose rows are cut, with what is made of these.
 use Rattle.std.specs.Prelude.{◌≡◌, ℕ, ◌<◌, nat_lt, List, slice_get, Some, Bool, false, ◌&&◌, ◌||◌, ◌-◌, not, take, drop}
 use Rattle.yq_core.{specs.Borrowed.borrows_text, specs.Nodes.begins_with}
 use Rattle.yq_outline.{specs.Ends.{IsEndOf, has_no_lines, part}, specs.Extents.IsRowsView, specs.Outline.{Line, level}}

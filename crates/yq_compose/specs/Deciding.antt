@@ -1,4 +1,4 @@
--- Reading (own; a reader may skip it): what answers say of whether a text is as is asked.
+-- Reading (own; you may skip it): what answers say of whether a text is as is asked.
 use Rattle.std.specs.Prelude.{◌≡◌, Bool, true, false, Result, Ok, Err, ⊤}
 use Rattle.yq_core.specs.Answers.{ReadError}
 use Rattle.yq_failure.specs.declared.failure.Failure.TheVariants as error

@@ -1,4 +1,4 @@
--- Reading (own; a reader may skip it): what is made of the rows of a text.
+-- Reading (own; you may skip it): what is made of the rows of a text.
 use Rattle.std.specs.Prelude.{◌≡◌, ℕ, List, [], ◌∷◌, length, slice_get, Option, Some, None, String, option_map, false, string_bytes}
 use Rattle.std.{specs.List.list_any, specs.declared.alloc.Global.Global}
 use Rattle.yq_core.{specs.Scalars.scalar_content, specs.Borrowed.borrowed_text}

@@ -1,4 +1,4 @@
--- Reading (own; a reader may skip it: the grammar is what is believed, and the clauses `found` and `only` tie the two): what is asked of rows, by their pieces.
+-- Reading (own; you may skip it: the clauses `found` and `only` show that it agrees with the grammar): what is asked of rows, by their pieces.
 use Rattle.std.specs.Prelude.{Bool, ◌||◌, ◌&&◌, not, List, ℕ}
 use Rattle.yq_core.{specs.Plain.holds_break, specs.Text.is_empty, specs.Nodes.begins_with, specs.Scalars.is_quoted}
 use Rattle.yq_row_table.specs.View.{Slices}

@@ -1,4 +1,4 @@
--- Reading (own; a reader may skip it): the aliases and flow collections in heads.
+-- Reading (own; you may skip it): the aliases and flow collections in heads.
 use Rattle.yq_core.{specs.Places.Placed, specs.View.{borrowed_view, inline_view}}
 use Rattle.yq_documents.specs.Decoded.{alias_from}
 use Rattle.yq_compose.specs.declared.nested.Flow as flows

@@ -1,4 +1,4 @@
--- Reading (own; a reader may skip it): the anchors and aliases of the code.
+-- Reading (own; you may skip it): the anchors and aliases of the code.
 use Rattle.std.specs.Prelude.{◌≡◌, ◌<◌, ℕ, List, [], map, Option, Some, None, slice_get}
 use Rattle.yq_core.{specs.Places.Placed, specs.Trees.placed_tree, specs.Anchors.{Name, Anchors, Refers, names_of}}
 use Rattle.yq_compose.specs.declared.names.Name as declared

@@ -1,4 +1,4 @@
--- Reading (own; a reader may skip it): where the documents of a text are among its rows, by where its parts end.
+-- Reading (own; you may skip it): where the documents of a text are among its rows, by where its parts end.
 use Rattle.std.specs.Prelude.{◌≡◌, ℕ, List, [], ◌∷◌, ◌++◌, length, map, nat_lt, slice_get, Option, Some, None, Bool, true, false, ◌&&◌}
 use Rattle.std.{specs.Prelude.if◌then◌else◌, specs.List.list_all}
 use Rattle.yq_outline.{specs.LinesReading.lines_are_sound, specs.Lines.lines_of_rows}

@@ -13,8 +13,8 @@ fn opens_collection(head: &[u8]) -> bool
     matches!(head, [b'[' | b'{', ..])
 }
 
-/// How many collections are nested at most in the one in front, where the text lends it: as it is known, or, where
-/// that is 0, as passing it tells.
+/// How many collections are nested at most in the one in front, if its scalars are slices of the text: `depth`, or,
+/// where that is 0, the number that is found by passing it.
 fn head_depth<'t>(keys: &mut Keys<'t>, depth: usize, text: &'t str) -> Option<usize>
     requires { 0 < depth → spec.PassesHead depth text.now }
     ensures { IfSome result (λ d. spec.PassesHead d text.now) }

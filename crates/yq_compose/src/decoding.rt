@@ -46,8 +46,8 @@ fn begins_word(text: &[u8]) -> bool
     matches!(text, [b'a'..=b'z' | b'A'..=b'Z' | b'0'..=b'9' | 128..=255, ..])
 }
 
-/// Whether a head with which a text begins begins with a letter, a digit or no ASCII and is on one line: most often
-/// sixteen bytes tell it.
+/// Whether the head at the beginning of a text is on one line, and begins with a letter, a digit or no ASCII. Most
+/// often sixteen bytes show that.
 #[inline(always)]
 fn is_word_head(head: &str, text: &str) -> bool
     requires { (rest : List ℕ) × (text.now ≡ head.now ++ rest) }

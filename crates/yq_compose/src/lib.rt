@@ -1,4 +1,4 @@
-//! Documents read by their rows: what rows spell is made where the text doesn't lend it, and what is asked of documents is checked.
+//! Documents read by their rows: what isn't a slice of the text is decoded, and each document is checked.
 #![tactic(auto)]
 
 mod ahead;

@@ -1,14 +1,14 @@
--- Texts that begin alike: what is asked of the text after a piece doesn't tell them apart.
+-- Texts that begin alike: a piece that may come before one of them may come before the other.
 use Rattle.std.specs.Prelude.{◌≡◌, ℕ, Bool, true, false, ◌||◌, ◌==◌, List, [], ◌∷◌, ◌++◌, Option, Some, None}
 use Rattle.yq_core.{specs.Plain.{is_flow_indicator, is_safe}, specs.QuotedReading.is_quote}
 use Rattle.yq_core.{specs.Text.{is_feed, is_space, is_marker, separates}, specs.Gaps.IsInlineGap}
 
--- after this byte nobody looks: an indicator of flow, a quote, `&` or `*` (own)
+-- no condition on a piece reaches beyond this byte: an indicator of flow, a quote, `&` or `*` (own)
 abbrev pub ends_lookahead : ℕ → Bool
 ends_lookahead b = is_flow_indicator b || (is_quote b || (b == 38 || b == 42))
 
 -- The same text up to such a byte, to a `:`, or to a byte that is no white space and no break, before white space, a break or the end. Where plain
--- scalars are looked at (Some tells whether in flow), none of these goes on after the `:` (own).
+-- scalars matter (Some says whether in flow), none of them goes on after the `:` (own).
 pub data Alike : Option Bool → List ℕ → List ℕ → Type 0 where
   stop : {f : Option Bool} {b : ℕ} {t u : List ℕ} → ends_lookahead b ≡ true → Alike f (b ∷ t) (b ∷ u)
   colon : {flow : Bool} {t u : List ℕ} → is_safe flow t ≡ false → is_safe flow u ≡ false → Alike (Some flow) (58 ∷ t) (58 ∷ u)

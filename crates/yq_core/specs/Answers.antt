@@ -19,7 +19,7 @@ abbrev pub more : ℕ → Option ℕ → Option ℕ
 more k None = None
 more k (Some n) = Some (k + n)
 
--- A fault comes where reading gives nothing; want of memory says nothing (own).
+-- A fault comes where reading gives nothing; lack of memory says nothing (own).
 abbrev pub ReadFails : {Y : Type 0} → ReadError → Option Y → Type 0
 ReadFails error.Memory read = Unit {0}
 ReadFails (error.Fault f) read = read ≡ None
@@ -29,7 +29,7 @@ abbrev pub Gives : {X Y : Type 0} → (X → Y) → Result X ReadError → Optio
 Gives view (Ok x) read = read ≡ Some (view x)
 Gives view (Err e) read = ReadFails e read
 
--- An error of a text that is UTF-8: want of memory, or a fault that isn't that its bytes are not UTF-8 (own).
+-- An error of a text that is UTF-8: lack of memory, or a fault that isn't that its bytes are not UTF-8 (own).
 abbrev pub IsOfText : ReadError → Type 0
 IsOfText error.Memory = Unit {0}
 IsOfText (error.Fault f) = f.kind ≢ NotUtf8

@@ -1,4 +1,4 @@
--- Reading (own; a reader may skip it: the grammar is what is believed, and the clauses `found` and `only` tie the two).
+-- Reading (own; you may skip it: the clauses `found` and `only` show that it agrees with the grammar).
 use Rattle.std.specs.Prelude.{ℕ, ◌+◌, ◌-◌, Bool, true, false, ◌||◌, ◌&&◌, not, ◌==◌, nat_le, nat_lt, List, [], ◌∷◌, ◌++◌, length, take}
 use Rattle.std.{specs.Prelude.{drop, if◌then◌else◌, Option, Some, None, ℤ}, specs.Option.unwrap_or}
 use Rattle.yq_core.{specs.declared.block_header.BlockStyle.BlockStyle, specs.declared.block_header.Chomping.Chomping}

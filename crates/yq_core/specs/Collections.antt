@@ -55,7 +55,7 @@ abbrev pub collection_put : List Step → List ℕ → Items → FlowNode → Fl
 collection_put [] g is node = put_coll g is node
 collection_put (s ∷ ss) g is node = within_items (change_item s (collection_put ss g is)) node
 
--- A collection inside an inline node: where the node is, by its place, its parent's indentation and the collections round it; the steps that
+-- A collection inside an inline node: where the node is, by its place, its parent's indentation and the collections around it; the steps that
 -- lead to the collection; and its pieces (own).
 pub record CollAt : Type 0 where
   pub place : Place

@@ -1,4 +1,4 @@
--- Reading (own; a reader may skip it: the grammar is what is believed, and the clauses `found` and `only` tie the two).
+-- Reading (own; you may skip it: the clauses `found` and `only` show that it agrees with the grammar).
 use Rattle.std.specs.Prelude.{ℕ, suc, zero, ◌-◌, Bool, true, false, ◌||◌, ◌&&◌, ◌==◌, Option, Some, None, List, [], ◌∷◌, ◌++◌, length, take}
 use Rattle.std.specs.Prelude.{drop, replicate, if◌then◌else◌, slice_index, encode_utf8}
 use Rattle.yq_core.specs.Text.{feed, is_white, is_feed, is_break, is_space, front}

@@ -8,7 +8,7 @@ use Rattle.yq_core.specs.PlacedReading.{placed_node}
 abbrev pub depth_limit : ℕ
 depth_limit = 64
 
--- An inline node before a rest, below a parent of that indentation, with so many collections round it; it is something, if only an anchor
+-- An inline node before a rest, below a parent of that indentation, with so many collections around it; it is something, if only an anchor
 -- (YAML 1.2.2, sections 6.9.2, 7.1 and 7.4; own).
 pub record IsInline (place : Place) (n : ℤ) (depth : ℕ) (node : FlowNode) (rest : List ℕ) : Type 0 where
   pub valid : IsFlowNode (in_flow place) (further_spaces place n) (depth_limit - depth) node rest

@@ -4,7 +4,7 @@ use Rattle.std.specs.Prelude.{if◌then◌else◌}
 use Rattle.yq_core.{specs.Text.{is_empty, is_white, is_feed, is_return, NoneIn, unless, no_white, separates}, specs.Plain.is_flow_indicator}
 use Rattle.yq_core.{specs.Gaps.IsInlineGap, specs.Scalars.{IsScalarAt, is_quoted, begins_scalar}}
 
--- what comes before the node of an item: nothing, or a key with the gaps round its `:` (YAML 1.2.2, section 7.4.2)
+-- what comes before the node of an item: nothing, or a key with the gaps around its `:` (YAML 1.2.2, section 7.4.2)
 pub data Key : Type 0 where
   bare : Key
   keyed : (text before gap : List ℕ) → Key

@@ -46,7 +46,7 @@ flow_text n = node_text (flow_of n) []
 abbrev pub key_front : List ℕ → List ℕ
 key_front k = scalar_text (string_of k) places.FlowKey ++ 58 ∷ 32 ∷ []
 
--- texts with a comma and a space between them; first tells that nothing comes before them (YAML 1.2.2, section 7.4; own)
+-- texts with a comma and a space between them; first says that nothing comes before them (YAML 1.2.2, section 7.4; own)
 abbrev pub comma_separated : Bool → List (List ℕ) → List ℕ
 comma_separated first [] = []
 comma_separated true (x ∷ xs) = x ++ comma_separated false xs

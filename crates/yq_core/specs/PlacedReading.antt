@@ -1,4 +1,4 @@
--- Reading a node with its places (own; a reader may skip it: the clauses `found` and `only` tie it to the grammar).
+-- Reading a node with its places (own; you may skip it: the clauses `found` and `only` show that it agrees with the grammar).
 use Rattle.std.specs.Prelude.{ℕ, ◌-◌, List, [], length, if◌then◌else◌, Option, Some, None, Bool, true, false, not, ◌||◌, ◌&&◌}
 use Rattle.yq_core.{specs.declared.piece.Piece.Piece, specs.Answers.◌>>=◌, specs.Text.is_empty}
 use Rattle.yq_core.specs.Nodes.{Key, bare, keyed, FlowNode, empty, alias, scalar, coll, anchored}

@@ -1,8 +1,8 @@
--- Reading (own; a reader may skip it: the grammar is what is believed, and the clauses `found` and `only` tie the two).
+-- Reading (own; you may skip it: the clauses `found` and `only` show that it agrees with the grammar).
 use Rattle.std.specs.Prelude.{ℕ, Bool, ◌&&◌, not, ◌==◌, Option, Some, None, List, [], ◌∷◌, if◌then◌else◌}
 use Rattle.yq_core.{specs.Answers.more, specs.Text.{is_white, is_feed, is_break}, specs.Plain.{begins_deep, ends_text}}
 
--- how far it is over white space and breaks to where a plain scalar goes on, if it does; deep tells whether it may on this line (own)
+-- how far it is over white space and breaks to where a plain scalar goes on, if it does; deep says whether it may on this line (own)
 unfoldable pub across : Bool → Option ℕ → Bool → List ℕ → Option ℕ
 across flow spaces deep [] = None
 across flow spaces deep (b ∷ bs) =

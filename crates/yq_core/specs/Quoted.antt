@@ -9,7 +9,7 @@ letters =
     (34, 34) ∷ (92, 92) ∷ (48, 0) ∷ (97, 7) ∷ (98, 8) ∷ (116, 9) ∷ (110, 10) ∷ (118, 11) ∷ (102, 12) ∷ (114, 13)
     ∷ (101, 27) ∷ (78, 133) ∷ (76, 8232) ∷ (80, 8233) ∷ (95, 160) ∷ (47, 47) ∷ (32, 32) ∷ (9, 9) ∷ []
 
--- the character beside the letter in a table (own)
+-- the character next to the letter in a table (own)
 abbrev pub beside : ℕ → List (ℕ × ℕ) → Option ℕ
 beside letter [] = None
 beside letter (entry ∷ entries) = if letter == entry.0 then Some entry.1 else beside letter entries

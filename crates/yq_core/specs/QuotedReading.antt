@@ -1,4 +1,4 @@
--- Reading (own; a reader may skip it: the grammar is what is believed, and the clauses `found` and `only` tie the two).
+-- Reading (own; you may skip it: the clauses `found` and `only` show that it agrees with the grammar).
 use Rattle.std.specs.Prelude.{ℕ, suc, zero, ◌+◌, ◌*◌, Bool, false, ◌||◌, ◌&&◌, not, ◌==◌, Option, Some, None, List, [], ◌∷◌, take, drop}
 use Rattle.std.{specs.Prelude.if◌then◌else◌, specs.Char.digit_value}
 use Rattle.yq_core.{specs.Answers.{◌>>=◌, more}, specs.Text.{is_feed, is_break, is_marker, front}, specs.SchemaReading.is_digit}

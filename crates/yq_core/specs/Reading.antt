@@ -1,4 +1,4 @@
--- Reading (own; a reader may skip it: the grammar is what is believed, and the clauses `found` and `only` tie the two).
+-- Reading (own; you may skip it: the clauses `found` and `only` show that it agrees with the grammar).
 use Rattle.std.specs.Prelude.{ℕ, zero, suc, Bool, true, false, ◌||◌, ◌&&◌, not, ◌==◌, List, [], ◌∷◌, length, take, drop, Option, Some, None}
 use Rattle.std.specs.Prelude.{if◌then◌else◌}
 use Rattle.yq_core.{specs.Answers.◌>>=◌, specs.Plain.plain_at, specs.QuotedReading.quoted_at}

@@ -1,4 +1,4 @@
--- Runs of bytes (own; a reader may skip it: only private clauses cite it).
+-- Runs of bytes (own; you may skip it: only private clauses cite it).
 use Rattle.std.{specs.Prelude.{ℕ, Bool, ◌||◌, ◌&&◌, not, ◌==◌, nat_le, if◌then◌else◌}, specs.Int.{w64, trailing_zeros}}
 use Rattle.yq_core.{specs.Characters.is_text_byte, specs.Text.is_feed, specs.Plain.is_flow_indicator, specs.declared.runs.Run.Run}
 use Rattle.yq_core.specs.declared.runs.Run.TheVariants.{Text, Spaces, Plain, Quoted}

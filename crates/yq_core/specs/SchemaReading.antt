@@ -1,4 +1,4 @@
--- Reading (own; a reader may skip it: the grammar is what is believed, and the clauses `found` and `only` tie the two).
+-- Reading (own; you may skip it: the clauses `found` and `only` show that it agrees with the grammar).
 use Rattle.std.specs.Prelude.{ℕ, Bool, true, false, ◌||◌, ◌&&◌, not, ◌==◌, nat_lt, Option, Some, None, List, [], ◌∷◌, drop, if◌then◌else◌}
 use Rattle.std.{specs.Prelude.{bytes_eq, codes, ℤ, pos}, specs.List.{list_any, prefix_len}, specs.Char.digit_value}
 use Rattle.std.specs.Str.Parse.{digits_value}

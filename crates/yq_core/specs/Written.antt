@@ -10,7 +10,7 @@ written_letters =
     (34, 34) ∷ (92, 92) ∷ (48, 0) ∷ (97, 7) ∷ (98, 8) ∷ (116, 9) ∷ (110, 10) ∷ (118, 11) ∷ (102, 12) ∷ (114, 13)
     ∷ (101, 27) ∷ (78, 133) ∷ (76, 8232) ∷ (80, 8233) ∷ []
 
--- the letter beside the character in a table (own)
+-- the letter next to the character in a table (own)
 abbrev pub letter_of : ℕ → List (ℕ × ℕ) → Option ℕ
 letter_of c [] = None
 letter_of c (entry ∷ entries) = if c == entry.1 then Some entry.0 else letter_of c entries

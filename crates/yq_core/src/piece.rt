@@ -6,7 +6,7 @@ use crate::style::{Place, Style};
 
 /// Where a scalar is in a text, and how it is written, by offsets in bytes. A block scalar has its
 /// header from `start` to `head_end` and its raw lines from `raw_start` to `end`; `indent` is the
-/// indentation of its text, in columns, and `keep` tells a `+` in its header. In a piece of another
+/// indentation of its text, in columns, and `keep` is whether its header has a `+`. In a piece of another
 /// style `head_end` and `raw_start` are `end`, `indent` is 0 and `keep` is false.
 #[derive(Clone, Copy)]
 pub struct Piece {

@@ -1,4 +1,4 @@
--- Reading (own; a reader may skip it): what rows spell, as it is borrowed, or made where the text doesn't lend it.
+-- Reading (own; you may skip it): what rows spell, as it is borrowed, or made where the text doesn't lend it.
 use Rattle.std.specs.Prelude.{◌≡◌, ℕ, suc, ◌+◌, ◌≤◌, ◌==◌, Bool, true, false, ◌||◌, List, [], ◌∷◌, length, drop, Option, Some, None}
 use Rattle.std.{specs.Prelude.{slice_get, option_and_then, option_map, string_bytes, if◌then◌else◌, ⊤}, specs.Str.IsCharBoundary}
 use Rattle.yq_core.{specs.Borrowed.{borrowed_text, is_borrowed, leading_node}, specs.Nodes.begins_with, specs.Scalar.plain_of}

@@ -1,4 +1,4 @@
--- Reading (own; a reader may skip it: the grammar is believed, and the clauses `found` and `only` tie the two): aliases and flow collections in heads.
+-- Reading (own; you may skip it: the clauses `found` and `only` show that it agrees with the grammar): aliases and flow collections in heads.
 use Rattle.std.specs.Prelude.{ℕ, ◌-◌, List, ◌++◌, length, Option, Some, None, if◌then◌else◌, ℤ}
 use Rattle.yq_core.{specs.Answers.◌>>=◌, specs.Text.is_empty, specs.Inline.inline_at, specs.Nodes.{FlowNode, empty, without_anchor}}
 use Rattle.yq_core.{specs.Places.{Placed, placed, CoreNode, nothing, name, text, sequence, mapping, locate}, specs.Scalars.is_quoted}

@@ -1,4 +1,4 @@
--- Reading (own; a reader may skip it): what is kept of a text that reads as documents.
+-- Reading (own; you may skip it): what is kept of a text that reads as documents.
 use Rattle.std.{specs.Prelude.{◌≡◌, ℕ, ◌+◌, List, length, slice_get, Some, Bool, true, false}, specs.List.list_any}
 use Rattle.yq_outline.{specs.Comments.head_comment, specs.Names.{is_reference, line_names}}
 use Rattle.yq_row_table.{specs.Grammar.IsCut, specs.Rows.{Row, Part}, specs.View.{rows_of, RowsView, rows_view}}

@@ -1,4 +1,4 @@
--- Reading (own; a reader may skip it: the grammar is believed, and the clauses `found` and `only` tie the two): keys in flow collections, by their places.
+-- Reading (own; you may skip it: the clauses `found` and `only` show that it agrees with the grammar): keys in flow collections, by their places.
 use Rattle.std.specs.Prelude.{◌≡◌, ◌++◌, ◌-◌, Bool, true, ◌&&◌, List, ℕ, take, drop, Option, Some, None}
 use Rattle.yq_core.specs.declared.piece.Piece.{Piece}
 use Rattle.yq_core.{specs.Places.{Placed, placed, CoreNode, nothing, name, text, sequence, mapping, Parts, end, part}, specs.FitKeys.is_fit}

@@ -1,4 +1,4 @@
--- Reading (own; a reader may skip it: the grammar is what is believed, and the clauses `found` and `only` tie the two): the lines of the rows of a part.
+-- Reading (own; you may skip it: the clauses `found` and `only` show that it agrees with the grammar): the lines of the rows of a part.
 use Rattle.std.specs.Prelude.{ℕ, zero, suc, ◌+◌, ◌==◌, Bool, true, false, ◌||◌, not, List, [], ◌∷◌, ◌&&◌, Option, Some, None}
 use Rattle.std.specs.List.{list_all}
 use Rattle.yq_row_table.{specs.Grammar.begins_document, specs.Rows.Part, specs.View.Bound}

@@ -16,7 +16,7 @@ pub record TextPiece : Type 0 where
 abbrev pub piece_span : TextPiece → ℕ × ℕ
 piece_span p = (length p.before, length p.before + length p.text)
 
--- where a place that the code tells begins and ends, in bytes (own)
+-- where a place that the code reports begins and ends, in bytes (own)
 abbrev pub span : Span → ℕ × ℕ
 span s = (s.start, s.end)
 

@@ -1,4 +1,4 @@
--- Reading (own; a reader may skip it: the grammar is what is believed, and the clauses `found` and `only` tie the two): bytes read as documents.
+-- Reading (own; you may skip it: the clauses `found` and `only` show that it agrees with the grammar): bytes read as documents.
 use Rattle.std.{specs.Prelude.{ℕ, List, [], ◌∷◌, map, Bool, true, not, ◌&&◌, Option, Some, None, if◌then◌else◌}, specs.List.list_all}
 use Rattle.std.specs.Str.{is_utf8}
 use Rattle.yq_core.{specs.Answers.◌>>=◌, specs.Tree.Node, specs.Inline.depth_limit, specs.Anchors.names_of}

@@ -1,4 +1,4 @@
--- Reading (own; a reader may skip it: the grammar is what is believed, and the clauses `found` and `only` tie the two): the lines of a row by its pieces.
+-- Reading (own; you may skip it: the clauses `found` and `only` show that it agrees with the grammar): the lines of a row by its pieces.
 use Rattle.std.specs.Prelude.{◌≡◌, ℕ, ◌-◌, ◌==◌, Bool, true, ◌||◌, ◌&&◌, not, List, ◌++◌, length, drop, Option, Some, None, if◌then◌else◌}
 use Rattle.std.specs.Prelude.{ℤ}
 use Rattle.yq_core.{specs.declared.kind.Kind.TheVariants.Text, specs.Answers.◌>>=◌, specs.BlockContent.block_content}

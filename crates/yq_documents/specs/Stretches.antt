@@ -1,4 +1,4 @@
--- Reading (own; a reader may skip it): the rows of documents among those of a text, and their lines by number.
+-- Reading (own; you may skip it): the rows of documents among those of a text, and their lines by number.
 use Rattle.std.specs.Prelude.{◌≡◌, ◌<◌, ℕ, ◌+◌, ◌-◌, List, [], length, slice_get, true, Option, Some, None}
 use Rattle.yq_outline.{specs.Ends.part, specs.Outline.{Line, Outline, level}, specs.Extents.IsRowsView, specs.Lines.lines_of_rows}
 use Rattle.yq_outline.{specs.RowWalk.{IsLine, IsPosition, line_number}, specs.declared.line_position.Position.Position}

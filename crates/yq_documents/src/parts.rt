@@ -55,7 +55,7 @@ fn left_past(is_document: bool, left: usize) -> usize
     }
 }
 
-/// The number of the part that is document `i`, where `first` tells whether part 0 is a document.
+/// The number of the part that is document `i`, where `first` says whether part 0 is a document.
 fn number_in(rows: &Rows<'_>, first: bool, i: usize) -> Option<usize>
     ensures value { result ≡ spec.number_in first i 0 rows.now.bounds }
     ensures within { IfSome result (λ k. k < length rows.now.bounds) }

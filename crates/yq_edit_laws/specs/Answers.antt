@@ -5,7 +5,7 @@ use Rattle.yq_text.specs.declared.edited.Edited.{Edited}
 use Rattle.yq_edit_laws.specs.Edit.{Edit, refuses, gives}
 use Rattle.yq_failure.specs.declared.failure.Failure.TheVariants as failure
 
--- what an error says of an edit; want of memory says nothing (own)
+-- what an error says of an edit; lack of memory says nothing (own)
 abbrev pub EditFails : ExprError → Edit → Type 0
 EditFails (failure.Fault why) edit = edit ≡ refuses why
 EditFails failure.Memory edit = Unit {0}

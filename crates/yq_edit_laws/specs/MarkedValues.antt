@@ -1,4 +1,4 @@
--- Replace at an item or entry, or of a node alone on its line: what is owed of what is put there (own).
+-- Replace at an item or entry, or of a node alone on its line: what must hold of what is put there (own).
 use Rattle.std.specs.Prelude.{◌≡◌, ℕ, List, Some, Bool, true, false}
 use Rattle.yq_core.{specs.Paths.Step, specs.Tree.Node}
 use Rattle.yq_row_table.specs.Rows.{Cut, cut_text}

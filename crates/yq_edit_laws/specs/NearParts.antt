@@ -30,7 +30,7 @@ pub record HasKeyAt (i : ℕ) (key : List ℕ) (es : List Field) : Type 0 where
   pub at : entry ≡ get_or es i entry
   pub key_is : bytes_eq (string_bytes entry.0) key ≡ true
 
--- the collection to which the steps lead that the code tells with a node has no key twice (3.2.1.3)
+-- the collection to which the steps lead that the code reports with a node has no key twice (3.2.1.3)
 abbrev pub HasUniqueCollection : FlowHead → Type 0
 HasUniqueCollection x = (q : Placed) → Some (following_anchor q) ≡ collection_view x → HasUniqueKeys (placed_tree q)
 

@@ -1,4 +1,4 @@
--- What is owed of the segments that a value exchanges as the root of a document (own).
+-- What must hold of the segments that a value replaces as the root of a document (own).
 use Rattle.std.specs.Prelude.{◌≡◌, ℕ, List, Some}
 use Rattle.yq_core.{specs.Paths.Step, specs.Tree.Node}
 use Rattle.yq_row_table.specs.Rows.{Cut, cut_text}

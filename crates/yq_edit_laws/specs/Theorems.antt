@@ -61,7 +61,7 @@ pub record IsLarge (op : Operation) (t : List ℕ) : Type 0 where
   pub old_is : old_text segments ≡ t
   pub size : text_limit < length (new_text segments)
 
--- what refuses an operation that fits: the size of the new text, or want of memory (own)
+-- what refuses an operation that fits: the size of the new text, or lack of memory (own)
 abbrev pub OpRefused : ExprError → Operation → List ℕ → Type 0
 OpRefused (failure.Fault why) op t = (why ≡ TooLarge) × IsLarge op t
 OpRefused failure.Memory op t = ⊤

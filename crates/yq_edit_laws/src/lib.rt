@@ -1,6 +1,6 @@
-//! What operations, updates and programs make of a text, and why they are refused; operands of operations.
-//! What nodes exchange: edits of flow collections, the empty collection that is put in the place of one whose
-//! sole item or entry is removed, and laws of values, comments, one more item or entry and one fewer outside.
+//! What operations, updates and programs do to a text, and why they are refused; operands of operations.
+//! Edits of flow collections, and the empty collection that replaces one whose only item or entry is removed.
+//! Outside flow collections: laws of values, comments, and of one item or entry more or fewer.
 #![tactic(auto)]
 
 mod append;

@@ -52,7 +52,7 @@ fn place_between(piece: &str, part: Neighbours<'_>) -> Option<EditPlace>
     remove_between(piece, before, start, end, next_in(total, part.next))
 }
 
-/// Whether nothing is beside an item or entry.
+/// Whether nothing is next to an item or entry.
 fn is_alone(part: Neighbours<'_>) -> bool
     ensures before { IsTrue result → part.entry.before ≡ None }
     ensures next { IsTrue result → part.entry.next ≡ None }
@@ -116,7 +116,7 @@ fn removed_or_sole<'d>(
 }
 
 /// An item or entry removed from a flow collection, by what is found above it; or else what the node there is, if there
-/// is one. A flow collection is not read where nothing is beside the item or entry at the path.
+/// is one. A flow collection is not read where nothing is next to the item or entry at the path.
 ///
 /// # Errors
 /// [`AllocError`] where memory is refused.

@@ -17,7 +17,7 @@ use Rattle.yq_core.specs.Tree as tree
 use Rattle.yq_core.specs.Nodes as inline
 
 -- An inline node is a value's: it is one below any parent, before any rest at which a plain scalar ends; it means the value and has no anchor; it may
--- are alone on its line; and its keys are fit (own).
+-- be alone on its line; and its keys are fit (own).
 pub record IsHead (v : tree.Node) (node : inline.FlowNode) : Type 0 where
   pub is_located : (n : ℤ) (rest : List ℕ) → ends_plain false (Some (deeper n)) rest ≡ true → IsInline Block n 0 node rest
   pub same : node_head node ≡ Some v
@@ -25,7 +25,7 @@ pub record IsHead (v : tree.Node) (node : inline.FlowNode) : Type 0 where
   pub more : is_more node ≡ true
   pub keys : HasFitKeys node
 
--- The inline node as which a value is written is the value's (own).
+-- The inline node in which a value is written is the value's (own).
 abbrev pub InlineWritten : Type 0
 InlineWritten = (v : tree.Node) (node : inline.FlowNode) → IsValueTree v → inline_of v ≡ Some node → IsHead v node
 

@@ -1,4 +1,4 @@
--- Reading (own; a reader may skip it): items and entries in block style, one after the other.
+-- Reading (own; you may skip it): items and entries in block style, one after the other.
 use Rattle.std.{specs.Prelude.{ℕ, ◌+◌, List, [], ◌∷◌, ◌++◌, Bool, true, false, replicate, map, if◌then◌else◌}, specs.Option.is_none}
 use Rattle.yq_core.specs.BlockWritten.{break_text}
 use Rattle.yq_edit_rules.{specs.declared.layout.Layout.Layout, specs.BlockRows.{inline_of, block_key, indent_step, item_column}}
@@ -9,7 +9,7 @@ use Rattle.yq_core.specs.Tree as tree
 abbrev pub break_and_indent : Layout → ℕ → List ℕ
 break_and_indent l column = break_text l.br ++ replicate column 32
 
--- texts with another one between them; first tells that nothing comes before them (own)
+-- texts with another one between them; first says that nothing comes before them (own)
 abbrev pub separated_texts : List ℕ → Bool → List (List ℕ) → List ℕ
 separated_texts between first [] = []
 separated_texts between true (x ∷ xs) = x ++ separated_texts between false xs

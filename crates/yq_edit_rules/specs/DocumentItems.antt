@@ -4,7 +4,7 @@ use Rattle.yq_row_table.{specs.Items.{Item, end_item, rows_items, items_of_cut, 
 use Rattle.yq_documents.specs.Documents.{document_parts}
 use Rattle.yq_edit_rules.{specs.Changed.put_document, specs.DocumentRows.after_document}
 
--- Document k of a cut is among items, and so does another part that is put in its place; all other items stay.
+-- Document k of a cut is among items, and so is another part that replaces it; all other items stay.
 pub record HasItems (c : Cut) (k : ℕ) (p : Part) : Type 0 where
   pub above : List Item
   pub marker : List ℕ

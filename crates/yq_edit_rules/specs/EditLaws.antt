@@ -1,4 +1,4 @@
--- What is owed of the segments that an operation exchanges, by what is at its place (own).
+-- What must hold of the segments that an operation replaces, by what is at its place (own).
 use Rattle.std.specs.Prelude.{◌≡◌, ◌⊎◌, ℕ, ◌≤◌, List, [], ◌∷◌, length, Option, Some, true, false}
 use Rattle.yq_core.{specs.Answers.◌>>=◌, specs.BlockWritten.break_text, specs.Paths.Step, specs.Tree.Node, specs.Collections.CollPieces}
 use Rattle.yq_text.{specs.Limit.text_limit, specs.Script.{Segment, AllStay, keep, new_text, old_text}}
@@ -71,7 +71,7 @@ FlowPartIsRemoved =
     read_at (cut_text c) ≡ Some c → last_step steps ≡ Some (init, s) → flow_collection n init c ≡ Some w →
     flow_removed (cut_text c) s w ≡ Some ss → IsEdit (remove n steps) c ss
 
--- A sole item or entry: what puts an empty collection in the place of its own removes it.
+-- A sole item or entry: to replace its collection by an empty one removes it.
 abbrev pub SoleIsRemoved : Type 0
 SoleIsRemoved =
     (n : ℕ) (steps init : List Step) (s : Step) (v : Node) (c : Cut) (ss : List Segment) →
@@ -96,7 +96,7 @@ HeadCommentIsPut =
 abbrev pub EditsCarryOut : Type 0
 EditsCarryOut = (op : Operation) (c : Cut) (ss : List Segment) → read_at (cut_text c) ≡ Some c → op_edits op c ≡ Some ss → IsEdit op c ss
 
--- An operation that fits has its edit.
+-- For an operation that fits, there is something to replace.
 abbrev pub FittingHasEdit : Type 0
 FittingHasEdit =
     (op : Operation) (c : Cut) →
@@ -115,7 +115,7 @@ pub record KindsCarryOut : Type 0 where
   pub line_comment : LineCommentIsPut
   pub head_comment : HeadCommentIsPut
 
--- A node that takes an item or entry is a block collection that gets one more, or a flow collection that does.
+-- A node to which an item or entry can be added is a block collection or a flow collection that gets one more.
 abbrev pub AppendHasEdit : Type 0
 AppendHasEdit =
     (n : ℕ) (steps : List Step) (key : Option (List ℕ)) (v : Node) (c : Cut) →

@@ -41,7 +41,7 @@ part_removed n c (Some x) = flow_collection n x.0 c >>= flow_removed (cut_text c
 abbrev pub rows_or_sole : ℕ → List Step → Cut → Option (List Segment)
 rows_or_sole n steps c = if has_others_at n steps c then one_removed n steps c else sole_removed n c (last_step steps)
 
--- Remove: one of several parts of a flow collection, or else by what is beside it
+-- Remove: one of several parts of a flow collection, or else by what is next to it
 abbrev pub removed : ℕ → List Step → Cut → Option (List Segment)
 removed n steps c = option_or (part_removed n c (last_step steps)) (rows_or_sole n steps c)
 

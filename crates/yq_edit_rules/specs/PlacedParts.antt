@@ -5,7 +5,7 @@ use Rattle.yq_documents.specs.Documents.{document_parts}
 use Rattle.yq_places.specs.PlacedRows.{PlacedPart, placed_document}
 use Rattle.yq_edit_rules.{specs.Changed.put_document, specs.DocumentRows.after_document}
 
--- A document is in a cut between two texts, and so does another part that is put in its place.
+-- A document is in a cut between two texts, and so is another part that replaces it.
 pub record IsDocumentAt (c : Cut) (k : ℕ) (s : PlacedPart) : Type 0 where
   pub there : slice_get (document_parts c) k ≡ Some s.part
   pub after : after_document k c ≡ s.after

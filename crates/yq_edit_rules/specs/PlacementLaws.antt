@@ -1,4 +1,4 @@
--- What is owed of the rows in which items and entries are, and of what these hold (own).
+-- What must hold of the rows in which items and entries are, and of what these hold (own).
 use Rattle.std.specs.Prelude.{◌≡◌, ◌⊎◌, ℕ, suc, ◌+◌, List, [], ◌∷◌, ◌++◌, length, nat_lt, slice_get, Some}
 use Rattle.yq_core.{specs.Paths.Step, specs.Tree.Node, specs.Trees.items_tree}
 use Rattle.yq_outline.{specs.Counts.count, specs.Outline.flatten, specs.Places.{FoundLine, find, lines_before}, specs.Lines.lines_of_rows}
@@ -10,7 +10,7 @@ use Rattle.yq_edit_rules.{specs.Changed.put_document, specs.DocumentRows.{IsDocu
 
 -- ---- there is something
 
--- Each document has a being at its root.
+-- Each document has something at its root.
 abbrev pub RootsOccur : Type 0
 RootsOccur = (n : ℕ) (c : Cut) (p : Part) → slice_get (document_parts c) n ≡ Some p → (s : Placement) × (placement_at n [] c ≡ Some s)
 
@@ -18,13 +18,13 @@ RootsOccur = (n : ℕ) (c : Cut) (p : Part) → slice_get (document_parts c) n �
 abbrev pub HasEntryRows : ℕ → List Step → Cut → Type 0
 HasEntryRows n steps c = (e : RowsOfEntry) × (rows_of_entry n steps c ≡ Some e)
 
--- the last of steps leads to a part of a flow collection, which says whether the item or entry has others beside it
+-- the last of steps leads to a part of a flow collection, which says whether the item or entry has others next to it
 abbrev pub HasFlowPart : ℕ → Step → List Step → Cut → Type 0
 HasFlowPart n s ss c =
     (x : FlowPart) × (flow_placement n c (last_step (s ∷ ss)) ≡ Some x) ×
     (has_others_at n (s ∷ ss) c ≡ nat_lt 1 (count (items_tree x.collection.items)))
 
--- Where a node is below the root, there are the rows of an item or entry, or a part of a flow collection, which tells whether it has others beside it.
+-- Where a node is below the root, there are the rows of an item or entry, or a part of a flow collection, which says whether it has others next to it.
 abbrev pub EntriesOccur : Type 0
 EntriesOccur =
     (n : ℕ) (s : Step) (ss : List Step) (c : Cut) (v : Node) → read_at (cut_text c) ≡ Some c → node_in n (s ∷ ss) c ≡ Some v →

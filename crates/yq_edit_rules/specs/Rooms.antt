@@ -1,4 +1,4 @@
--- What the rows of a part tell of its lead, of whether its root is block, and of the room for comments, where they take the place of another one's (own).
+-- A part's lead, whether its root is block, and its room for comments, by its rows, where these replace those of another part (own).
 use Rattle.std.specs.Prelude.{◌≡◌, ℕ, List, map, is_some, Bool, true}
 use Rattle.yq_core.{specs.Paths.Step, specs.Tree.{none, children_of}}
 use Rattle.yq_row_table.specs.Rows.{RowMark, Row, Part}
@@ -33,7 +33,7 @@ KeptLeadGoes = (p q : Part) → lead_of q ≡ lead_of p → (is_block_root p ≡
 abbrev pub EqualRoom : Part → Part → Type 0
 EqualRoom p q = (part : places.Part) (steps : List Step) → row_line_has_room part (row_line_of steps q.rows) ≡ row_line_has_room part (row_line_of steps p.rows)
 
--- What is known of a row beside its gap and its content: its column, its dashes, its mark, and whether it has a head.
+-- What is known of a row other than its gap and its content: its column, its dashes, its mark, and whether it has a head.
 pub record RowShape : Type 0 where
   pub column : ℕ
   pub dashes : List ℕ

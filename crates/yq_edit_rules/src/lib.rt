@@ -1,5 +1,5 @@
-//! What operations exchange of a text, and values written in block style.
-//! Laws of what a text reads as when rows of one of its documents are exchanged, added or taken out.
+//! Which bytes of a text operations replace, and values written in block style.
+//! Laws of what a text reads as when rows of one of its documents are replaced, added or removed.
 #![tactic(auto)]
 
 pub mod documents;

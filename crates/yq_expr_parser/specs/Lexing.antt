@@ -1,4 +1,4 @@
--- Reading (own; a reader may skip it: the grammar is what is believed, and the clauses `found` and `only` tie the two).
+-- Reading (own; you may skip it: the clauses `found` and `only` show that it agrees with the grammar).
 use Rattle.std.specs.Prelude.{◌≡◌, ℕ, zero, suc, ◌+◌, if◌then◌else◌, Bool, true, false, ◌||◌, ◌&&◌, ◌==◌, List, [], ◌∷◌, length, take, drop}
 use Rattle.std.{specs.Prelude.{Option, Some, None, is_some, option_map, not}, specs.Char.is_ascii_digit, specs.List.prefix_len}
 use Rattle.yq_core.specs.Text.{front}

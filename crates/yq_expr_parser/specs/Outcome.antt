@@ -103,17 +103,17 @@ ComesTo text ill_formed =
 ComesTo text not_in_profile = (ts : List Token) × AreTokens ts text × (HasForeign ts ⊎ IsTooDeep ts)
 ComesTo text with_pattern = (p : Program) × Derives text p × (has_pattern p ≡ true)
 
--- a text has the cause of its refusal; want of memory says nothing (own)
+-- a text has the cause of its refusal; lack of memory says nothing (own)
 abbrev pub ExprRefused : ParseError → List ℕ → Type 0
 ExprRefused failure.Memory text = Unit {0}
 ExprRefused (failure.Fault f) text = ComesTo text (refusal f)
 
--- An error is that refusal; want of memory says nothing (own).
+-- An error is that refusal; lack of memory says nothing (own).
 abbrev pub AnswersError : ParseError → Outcome → Type 0
 AnswersError failure.Memory o = Unit {0}
 AnswersError (failure.Fault f) o = o ≡ refusal f
 
--- An answer is that program or that refusal; want of memory says nothing (own).
+-- An answer is that program or that refusal; lack of memory says nothing (own).
 abbrev pub Answers : {X : Type 0} → (X → Program) → Result X ParseError → Outcome → Type 0
 Answers view (Ok x) o = o ≡ parsed (view x)
 Answers view (Err e) o = AnswersError e o

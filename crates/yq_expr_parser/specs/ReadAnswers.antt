@@ -4,7 +4,7 @@ use Rattle.yq_expr_parser.specs.Lexing.{tokens}
 use Rattle.yq_semantics.{specs.Parsing.{ParseError, ill_formed, refusal}, specs.Tokens.Token}
 use Rattle.yq_failure.specs.declared.failure.Failure.TheVariants as failure
 
--- A fault of syntax comes where reading gives nothing; want of memory says nothing (own).
+-- A fault of syntax comes where reading gives nothing; lack of memory says nothing (own).
 abbrev pub ParseFails : {Y : Type 0} → ParseError → Option Y → Type 0
 ParseFails failure.Memory read = Unit {0}
 ParseFails (failure.Fault f) read = (refusal f ≡ ill_formed) × (read ≡ None)
@@ -14,7 +14,7 @@ abbrev pub GivesForm : {X Y : Type 0} → (X → Y) → Result X ParseError → 
 GivesForm view (Ok x) read = read ≡ Some (view x)
 GivesForm view (Err e) read = ParseFails e read
 
--- An answer that fails only for want of memory (own).
+-- An answer that fails only for lack of memory (own).
 abbrev pub Succeeds : {X Y : Type 0} → (X → Y) → Result X ParseError → Y → Type 0
 Succeeds view (Ok x) read = read ≡ view x
 Succeeds view (Err e) read = e ≡ failure.Memory

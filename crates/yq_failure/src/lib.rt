@@ -1,4 +1,4 @@
-//! Why calls fail: memory ran out, or what each refuses.
+//! The error of a call: memory ran out, or the fault for which it is refused.
 #![tactic(auto)]
 
 mod failure;

@@ -12,7 +12,7 @@ abbrev pub is_marks : List ℕ → Bool
 is_marks (a ∷ b ∷ c ∷ []) = (a == 45 && b == 45 && c == 45) || (a == 46 && b == 46 && c == 46)
 is_marks _ = false
 
--- `---` or `...` in column 0 ends the text; the Bool tells whether a line begins before it (own)
+-- `---` or `...` in column 0 ends the text; the Bool says whether a line begins before it (own)
 abbrev pub ends_marked : Bool → List ℕ → Bool
 ends_marked line [] = false
 ends_marked line (b ∷ p) = (line && is_marks (b ∷ p)) || ends_marked (is_feed b) p

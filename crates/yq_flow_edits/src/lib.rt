@@ -1,4 +1,4 @@
-//! Inline nodes written, and flow collections edited.
+//! Writes values in flow style, and edits flow collections.
 #![tactic(auto)]
 
 mod flow_laws;

@@ -1,4 +1,4 @@
--- Nodes to which steps lead in the node in front of a text (own; a reader may skip it).
+-- Nodes to which steps lead in the node in front of a text (own; you may skip it).
 use Rattle.std.specs.Prelude.{◌≡◌, ℕ, Bool, List, [], ◌∷◌, ◌++◌, drop, length, None, Option, Some, option_map, if◌then◌else◌}
 use Rattle.yq_core.{specs.Answers.◌>>=◌, specs.Entries.{EntryPieces, entry_pieces_at, path_inside}}
 use Rattle.yq_core.{specs.Nodes.{FlowNode, Items, bare, begins_content, begins_with, node_text}, specs.Paths.Step}

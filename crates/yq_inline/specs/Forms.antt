@@ -1,4 +1,4 @@
--- What the code reads of a node in steps of its own (own; a reader may skip it).
+-- What the code reads of a node in steps of its own (own; you may skip it).
 use Rattle.std.specs.Prelude.{ℕ, List, Option, Some, None, Bool, if◌then◌else◌}
 use Rattle.yq_core.{specs.Answers.◌>>=◌, specs.Places.{Placed, CoreNode, bare_placed}, specs.PlacedReading.{core_between, past_sep}}
 use Rattle.yq_core.specs.Reading.{read_core, one_level_less, read_gap, kids_of}

@@ -1,4 +1,4 @@
--- Reading (own; a reader may skip it): keys of mappings, one in the other.
+-- Reading (own; you may skip it): keys of mappings, one in the other.
 use Rattle.std.{specs.Borrow.Bor, specs.Prelude.{List, ℕ, map}}
 
 -- what keys are

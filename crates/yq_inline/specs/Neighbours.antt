@@ -68,7 +68,7 @@ coll_around s w = around_part w.close s None w.items w.rest
 abbrev pub coll_read : List Step → Option (FlowNode × List ℕ) → Option CollPieces
 coll_read ss o = o >>= λ x. coll_along ss x.0 x.1
 
--- ---- what the code tells of them
+-- ---- what the code reports of them
 
 -- the texts that one of the code shows
 abbrev pub passed_view : PassedPart → PartTexts

@@ -1,4 +1,4 @@
--- Reading (own; a reader may skip it): what is passed of flow collections that the text lends.
+-- Reading (own; you may skip it): what is passed of flow collections that the text lends.
 use Rattle.std.specs.Prelude.{◌≡◌, ℕ, ◌<◌, ◌≤◌, Bool, true, false, List, ◌∷◌, Some}
 use Rattle.yq_core.{specs.Borrowed.{borrows_items, borrows_node, borrows_text}, specs.FitKeys.{is_fit, has_fit_keys, each_has_fit_keys}}
 use Rattle.yq_core.specs.Inline.{depth_limit}

@@ -1,4 +1,4 @@
--- Scalars and keys as they are written most often (own; a reader may skip it).
+-- Scalars and keys as they are written most often (own; you may skip it).
 use Rattle.std.specs.Prelude.{◌≡◌, ℕ, Bool, true, ◌||◌, ◌&&◌, ◌==◌, nat_le, List, ◌∷◌, drop, Option, Some}
 use Rattle.yq_core.{specs.Borrowed.borrows_text, specs.Nodes.begins_with, specs.PlacedReading.split_key, specs.Quoted.IsQuotedText}
 use Rattle.yq_core.{specs.Reading.read_scalar, specs.Scalars.{begins_scalar, is_quoted}, specs.Text.front}

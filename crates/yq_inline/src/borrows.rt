@@ -32,7 +32,7 @@ fn begins_escaped(piece: &str) -> bool
     first_is(b'"', piece.as_bytes()) && stops_at_slash(borrowed_text(piece).as_bytes())
 }
 
-/// Whether the text lends what a key or scalar means: it is on one line, and has no escapes.
+/// Whether what a key or scalar means is a slice of the text: it is on one line and has no escapes.
 pub fn borrows_text(piece: &str) -> bool
     requires { is_in_quotes piece.now ≡ true → IsQuotedText piece.now }
     ensures { result ≡ is_borrowed_text piece.now }

@@ -26,8 +26,9 @@ fn is_unclosed(whole: &str, open: &str, rest: &str) -> bool {
     rest.is_empty() || (is_left && !matches!(without_spaces(opened), [b'[' | b'{', ..]))
 }
 
-/// A fault in a flow collection after whose bracket was `open`: where this rest of the whole text
-/// begins, or, where the collection isn't closed before it, where that begins.
+/// The fault in a flow collection that begins with a bracket, after which comes `open`. It is where
+/// `rest` of the whole text begins; if the collection isn't closed before that, it is where the
+/// collection begins.
 pub fn flow_fault(kind: FaultKind, whole: &str, open: &str, rest: &str) -> ReadFault
     requires { kind ≢ NotUtf8 }
     ensures { result.kind ≢ NotUtf8 }

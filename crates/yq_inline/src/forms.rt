@@ -11,7 +11,7 @@ use crate::pieces::{begins_scalar, read_scalar};
 use crate::scalar::plain_kind;
 use yq_core::{BorrowedNode, Kind, between_quotes, is_quoted, strip};
 
-/// What a node is that a text lends.
+/// What a node is, with keys and scalars as slices of the text.
 #[derive(Clone, Copy)]
 pub enum BorrowedForm<'t> {
     /// A scalar; nothing is null.

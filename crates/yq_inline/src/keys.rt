@@ -5,7 +5,7 @@ ghost use Rattle.yq_inline.specs.KeyTexts.{key_texts};
 
 use yq_scalar_reader::are_distinct;
 
-/// The keys of mappings, one in the other: those of the innermost one are the last ones.
+/// The keys of mappings that are nested in each other: those of the innermost mapping come last.
 pub type Keys<'k> = Vec<&'k str>;
 
 /// Whether no two of three keys or fewer are equal.
@@ -32,7 +32,7 @@ fn all_differ(keys: &mut [&str]) -> bool
     }
 }
 
-/// Takes the keys after so many others away, and answers whether they differ.
+/// Removes the keys after so many others, and answers whether the removed ones differ.
 #[inline(always)]
 pub fn take_distinct(keys: &mut Keys<'_>, others: usize) -> bool
     requires { others ≤ length keys.old.items }

@@ -6,7 +6,7 @@ ghost use Rattle.yq_core.specs.Entries.{EntryPieces, IsEntryInText, placed_entry
 ghost use Rattle.yq_core.{specs.Places.{Placed, locate}, specs.Trees.{placed_tree, tree_of}, specs.OneReading.HasOneReading};
 ghost use Rattle.yq_inline.specs.NodesWithin.{IsNodeWithin};
 
-/// What is read as an inline node is one, what is one is read, and a text begins with one at most.
+/// What is read as an inline node is one, each inline node is read, and a text begins with one at most.
 pub fn one_inline()
     ensures takes { (place : Place) (n : ℤ) (depth at : ℕ) (text : List ℕ) (p : Placed) →
         inline_at place n depth at text ≡ Some p → IsInlineAt place n depth at text p }

@@ -1,5 +1,5 @@
 //! Inline nodes of YAML: aliases, plain and quoted scalars and flow collections, with their anchors.
-//! Where they end is found without memory, and those that the text lends are walked so.
+//! Finding where they end, and walking those whose scalars are slices of the text, takes no memory.
 #![tactic(auto)]
 
 mod along;

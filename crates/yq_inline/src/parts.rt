@@ -10,8 +10,8 @@ use crate::pieces::{read_key, read_sep};
 use crate::scalar::{borrowed_content, style_of};
 use yq_core::{BorrowedNode, Piece, first_is, inline_piece};
 
-/// Items of a sequence, or entries of a mapping, in front of a text, with the `]` or `}` after them. The
-/// text lends each key and scalar of them.
+/// Items of a sequence, or entries of a mapping, in front of a text, with the `]` or `}` after them.
+/// Each of their keys and scalars is a slice of the text.
 #[derive(Clone, Copy)]
 pub struct BorrowedParts<'t> {
     /// How long the whole text is, in bytes.
@@ -26,7 +26,7 @@ pub struct BorrowedParts<'t> {
     pub ghost borrowed: { are_borrowed depth (closing_byte keyed) text.now ≡ true },
 }
 
-/// An item or entry of which the text lends each key and scalar, or the node at which a path begins.
+/// An item or entry whose keys and scalars are slices of the text, or the node at which a path begins.
 #[derive(Clone, Copy)]
 pub struct BorrowedEntry<'t> {
     /// The key's content and piece; an item has no key.

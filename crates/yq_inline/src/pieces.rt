@@ -63,7 +63,7 @@ pub fn begins_content(flow: bool, text: &[u8]) -> bool
         || begins_scalar(flow, text)
 }
 
-/// Why no node begins with this text, where nothing else is known.
+/// Which fault to name where no node begins with this text, if nothing else is known.
 pub fn no_node(text: &[u8], otherwise: FaultKind) -> FaultKind
     requires { otherwise ≢ NotUtf8 }
     ensures { result ≢ NotUtf8 }
@@ -105,8 +105,8 @@ fn read_quoted<'t>(
     }
 }
 
-/// The scalar in front, and what follows it. A further line of it begins with so many spaces at least;
-/// without a number it has one line.
+/// The scalar in front of the text, and what follows it. Each further line of it begins with at least
+/// so many spaces; without a number it has one line.
 #[inline(always)]
 #[tactic(auto, unfolding(yq_core::specs::Reading::read_scalar, yq_core::specs::Plain::plain_at), using(yq_core::proofs::Bounds::plain_unquoted))]
 pub fn read_scalar<'t>(

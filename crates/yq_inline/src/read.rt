@@ -41,12 +41,13 @@ fn inline_at<'t>(
     Ok(node)
 }
 
-/// The inline node that begins at an offset, in bytes, of a text. `indent` is the indentation of its
-/// parent, in columns, and -1 below no parent; `depth` is how many collections are round the node.
+/// The inline node that begins at an offset of a text, in bytes (YAML 1.2.2, sections 6.9.2, 7.1, 7.3
+/// and 7.4). `indent` is the indentation of its parent, in columns, or -1 if it has none; `depth` is
+/// how many collections are around the node.
 ///
-/// The node is something, if only an anchor. Outside flow collections what an anchor comes before is on
-/// the anchor's line. A node with which more than 64 collections would be
-/// nested is refused, before it is read.
+/// The node is not empty: it has at least an anchor. Outside flow collections the node of an anchor is
+/// on the anchor's line. A node is refused before it is read if more than 64 collections would be
+/// nested.
 #[tactic(auto, using(yq_core::proofs::InlineLaws::inline_laws, yq_core::proofs::SpanLaws::spans_by, yq_core::proofs::NestedLaws::nested_by))]
 pub fn read_inline<'t>(
     alloc: Global,

@@ -36,7 +36,7 @@ pub record IsLeading {A : Type 0} (to_data : A → Data) (of_data : Data → Opt
   pub text_is : text ≡ compact_text (to_data x) ++ rest
   pub kept : IsReadBack to_data of_data x
 
--- what an answer has, if anything, comes first in a text as compact JSON, which is read back as that thing; the rest is next to it (RFC 8259)
+-- what an answer has, if anything, comes first in a text as compact JSON, which is read back as that thing; the answer has the rest too (RFC 8259)
 abbrev pub FindsJson : {X E A : Type 0} → Result (Option (X × Bor (List ℕ))) E → (X → A) → (A → Data) → (Data → Option A) → List ℕ → Type 0
 FindsJson r view to_data of_data text = IfFound r (λ p. IsLeading to_data of_data (view p.0) text p.1.now)
 

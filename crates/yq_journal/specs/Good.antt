@@ -1,4 +1,4 @@
--- A text and a journal beside a history, at rest and with a move open.
+-- A text and a journal next to a history, at rest and with a move open.
 use Rattle.std.specs.Prelude.{◌≡◌, ◌≢◌, ◌==◌, ◌⊎◌, ℕ, ◌≤◌, ◌&&◌, List, [], ◌∷◌, length, nat_le, if◌then◌else◌, Option, Some, None}
 use Rattle.yq_journal.specs.declared.fault.JournalFault.{JournalFault}
 use Rattle.yq_journal.specs.declared.fault.JournalFault.TheVariants.{NothingToUndo, NothingToRedo, JournalFull, BadCount}
@@ -30,7 +30,7 @@ pub record AtRest (s : State) (t : List ℕ) (h : History) : Type 0 where
   pub reports : LeadsAsHistory s h
   pub text : t ≡ text_at h
 
--- an open move: the journal tells the history before it and keeps the text at its cursor, which the move changes; the text is that one, or the one to which
+-- an open move: the journal describes the history before it and keeps the text at its cursor, which the move changes; the text is that one, or the one to which
 -- the move leads, with the history after it (own)
 pub record Underway (s : State) (p : Pending) (t : List ℕ) (h : History) : Type 0 where
   pub before : History
@@ -46,11 +46,11 @@ abbrev pub DescribesPending : State → Option Pending → List ℕ → History 
 DescribesPending s None t h = AtRest s t h
 DescribesPending s (Some p) t h = Underway s p t h
 
--- a journal beside a text describes a history (own)
+-- a journal next to a text describes a history (own)
 abbrev pub Describes : State → List ℕ → History → Type 0
 Describes s t h = DescribesPending s s.pending t h
 
--- a journal that comes of settling is at rest with the history (own)
+-- a journal that settling gave has no open move, and the same history (own)
 pub record Rests (settled : Option State) (t : List ℕ) (h : History) : Type 0 where
   pub rest : State
   pub is : settled ≡ Some rest
@@ -72,7 +72,7 @@ abbrev pub journal_beside : Option (List ℕ) → Option State
 journal_beside None = Some empty_state
 journal_beside (Some bytes) = journal_in bytes
 
--- a file is there, and its journal beside it describes the history (own)
+-- a file is there, and its journal next to it describes the history (own)
 pub record PairHolds (file journal : Option (List ℕ)) (h : History) : Type 0 where
   pub text : List ℕ
   pub state : State
@@ -85,10 +85,10 @@ abbrev pub Good : Option (List ℕ) → Option (List ℕ) → Option History →
 Good file journal None = file ≡ None
 Good file journal (Some h) = PairHolds file journal h
 
--- this holds of every journal at rest with a history beside a text (own)
+-- this holds of every journal at rest with a history next to a text (own)
 abbrev pub AllAtRest : (State → List ℕ → History → Type 0) → Type 0
 AllAtRest P = (s : State) (t : List ℕ) (h : History) → AtRest s t h → P s t h
 
--- this holds of every journal at rest with a history beside a text, and a move that leads on from there to another text (own)
+-- this holds of every journal at rest with a history next to a text, and a move that leads on from there to another text (own)
 abbrev pub AllMoves : (State → History → List ℕ → List ℕ → Move → Type 0) → Type 0
 AllMoves P = (s : State) (h : History) (t u : List ℕ) (step : Move) → AtRest s t h → MovesTo s step t u → P s h t u step

@@ -40,12 +40,12 @@ abbrev pub latest : Revision → List Revision → Revision
 latest e [] = e
 latest e (f ∷ fs) = latest (record { expr = e.expr ++ codes " | " ++ f.expr; text = f.text }) fs
 
--- several later texts as one, none as none (own)
+-- several later texts as one; none of no texts (own)
 abbrev pub latest_of : List Revision → List Revision
 latest_of [] = []
 latest_of (e ∷ es) = latest e es ∷ []
 
--- a squash of the last n done edits: the texts between the cursor's and the one n edits before it go, with their places (own)
+-- a squash of the last n done edits: the texts between the cursor's and the one n edits before it are removed (own)
 abbrev pub after_squash : History → ℕ → History
 after_squash h n = record {
   first = h.first;

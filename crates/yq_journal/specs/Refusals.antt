@@ -13,21 +13,21 @@ use Rattle.yq_failure.specs.declared.failure.Failure.TheVariants as error
 abbrev pub JournalError : Type 0
 JournalError = Failure JournalFault
 
--- an error names the fault; want of memory says nothing (own)
+-- an error names the fault; lack of memory says nothing (own)
 abbrev pub ErrorIs : JournalError → Option JournalFault → Type 0
 ErrorIs error.Memory fault = Unit {0}
 ErrorIs (error.Fault f) fault = fault ≡ Some f
 
--- an error names the fault; want of memory is reported only where there is none (own)
+-- an error names the fault; lack of memory is reported only where there is none (own)
 abbrev pub Reports : JournalError → Option JournalFault → Type 0
 Reports error.Memory fault = fault ≡ None
 Reports (error.Fault f) fault = fault ≡ Some f
 
--- want of memory is reported only where this holds (own)
+-- lack of memory is reported only where this holds (own)
 abbrev pub MemoryOnlyIf : {T : Type 0} → Result T JournalError → Type 0 → Type 0
 MemoryOnlyIf r P = IfErr r (λ e. e ≡ error.Memory → P)
 
--- an error is want of memory, or that a journal is beside another text, which is reported only where this holds (own)
+-- an error is lack of memory, or that a journal is next to another text, which is reported only where this holds (own)
 abbrev pub UnsettledOnlyIf : {T : Type 0} → Result T JournalError → Type 0 → Type 0
 UnsettledOnlyIf r P = IfErr r (λ e. (e ≡ error.Memory) ⊎ ((e ≡ error.Fault Unsettled) × P))
 

@@ -45,7 +45,7 @@ abbrev pub is_reached : Option (List ℕ) → List ℕ → Bool
 is_reached None t = false
 is_reached (Some u) t = bytes_eq u t
 
--- the journal that an open move leaves beside a text (own)
+-- the journal that an open move leaves next to a text (own)
 abbrev pub settled_pending : State → Option Pending → List ℕ → Option State
 settled_pending s None t = Some s
 settled_pending s (Some p) t =
@@ -53,7 +53,7 @@ settled_pending s (Some p) t =
     else if is_reached (moved_text s.records s.at p.step p.from) t then Some (journal_after s p.step)
     else None
 
--- the journal settled beside a text: an open move is dropped beside the text from which it starts, done beside the one to which it leads (own)
+-- the journal settled next to a text: an open move is dropped next to the text from which it starts, done next to the one to which it leads (own)
 abbrev pub settled_beside : State → List ℕ → Option State
 settled_beside s t = settled_pending s s.pending t
 

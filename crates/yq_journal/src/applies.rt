@@ -101,8 +101,8 @@ fn are_there(turned: &Turned<'_>, text: &[u8]) -> bool
     true
 }
 
-/// Whether a record applies before a text: the text has its length, and the
-/// splices find their old bytes, one after the other. This takes no memory.
+/// Whether a record can be done on a text: the text has the length `before_len`, and each splice finds
+/// its old bytes, one after the other. Takes no memory.
 pub fn stands_before(patch: &Record, text: &[u8]) -> bool
     ensures { result ≡ is_some (done patch.now text.now) }
 {
@@ -125,8 +125,8 @@ fn may_take_back(splices: &[Splice], _before_len: u64, text: &[u8]) -> bool
     are_there(&taken_back, text)
 }
 
-/// Whether a record applies after a text: the text has its length, and the
-/// splices, the last one first, find their new bytes. This takes no memory.
+/// Whether a record can be undone on a text: the text has the length `after_len`, and each splice, from
+/// the last to the first, finds its new bytes. Takes no memory.
 pub fn stands_after(patch: &Record, text: &[u8]) -> bool
     ensures { result ≡ is_some (undone patch.now text.now) }
 {

@@ -55,7 +55,7 @@ fn is_bare_long(limit: u8, text: &[u8]) -> bool
     are_bare(limit, text, text.len() - 16)
 }
 
-/// Whether JSON escapes no byte of a text, and none is from the limit on.
+/// Whether JSON escapes none of the bytes of a text, and all of them are below a limit.
 pub fn is_bare_below(limit: u8, text: &[u8]) -> bool
     ensures { OnTrue result (spec.IsBare limit text.now) }
 {

@@ -3,7 +3,7 @@
 use thiserror::Error;
 use yq_failure::Failure;
 
-/// What is at fault.
+/// Why a call of a journal is refused.
 #[derive(Clone, Copy, Debug, PartialEq, Eq, Error)]
 pub enum JournalFault {
     /// No record is done.
@@ -12,7 +12,7 @@ pub enum JournalFault {
     /// No record is undone.
     #[error("J2 nothing to redo")]
     NothingToRedo,
-    /// The text doesn't have the length or the bytes that a record tells.
+    /// The text doesn't have the length or the bytes that a record names.
     #[error("J3 does not stand")]
     DoesNotStand,
     /// The bytes are no journal.
@@ -29,5 +29,5 @@ pub enum JournalFault {
     BadCount,
 }
 
-/// Why a call failed.
+/// The error of a call: a fault, or that memory ran out.
 pub type JournalError = Failure<JournalFault>;

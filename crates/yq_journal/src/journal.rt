@@ -57,7 +57,7 @@ impl Journal {
         }
     }
 
-    /// How many records are done.
+    /// The cursor: how many records are done.
     pub fn at(&self) -> usize
         ensures { result ≡ self.now.at }
     {
@@ -71,7 +71,7 @@ impl Journal {
         self.records.len()
     }
 
-    /// A record, counted from 0, oldest first.
+    /// The record of this number, counted from 0, oldest first.
     pub fn record(&self, i: usize) -> &Record
         requires { i < length self.now.records }
         ensures { slice_get self.now.records i ≡ Some result.now }
@@ -79,10 +79,11 @@ impl Journal {
         &self.records[i]
     }
 
-    /// Adds a record of an edit and drops the undone ones. Refused, with the
-    /// record handed back, as `Unsettled` where a move is open, and then as
-    /// `JournalFull` where the cursor is at the last record that there may be;
-    /// as want of memory only where neither is so.
+    /// Adds the record of an edit, and drops the undone ones.
+    ///
+    /// Refused, with the record handed back, first to last: as `Unsettled` if a move is open; as
+    /// `JournalFull` if the cursor is at the last record that there may be. Out of memory is answered
+    /// only if neither is so.
     pub fn push(&mut self, added: Record) -> Result<(), (Record, JournalError)>
         ensures free { OnOk result (push_fault self.old added ≡ None) }
         ensures ok { OnOk result (self.new ≡ journal_after self.old (Move.Edit added)) }
@@ -101,9 +102,9 @@ impl Journal {
         }
     }
 
-    /// Moves the cursor back over a record and gives the text before it.
-    /// Refused, first to last: as `Unsettled` where a move is open, as
-    /// `NothingToUndo`, as `DoesNotStand`.
+    /// Moves the cursor back over a record, and gives the text before that edit.
+    ///
+    /// Refused, first to last: as `Unsettled` if a move is open, as `NothingToUndo`, as `DoesNotStand`.
     pub fn undo(&mut self, text: &[u8]) -> Result<Vec<u8>, JournalError>
         ensures free { OnOk result (move_fault self.old Move.Undo text.now ≡ None) }
         ensures ok { GivesMoved result self.old Move.Undo text.now }
@@ -120,9 +121,9 @@ impl Journal {
         Ok(patched)
     }
 
-    /// Moves the cursor on over a record and gives the text after it.
-    /// Refused, first to last: as `Unsettled` where a move is open, as
-    /// `NothingToRedo`, as `DoesNotStand`.
+    /// Moves the cursor forward over a record, and gives the text after that edit.
+    ///
+    /// Refused, first to last: as `Unsettled` if a move is open, as `NothingToRedo`, as `DoesNotStand`.
     pub fn redo(&mut self, text: &[u8]) -> Result<Vec<u8>, JournalError>
         ensures free { OnOk result (move_fault self.old Move.Redo text.now ≡ None) }
         ensures ok { GivesMoved result self.old Move.Redo text.now }
@@ -139,8 +140,9 @@ impl Journal {
         Ok(patched)
     }
 
-    /// The text that a move leads to, where no move is open. Refused, first to
-    /// last: as `JournalFull`, as `NothingToUndo` or `NothingToRedo`, as
+    /// The text to which a move leads, if no move is open.
+    ///
+    /// Refused, first to last: as `JournalFull`, as `NothingToUndo` or `NothingToRedo`, as
     /// `DoesNotStand`.
     pub fn target(&self, alloc: Global, step: &Move, text: &[u8]) -> Result<Vec<u8>, JournalError>
         ensures ok { GivesMoved result self.now step.now text.now }
@@ -151,10 +153,11 @@ impl Journal {
         target(alloc, &self.records, self.at, step, text)
     }
 
-    /// Joins the last `n` done records into one. Refused, first to last: as
-    /// `Unsettled` where a move is open, as `BadCount` where there aren't so
-    /// many, or none is asked for, or the lengths of neighbours don't meet; as
-    /// want of memory only where neither is so.
+    /// Joins the last `n` done records into one.
+    ///
+    /// Refused, first to last: as `Unsettled` if a move is open; as `BadCount` if `n` is 0 or more than
+    /// the done records, or if the lengths of neighbouring records differ. Out of memory is answered
+    /// only if neither is so.
     pub fn squash(&mut self, n: u64) -> Result<(), JournalError>
         ensures free { OnOk result (squash_fault self.old n ≡ None) }
         ensures ok { OnOk result (self.new ≡ squashed self.old n) }

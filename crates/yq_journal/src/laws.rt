@@ -6,22 +6,22 @@ ghost use Rattle.yq_journal.specs.Refusals.{squash_fault, way_fault, fault_at_re
 ghost use Rattle.yq_journal.specs.State.{State, journal_after, with_move, settled_beside, squashed};
 ghost use Rattle.yq_journal.specs.declared.moves.Move.TheVariants.{Edit, Redo, Undo};
 
-/// A move that applies makes of a journal and its history the ones after it,
-/// also where it leaves the text equal.
+/// A move that applies leads from a journal and its history to those after it, even if it leaves the
+/// text equal.
 pub fn moves_go_on()
     ensures { AllMoves (λ s h t u m. AtRest (journal_after s m) u (after_move h m u)) }
 {}
 
-/// With a move open that changes the text, the journal describes the history
-/// before it beside the old text, and the one after it beside the new text.
+/// While a move that changes the text is open, the journal and the old text describe the history before
+/// the move, and the journal and the new text the one after it.
 #[tactic(auto, using(crate::proofs::GoodLaws::open_before, crate::proofs::GoodLaws::open_after))]
 pub fn open_moves_describe()
     ensures before { AllMoves (λ s h t u m. u ≢ t → Describes (with_move s m t) t h) }
     ensures after { AllMoves (λ s h t u m. u ≢ t → Describes (with_move s m t) u (after_move h m u)) }
 {}
 
-/// A journal that describes a history is settled beside its text, never
-/// refused, and is then at rest with that history.
+/// A journal that with a text describes a history can be settled with that text, and then has no open
+/// move and the same history.
 #[tactic(auto, using(crate::proofs::GoodLaws::settles))]
 pub fn settling_rests()
     ensures { (s : State) (t : List ℕ) (h : History) → Describes s t h →

@@ -20,7 +20,7 @@ pub enum Move {
     Redo,
 }
 
-/// The text that a move leads to.
+/// The text to which a move leads.
 pub fn lead(
     alloc: Global,
     records: &[Record],

@@ -1,4 +1,4 @@
-//! The open move of a journal: opened on a text, and settled beside it or the text to which it leads.
+//! The open move of a journal: opened on a text, and settled next to it or the text to which it leads.
 ghost use Rattle.std.specs.Prelude.{◌≡◌, ◌≢◌, None, Some, IfErr, OnOk, OnErr, IsNone, IsOk};
 ghost use Rattle.yq_journal.specs.Refusals.{ErrorIs, move_fault, MemoryOnlyIf, UnsettledOnlyIf, MayBegin};
 ghost use Rattle.yq_journal.specs.State.{moved_text, with_move, settled_beside, OpenLeads, LeadsElsewhere, MovesTo};
@@ -40,10 +40,11 @@ impl Journal {
         check_way(self.alloc, &self.records, self.at, step, text)
     }
 
-    /// Opens a move and keeps the whole text from which it starts. Refused,
-    /// with the move handed back, first to last: as `Unsettled` where a move
-    /// is open, as `JournalFull`, as `NothingToUndo` or `NothingToRedo`, as
-    /// `DoesNotStand`. All but the last come before any memory is asked for.
+    /// Opens a move, and keeps the whole text from which it starts.
+    ///
+    /// Refused, with the move handed back, first to last: as `Unsettled` if a move is open, as
+    /// `JournalFull`, as `NothingToUndo` or `NothingToRedo`, as `DoesNotStand`. All but the last are
+    /// found before any memory is taken.
     pub fn start(&mut self, step: Move, text: &[u8]) -> Result<(), (Move, JournalError)>
         requires { moved_text self.old.records self.old.at step text.now ≢ Some text.now }
         ensures free { OnOk result (move_fault self.old step text.now ≡ None) }
@@ -64,8 +65,8 @@ impl Journal {
         }
     }
 
-    /// Opens a move of which it is known that it leads to another text, as [`Journal::start`] does,
-    /// which makes that text once more and copies the one from which it starts.
+    /// Opens a move that is known to lead to another text, as [`Journal::start`] does, but without
+    /// making that text again and without a copy of the one from which it starts.
     pub fn start_known(
         &mut self,
         step: Move,
@@ -90,10 +91,10 @@ impl Journal {
         }
     }
 
-    /// Settles an open move beside a text: drops it beside the text from
-    /// which it starts, finishes it beside the one to which it leads, and is
-    /// refused as `Unsettled` beside any other. With no open move it does
-    /// nothing, and takes no memory.
+    /// Settles an open move by the file's text: drops the move if it starts from that text, and
+    /// finishes it if it leads to that text. Refused as `Unsettled` for any other text.
+    ///
+    /// With no open move it does nothing, and takes no memory.
     pub fn settle(&mut self, text: &[u8]) -> Result<(), JournalError>
         ensures ok { OnOk result (settled_beside self.old text.now ≡ Some self.new) }
         ensures at_rest { IsNone self.old.pending → IsOk result }
@@ -111,8 +112,8 @@ impl Journal {
         self.finish(text)
     }
 
-    /// Finishes an open move of which it is known that it leads to this text, as [`Journal::settle`]
-    /// does beside it, which makes that text once more and compares it.
+    /// Finishes an open move that is known to lead to this text, as [`Journal::settle`] does, but
+    /// without making that text again to compare it.
     pub fn finish(&mut self, _text: &[u8]) -> Result<(), JournalError>
         requires { OpenLeads self.old _text.now }
         ensures ok { OnOk result (settled_beside self.old _text.now ≡ Some self.new) }

@@ -69,7 +69,7 @@ pub(crate) fn quoted_text(alloc: Global, text: &str) -> Result<String, AllocErro
     Ok(String::from_utf8(found).unwrap())
 }
 
-/// Adds a text as a string of JSON.
+/// Adds a text as a JSON string (RFC 8259, section 7).
 pub fn push_quoted(text: &mut String, alloc: Global, added: &str) -> Result<(), AllocError>
     ensures { OnOk result (string_bytes text.new ≡ string_bytes text.old ++ quoted added.now) }
 {

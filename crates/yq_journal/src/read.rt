@@ -105,7 +105,7 @@ fn by_tree(alloc: Global, bytes: &[u8]) -> Result<Option<Journal>, AllocError>
 }
 
 impl Journal {
-    /// The journal that bytes are, in version 1 or 2: refused as `BadJournal`
+    /// The journal that bytes are as JSON (RFC 8259), of version 1 or 2. Refused as `BadJournal`
     /// exactly where they are none.
     pub fn from_json(alloc: Global, bytes: &[u8]) -> Result<Journal, JournalError>
         ensures ok { IfOk result (λ j. spec.journal_in bytes.now ≡ Some j) }

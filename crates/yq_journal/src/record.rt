@@ -35,8 +35,8 @@ impl Model for Record {
 }
 
 impl Record {
-    /// The record of one edit, on condition that each splice lies within the
-    /// length reached so far and the lengths end at `after_len`.
+    /// The record of one edit. Each splice must be within the length reached so far, and the lengths
+    /// must end at `after_len`.
     pub fn new(expr: String, splices: Vec<Splice>, before_len: u64, after_len: u64) -> Record
         requires { lengths_done splices.items before_len ≡ Some after_len }
         ensures { result ≡ record_with expr splices before_len after_len 1 }
@@ -52,8 +52,8 @@ impl Record {
     }
 }
 
-/// The text that an edit leads to from this one: refused as `DoesNotStand`
-/// exactly where its record doesn't apply to it.
+/// The text to which an edit leads from this one. Refused as `DoesNotStand` exactly where its record
+/// doesn't apply to it.
 pub fn redo_record(alloc: Global, patch: &Record, text: &[u8]) -> Result<Vec<u8>, JournalError>
     ensures ok { IfOk result (λ v. done patch.now text.now ≡ Some v.items) }
     ensures err { IfErr result (λ e. ErrorIs e (if_moves (done patch.now text.now))) }
@@ -67,8 +67,8 @@ pub fn redo_record(alloc: Global, patch: &Record, text: &[u8]) -> Result<Vec<u8>
     }
 }
 
-/// The text from which an edit led to this one: refused as `DoesNotStand`
-/// exactly where its record doesn't apply back from it.
+/// The text from which an edit led to this one. Refused as `DoesNotStand` exactly where its record
+/// can't be undone on it.
 pub fn undo_record(alloc: Global, patch: &Record, text: &[u8]) -> Result<Vec<u8>, JournalError>
     ensures ok { IfOk result (λ v. undone patch.now text.now ≡ Some v.items) }
     ensures err { IfErr result (λ e. ErrorIs e (if_moves (undone patch.now text.now))) }
@@ -83,8 +83,8 @@ pub fn undo_record(alloc: Global, patch: &Record, text: &[u8]) -> Result<Vec<u8>
     }
 }
 
-/// What a record did is undone, and what it undid is done again, on every
-/// text on which it is.
+/// Undoing a record inverts doing it, and doing it inverts undoing it, on every text on which the first
+/// is possible.
 pub fn record_inverts()
     ensures { (r : Record) (b c : List ℕ) → (done r b ≡ Some c) ↔ (undone r c ≡ Some b) }
 {}

@@ -99,8 +99,8 @@ impl Journal {
         Ok(())
     }
 
-    /// The journal's text in version 2: compact JSON, keys in byte order, and
-    /// a line feed.
+    /// The journal as JSON of version 2: without spaces, with the keys of each object in byte order,
+    /// and a line feed at the end.
     pub fn to_json(&self, alloc: Global) -> Result<Vec<u8>, AllocError>
         ensures text { IfOk result (λ v. v.items ≡ spec.journal_text self.now) }
         ensures reads_back { IfOk result (λ v. spec.journal_in v.items ≡ Some self.now) }

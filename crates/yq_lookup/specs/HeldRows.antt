@@ -1,4 +1,4 @@
--- Reading (own; a reader may skip it): the key or dash of an item or entry, with what it holds up to a row.
+-- Reading (own; you may skip it): the key or dash of an item or entry, with what it holds up to a row.
 use Rattle.std.specs.Prelude.{◌≡◌, ℕ, suc, ◌+◌, List, ◌++◌, length, Some}
 use Rattle.yq_core.specs.Paths.{Step}
 use Rattle.yq_row_table.specs.Rows.{Row, Cut}

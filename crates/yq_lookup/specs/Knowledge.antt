@@ -1,4 +1,4 @@
--- Reading (own; a reader may skip it): what is known of a text, from which walks and searches go on.
+-- Reading (own; you may skip it): what is known of a text, from which walks and searches go on.
 use Rattle.std.{specs.Prelude.{◌<◌, ℕ, true, false, IfSome, List, Option, Some, Vec}, specs.declared.alloc.Global.Global}
 use Rattle.yq_row_table.{specs.Rows.Cut, specs.Touched.TouchesOnly, specs.View.{RowsView, Slices, rows_view}}
 use Rattle.yq_outline.{specs.RowWalk.AreKnown, specs.declared.line_position.KnownItem.KnownItem}

@@ -1,4 +1,4 @@
--- Reading (own; a reader may skip it): documents whose parts are known, from which a search for later ones goes on.
+-- Reading (own; you may skip it): documents whose parts are known, from which a search for later ones goes on.
 use Rattle.std.specs.Prelude.{◌≡◌, ℕ, ◌+◌, ◌||◌, Bool, true, not, IfSome, List, drop, Option, Some}
 use Rattle.yq_row_table.{specs.Rows.Cut, specs.Touched.TouchesOnly, specs.View.{Bound, rows_view}}
 use Rattle.yq_documents.{specs.PartReading.{first_rows, number_in, some_begin}, specs.Reading.cut_of}

@@ -1,4 +1,4 @@
--- Reading (own; a reader may skip it): the lines of items and entries at paths.
+-- Reading (own; you may skip it): the lines of items and entries at paths.
 use Rattle.std.specs.Prelude.{◌≡◌, Some, option_map}
 use Rattle.yq_row_table.specs.Rows.{Cut}
 use Rattle.yq_documents.{specs.LinesInRows.{document_row, row_line_at}, specs.declared.path.Path.Path}

@@ -1,4 +1,4 @@
-//! What the nodes at paths are, each read from the rows that tell it; the flow collections there; and the heads of rows.
+//! What the nodes at paths are, each read from its rows; the flow collections there; and the heads of rows.
 ghost use Rattle.std.specs.Prelude.{◌≡◌, ◌<◌, length, map, option_and_then, option_map, slice_get, true, IfOk, IfSome, Some};
 ghost use Rattle.yq_core.specs.Entries.{tree_step};
 ghost use Rattle.yq_row_table.{specs.Rows.Row as RowOf, specs.View.rows_of};

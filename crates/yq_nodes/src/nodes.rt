@@ -1,4 +1,4 @@
-//! Nodes, their items and entries, and the comments beside them.
+//! Nodes, their items and entries, and the comments next to them.
 
 pub mod body;
 pub mod children;

@@ -1,4 +1,4 @@
--- Reading (own; a reader may skip it: the grammar is believed, and the clauses `found` and `only` tie the two): where lines end and steps lead, by indexes.
+-- Reading (own; you may skip it: the clauses `found` and `only` show that it agrees with the grammar): where lines end and steps lead, by indexes.
 use Rattle.std.specs.Prelude.{◌≡◌, ℕ, zero, suc, ◌+◌, ◌<◌, ◌≤◌, nat_lt, List, [], ◌∷◌, drop, length, slice_get, Option, Some, None}
 use Rattle.std.specs.Prelude.{option_map, option_and_then, Bool, true, false, if◌then◌else◌}
 use Rattle.yq_core.specs.Paths.{Step}

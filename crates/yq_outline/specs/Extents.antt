@@ -1,4 +1,4 @@
--- Reading (own; a reader may skip it): where what a row spells is in its text, by the pieces of rows.
+-- Reading (own; you may skip it): where what a row spells is in its text, by the pieces of rows.
 use Rattle.std.{specs.List.{sum_by, count_by}, specs.Prelude.{ℕ, suc, ◌+◌, ◌-◌, ◌≤◌, ◌≡◌, ◌==◌, List, [], ◌∷◌, ◌++◌, length, if◌then◌else◌}}
 use Rattle.yq_row_table.{specs.Exchange.before_content, specs.Offsets.row_length, specs.Rows.{Row, Cut, cut_text}}
 use Rattle.yq_row_table.specs.View.{Slices, slices, RowsView, rows_view}

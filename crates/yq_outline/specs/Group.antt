@@ -1,4 +1,4 @@
--- Reading (own; a reader may skip it: the grammar is believed, and the clauses `found` and `only` tie the two): lines grouped from the last to the first.
+-- Reading (own; you may skip it: the clauses `found` and `only` show that it agrees with the grammar): lines grouped from the last to the first.
 use Rattle.std.specs.Prelude.{ℕ, nat_lt, nat_eq, ◌+◌, List, [], ◌∷◌, Option, Some, None, Bool, true, false, ◌&&◌, if◌then◌else◌}
 use Rattle.yq_core.specs.Tree.{Node}
 use Rattle.yq_outline.specs.Outline.{LineMark, Bare, Key, Dash, Line, level, Outline, end, row, value}

@@ -1,4 +1,4 @@
--- Reading (own; a reader may skip it: the grammar is believed, and the clauses `found` and `only` tie the two): what is asked of all lines of a document.
+-- Reading (own; you may skip it: the clauses `found` and `only` show that it agrees with the grammar): what is asked of all lines of a document.
 use Rattle.std.{specs.Prelude.{ℕ, List, [], ◌∷◌, Bool, true, false, ◌&&◌, Option, Some, None}, specs.List.list_any, specs.Str.bytes_eq}
 use Rattle.yq_core.{specs.Tree.{Node, alias, scalar, list}, specs.Inline.depth_limit, specs.Anchors.{Name, Anchors, Refers, names_of}}
 use Rattle.yq_outline.{specs.Group.group, specs.Names.line_names, specs.Outline.{LineMark, Bare, Key, Dash, Line, value}}

@@ -1,4 +1,4 @@
--- Reading (own; a reader may skip it: the grammar is what is believed, and the clauses `found` and `only` tie the two): the anchors and aliases of lines.
+-- Reading (own; you may skip it: the clauses `found` and `only` show that it agrees with the grammar): the anchors and aliases of lines.
 use Rattle.std.specs.Prelude.{ℕ, Bool, true, false, List, [], ◌∷◌, ◌++◌, Option, Some, None, ⊤}
 use Rattle.yq_core.{specs.Tree.{Node, alias, scalar, list}, specs.Anchors.{Name, Anchors, Refers, anchor_names, names_of, IsNoAlias}}
 use Rattle.yq_outline.specs.Outline.{Line}

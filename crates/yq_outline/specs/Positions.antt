@@ -1,4 +1,4 @@
--- Reading (own; a reader may skip it: the grammar is believed, and the clauses `found` and `only` tie the two): where a step leads among lines, by indexes.
+-- Reading (own; you may skip it: the clauses `found` and `only` show that it agrees with the grammar): where a step leads among lines, by indexes.
 use Rattle.std.specs.Prelude.{ℕ, ◌+◌, List, [], ◌∷◌, length, slice_get, Option, Some, None, option_map, option_and_then, Bool, true, false}
 use Rattle.yq_core.{specs.Paths.Step, specs.Tree.Node}
 use Rattle.yq_outline.{specs.Ends.part, specs.Outline.{LineMark, Bare, Key, Dash, Line, level, Outline, end, row}}

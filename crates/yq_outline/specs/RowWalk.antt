@@ -1,4 +1,4 @@
--- Reading (own; a reader may skip it): where steps lead in a document, row by row, by the pieces of rows, as the code goes.
+-- Reading (own; you may skip it): where steps lead in a document, row by row, by the pieces of rows, as the code goes.
 use Rattle.std.specs.Prelude.{◌≡◌, ℕ, suc, true, ◌+◌, ◌-◌, ◌*◌, ◌==◌, ◌<◌, ◌≤◌, nat_lt, List, [], ◌∷◌, length, map, take, drop, All}
 use Rattle.std.specs.Prelude.{slice_get, Option, Some, option_and_then, option_map, if◌then◌else◌}
 use denote.Bor.{Bor}

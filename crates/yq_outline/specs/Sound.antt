@@ -1,4 +1,4 @@
--- Reading (own; a reader may skip it: the grammar is what is believed, and the clauses `found` and `only` tie the two): what is asked of a document's lines.
+-- Reading (own; you may skip it: the clauses `found` and `only` show that it agrees with the grammar): what is asked of a document's lines.
 use Rattle.std.specs.Prelude.{ℕ, nat_le, nat_eq, Option, Some, None, Bool, true, false, ◌&&◌}
 use Rattle.yq_core.{specs.Tree.{Node, Children}, specs.Keys.{depth, deepest, has_unique_keys, each_has_unique_keys}}
 use Rattle.yq_outline.{specs.Outline.{LineMark, Bare, Key, Dash, Line, level, Outline, value}, specs.Group.{is_fine, is_open}}

@@ -1,5 +1,5 @@
-//! Block nodes of YAML by the indentation of their lines: what lines mean, and what is asked of them.
-//! The lines that rows have, their positions, and what is so of walks among them.
+//! Block nodes of YAML by the indentation of their lines: what lines mean, and which conditions they must
+//! meet. The lines of rows, their positions, and the types for walks among them.
 #![tactic(auto)]
 
 mod laws;

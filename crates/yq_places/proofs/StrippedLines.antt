@@ -70,7 +70,7 @@ module _ (f : Option Node → Option Node) where
       ≡ option_map heads_found (cond b (Some (record { place = here; line = l; under = u; after = a })) (option_map (next_to l u) o))
   row_found b l u a o = search rules
 
-  heads_find_row : (s : Step) (o : Outline) → find_row s (heads_outline o) ≡ option_map heads_found (find_row s o)
+  pub heads_find_row : (s : Step) (o : Outline) → find_row s (heads_outline o) ≡ option_map heads_found (find_row s o)
   heads_find_row s end = refl
   heads_find_row s (row l u a) =
       (λ i. cond (heads_here s l i) (Some (heads_found (record { place = here; line = l; under = u; after = a }))) (option_map (next_to (with_heads l) (heads_outline u)) (heads_find_row (further s) a i)))

@@ -1,4 +1,4 @@
--- Reading (own; a reader may skip it): where comments are, by the pieces of rows.
+-- Reading (own; you may skip it): where comments are, by the pieces of rows.
 use Rattle.std.specs.Prelude.{ℕ, ◌+◌, ◌-◌, ◌==◌, List, length, Option, Some, None, if◌then◌else◌, [], ◌++◌, nat_lt, take}
 use Rattle.yq_core.specs.Text.{cut, front, ends_line, is_empty, joined, text_lines, no_white, past_white}
 use Rattle.yq_row_table.{specs.View.{Slices, slices}, specs.Exchange.{before_content, after_row}}

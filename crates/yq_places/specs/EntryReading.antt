@@ -1,4 +1,4 @@
--- Reading (own; a reader may skip it): where lines, entries and contents begin and end, by the rows of a text and their pieces, as the code counts.
+-- Reading (own; you may skip it): where lines, entries and contents begin and end, by the rows of a text and their pieces, as the code counts.
 use Rattle.yq_outline.{specs.Extents.{dash_at, head_place}, specs.Lines.{tail_of, lines_of_rows}}
 use Rattle.yq_outline.{specs.Ends.{line_at_steps, reached, lines_end}, specs.Positions.has_no_mark}
 use Rattle.std.specs.Prelude.{ℕ, suc, ◌+◌, ◌-◌, ◌==◌, List, [], ◌∷◌, ◌++◌, length, replicate, slice_get, take, Option, Some, None, is_some}

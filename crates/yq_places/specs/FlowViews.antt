@@ -1,4 +1,4 @@
--- Reading (own; a reader may skip it: the grammar is what is believed, and the clauses `found` and `only` tie the two): flow collections at paths, as the code finds them.
+-- Reading (own; you may skip it): flow collections at paths, as the code finds them. The clauses `found` and `only` show that it agrees with the grammar.
 use Rattle.std.specs.Prelude.{◌≡◌, ℕ, List, ◌++◌, length, slice_get, map, Option, Some, None}
 use Rattle.yq_core.{specs.Answers.◌>>=◌, specs.Paths.Step, specs.Collections.{CollAt, CollPieces, IsCollAt}}
 use Rattle.yq_core.{specs.Entries.{placed_entry_at, tree_step}, specs.Nodes.{coll, node_text}, specs.View.inline_view}
@@ -32,7 +32,7 @@ collection_of (placed a s c e f) = if_collection (following_anchor (placed a s c
 abbrev pub collection_along : List Step → Placed → Option Placed
 collection_along steps p = placed_entry_at steps (None, p) >>= λ e. collection_of e.1
 
--- the collection to which the steps lead that the code tells with a node
+-- the collection to which the steps lead that the code reports with a node
 abbrev pub collection_view : FlowHead → Option Placed
 collection_view x = collection_along (map tree_step x.left.now) (inline_view x.node.value)
 
@@ -51,7 +51,7 @@ pub record IsHeadOfSteps (t : List ℕ) (w : CollPieces) (x : FlowHead) : Type 0
   pub coll_is : at.coll ≡ record w { rest = rest }
   pub found : collection_view x ≡ Some (placed_collection (length x.text.now) (record w { rest = rest }))
 
--- What the code tells is the flow collection at a path of a text; nothing, where there is none (7.4; own).
+-- What the code reports is the flow collection at a path of a text; nothing, where there is none (7.4; own).
 abbrev pub FlowAgrees : List ℕ → Option CollPieces → Option FlowHead → Type 0
 FlowAgrees t None None = Unit {0}
 FlowAgrees t (Some w) None = ⊥
@@ -71,6 +71,6 @@ pub record ReportsHead (t : List ℕ) (c : Cut) (n : ℕ) (stem : List Step) (x 
   pub leads : LeadsToHead c n stem
   pub reports : (y : FlowHead) → y.node ≡ x.node → y.text ≡ x.text → y.before ≡ x.before → FlowAgrees t (flow_collection n (stem ++ map tree_step y.left.now) c) (Some y)
 
--- the same of the head that was found for a path: the steps that the code tells go on in it (own)
+-- the same of the head that was found for a path: the steps that the code reports go on in it (own)
 abbrev pub IsHeadFor : List ℕ → Cut → ℕ → List Step → FlowHead → Type 0
 IsHeadFor t c n steps x = (stem : List Step) × (steps ≡ stem ++ map tree_step x.left.now) × ReportsHead t c n stem x

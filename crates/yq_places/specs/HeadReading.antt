@@ -1,4 +1,4 @@
--- Reading (own; a reader may skip it): the heads of rows, as the code reads them again.
+-- Reading (own; you may skip it): the heads of rows, as the code reads them again.
 use Rattle.std.specs.Prelude.{◌≡◌, ℕ, List, [], length}
 use Rattle.yq_outline.{specs.View.{head_flow, head_view}, specs.Lines.head_of, specs.Extents.head_place, specs.declared.line.Head.Head}
 use Rattle.yq_row_table.{specs.Rows.{Row, Cut}, specs.View.slices}

@@ -1,4 +1,4 @@
--- Reading (own; a reader may skip it): lines and gaps in a text, as the code cuts them.
+-- Reading (own; you may skip it): lines and gaps in a text, as the code cuts them.
 use Rattle.std.{specs.Prelude.{◌≡◌, ◌⊎◌, ℕ, ◌+◌, ◌-◌, List, [], ◌∷◌, ◌++◌, length, drop, take}, specs.Str.{IsCharBoundary, IsUtf8}}
 use Rattle.yq_text.{specs.Halves.whole, specs.declared.halves.Halves.Halves}
 use Rattle.yq_documents.specs.Pieces.{TextPiece}

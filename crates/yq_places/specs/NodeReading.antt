@@ -1,4 +1,4 @@
--- Reading (own; a reader may skip it): where the node at a path is written among lines, as the code finds it.
+-- Reading (own; you may skip it): where the node at a path is written among lines, as the code finds it.
 use Rattle.std.specs.Prelude.{ℕ, ◌+◌, List, [], ◌∷◌, slice_get, map, Option, Some, None, is_some, option_map, if◌then◌else◌}
 use Rattle.yq_core.{specs.Entries.tree_step, specs.Answers.◌>>=◌, specs.Paths.{Step, node_at}}
 use Rattle.yq_outline.{specs.Ends.{part, reached}, specs.Outline.{Line, level, value}, specs.Positions.begins_with_node}

@@ -33,7 +33,7 @@ scalar_in (tree.map anchor cs) = None
 abbrev pub node_in : ℕ → List Step → Cut → Option tree.Node
 node_in n steps c = slice_get (documents c) n >>= λ d. node_at steps d.root
 
--- what the code tells of a node
+-- what the code reports of a node
 abbrev pub node_view : declared.NodeAt → NodeAt
 node_view declared.TheVariants.Alias = alias
 node_view (declared.TheVariants.Scalar kind text) = scalar (record { kind = kind; text = content_view text })

@@ -24,7 +24,7 @@ pub record BlockEntry : Type 0 where
 abbrev pub entry_piece : BlockEntry → TextPiece
 entry_piece e = run_piece e.before e.line e.under e.after
 
--- the piece of an entry's or item's node: what is written after its mark, or else that that the lines under it mean
+-- the piece of an entry's or item's node: what is written after its mark, or else what the lines under it mean
 abbrev pub content_piece : BlockEntry → Option TextPiece
 content_piece e =
     if is_some e.line.line.head then head_piece (e.before ++ (line_front e.line ++ e.line.mark)) e.line.content (print_lines e.under e.after)

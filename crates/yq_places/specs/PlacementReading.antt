@@ -1,4 +1,4 @@
--- Reading (own; a reader may skip it): the rows of items and entries, as the code counts them.
+-- Reading (own; you may skip it): the rows of items and entries, as the code counts them.
 use Rattle.std.specs.Str.{IsCharBoundary}
 use Rattle.std.specs.Prelude.{◌≡◌, ℕ, suc, ◌+◌, ◌≤◌, List, [], ◌∷◌, ◌++◌, length, drop, slice_get, Option, Some, option_map}
 use Rattle.yq_core.{specs.Answers.◌>>=◌, specs.Paths.Step}
@@ -22,7 +22,7 @@ numbers_of_entry k rs s = (k + s.before, s.line, length s.row.dashes, k + s.befo
 abbrev pub numbers_at : ℕ → List Step → Cut → Option PlacementCounts
 numbers_at n steps c = slice_get (document_parts c) n >>= λ p. option_map (numbers_of_entry (document_row n c) p.rows) (row_line_of steps p.rows)
 
--- the numbers that the code tells
+-- the numbers that the code reports
 abbrev pub as_numbers : declared.RowsOfEntry → PlacementCounts
 as_numbers m = (m.row, m.line, m.dashes, m.end)
 

@@ -1,4 +1,4 @@
--- What the code tells of what is at a place (own).
+-- What the code reports of what is at a place (own).
 use Rattle.std.specs.Prelude.{◌≡◌, ℕ, ◌+◌, ◌==◌, ◌&&◌, not, true, false, List, length, Option, Some, None, if◌then◌else◌}
 use Rattle.yq_text.{specs.Halves.whole, specs.declared.halves.Halves.Halves}
 use Rattle.yq_places.specs.FirstPlaces.{piece_between}
@@ -64,7 +64,7 @@ held_if_last e = if e.line == length e.row.dashes then Some (held e) else None
 abbrev pub held_at : ℕ → List Step → Cut → Option Held
 held_at n steps c = rows_of_entry n steps c >>= held_if_last
 
--- The row that the code tells is that of a line in a cut, which is its last one: where its head begins, that, and the end of its first line (own).
+-- The row that the code reports is that of a line in a cut, which is its last one: where its head begins, that, and the end of its first line (own).
 pub record IsLastOf (c : Cut) (q : Position) (r : Row) (x : declared_row.HeldRow) : Type 0 where
   pub row : x.row ≡ q.row
   pub last : q.line ≡ lines_before_mark (slices r)
@@ -73,8 +73,8 @@ pub record IsLastOf (c : Cut) (q : Position) (r : Row) (x : declared_row.HeldRow
   pub tail : x.tail.now ≡ (slices r).tail
   pub inline : x.inline ≡ (not (is_empty (slices r).head) && not (is_block_head (slices r).head))
 
--- A row that the code tells is that of the item or entry to which steps lead in document n, whose line is its last one; with where what its key or dash
--- holds begins, that and the end of its line, and that it is an inline node, if the code tells that (own).
+-- A row that the code reports is that of the item or entry to which steps lead in document n, whose line is its last one; with where what its key or dash
+-- holds begins, that and the end of its line, and that it is an inline node, if the code reports that (own).
 pub record IsHeldRow (n : ℕ) (steps : List Step) (c : Cut) (x : declared_row.HeldRow) : Type 0 where
   pub entry : RowsOfEntry
   pub found : rows_of_entry n steps c ≡ Some entry

@@ -80,7 +80,7 @@ abbrev pub has_several : Option Node → Bool
 has_several None = false
 has_several (Some n) = nat_lt 1 (count (children_of n))
 
--- whether the collection in which steps end has others beside the item or entry to which they lead
+-- whether the collection in which steps end has others next to the item or entry to which they lead
 abbrev pub has_others : List Step → Node → Bool
 has_others steps root = has_several (node_at (take (length steps - 1) steps) root)
 

@@ -1,4 +1,4 @@
--- Reading (own; a reader may skip it): what is taken out with an item or entry, by the pieces of rows, as the code counts.
+-- Reading (own; you may skip it): what is taken out with an item or entry, by the pieces of rows, as the code counts.
 use Rattle.std.specs.Prelude.{◌≡◌, ℕ, ◌+◌, false, List, [], ◌∷◌, ◌++◌, length, slice_get, Option, Some, None, option_map, drop, ◌≤◌, ◌-◌}
 use Rattle.yq_text.specs.Halves.{whole}
 use Rattle.yq_core.{specs.Answers.◌>>=◌, specs.Paths.Step}
@@ -58,7 +58,7 @@ pub record HasPartFrom (s : RowsView) (first at : ℕ) : Type 0 where
   pub rows : drop first (rows_of cut) ≡ part.rows ++ more
   pub within : at - first ≤ length part.rows
 
--- a seam as the code tells it
+-- a seam as the code reports it
 abbrev pub seam_view : seams.Seam → Seam
 seam_view s = record { keeps = s.keeps; indent = s.indent; column = s.column }
 

@@ -1,4 +1,4 @@
--- Reading (own; a reader may skip it): documents without rows, by the bounds of parts, as the code counts.
+-- Reading (own; you may skip it): documents without rows, by the bounds of parts, as the code counts.
 use Rattle.std.specs.Prelude.{ℕ, [], ◌++◌, length, Option, Some, None, option_map, if◌then◌else◌}
 use Rattle.yq_core.specs.Answers.{◌>>=◌}
 use Rattle.yq_row_table.{specs.Grammar.no_rows, specs.Rows.Cut}

@@ -1,4 +1,4 @@
--- Reading (own; a reader may skip it): the line of a path, by the pieces of rows.
+-- Reading (own; you may skip it): the line of a path, by the pieces of rows.
 use Rattle.std.specs.Prelude.{ℕ, ◌+◌}
 use Rattle.yq_documents.specs.LinesInRows.{RowLine}
 use Rattle.yq_outline.specs.declared.line_position.Position.{Position}

@@ -1,4 +1,4 @@
--- Reading (own; a reader may skip it): the rows of documents among those of a cut, and items that stay known in other cuts.
+-- Reading (own; you may skip it): the rows of documents among those of a cut, and items that stay known in other cuts.
 use Rattle.std.specs.Prelude.{◌≡◌, ℕ, true, ◌+◌, List, ◌++◌, length, drop, slice_get, Option, option_map, All}
 use Rattle.yq_row_table.{specs.Grammar.IsCut, specs.Rows.{Row, Cut}, specs.Touched.TouchesOnly, specs.View.{rows_of, RowsView, rows_view}}
 use Rattle.yq_documents.{specs.Documents.document_parts, specs.Reading.{all_documents, cut_of}, specs.LinesInRows.document_row}

@@ -1,4 +1,4 @@
--- Reading (own; a reader may skip it): the steps of a document, by how deep its lines are, row by row.
+-- Reading (own; you may skip it): the steps of a document, by how deep its lines are, row by row.
 use Rattle.std.specs.Prelude.{◌≡◌, ⊤, ℕ, ◌%◌, ◌==◌, ◌&&◌, ◌<◌, nat_lt, Bool, false, true, if◌then◌else◌, List, [], ◌∷◌, take, drop}
 use Rattle.std.specs.Prelude.{slice_get, IfSome, Option, Some}
 use Rattle.yq_row_table.{specs.Rows.Cut, specs.Touched.TouchesOnly, specs.View.{RowsView, Slices, rows_view}}

@@ -5,7 +5,8 @@ use Rattle.yq_core.specs.Tree.{Label, Node, list, Children, none, child, key_lab
 use Rattle.yq_semantics.{specs.Changes.has_long_key, specs.Sizes.items_in}
 use Rattle.yq_planner.specs.declared.updating.list_size.ListSize.{ListSize}
 
--- A node is a list with items, none with too long a key, that is nested as deep as known, or as deep as none may be, and has as many items and entries at least (own).
+-- A node is a list with items that has at least so many items and entries, and no key that is too long. It is nested as deep as the size says; where
+-- that is the first depth that is too deep, it may be deeper (own).
 pub record HasSize (v : Node) (size : ListSize) : Type 0 where
   pub label : Label
   pub first : Node

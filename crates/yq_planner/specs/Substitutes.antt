@@ -11,7 +11,8 @@ pub data AreOneKind : Node → Node → Type 0 where
   lists : {a b : Option (List ℕ)} {l m : Label} {n o : Node} {cs ds : Children} → AreOneKind (list a (child l n cs)) (list b (child m o ds))
   maps : {a b : Option (List ℕ)} {l m : Label} {n o : Node} {cs ds : Children} → AreOneKind (map a (child l n cs)) (map b (child m o ds))
 
--- A value is refused where another one is: they are of one kind, no key of either is too long, and it is nested as deep as that one, or as deep as none may be (own).
+-- A small value is refused where a large one is: they are of one kind, and no key of either is too long. It is nested as deep as the large one, or,
+-- where that is too deep, just too deep (own).
 pub record IsSubstitute (v w : Node) : Type 0 where
   pub kind : AreOneKind v w
   pub fit : has_long_key v ≡ false

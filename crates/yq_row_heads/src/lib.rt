@@ -1,4 +1,4 @@
-//! The heads of rows, read.
+//! Reads the heads of rows: what comes after a row's last mark.
 #![tactic(auto)]
 
 mod content;

@@ -1,4 +1,4 @@
--- Reading (own; a reader may skip it): what a gap after a block scalar asks of it, by the pieces of its row.
+-- Reading (own; you may skip it): what a gap after a block scalar asks of it, by the pieces of its row.
 use Rattle.std.{specs.Prelude.{ℤ, ℕ, ◌==◌, ◌||◌, Bool, List, [], ◌∷◌, Option, None, if◌then◌else◌}, specs.Option.option_map}
 use Rattle.yq_core.{specs.Block.keeps, specs.BlockReading.{indent_at, indicators_at}, specs.Piece.deeper, specs.Text.text_lines}
 

@@ -1,4 +1,4 @@
--- Reading (own; a reader may skip it): the ends of the parts of a text, as the code keeps them: where they are in it, and how long their pieces are.
+-- Reading (own; you may skip it): the ends of the parts of a text, as the code keeps them: where they are in it, and how long their pieces are.
 use Rattle.std.{specs.Prelude.{ℕ, ◌-◌, nat_lt, List, [], ◌∷◌, length, map, take, drop, if◌then◌else◌}, specs.List.All}
 use Rattle.yq_text.specs.declared.halves.Halves.{Halves}
 use Rattle.yq_row_table.{specs.Offsets.AreCuts, specs.View.Bound}

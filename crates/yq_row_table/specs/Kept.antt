@@ -1,4 +1,4 @@
--- Rows kept by where they are (own; a reader of the contracts may skip it): in front of a split by the distance from the text's beginning, after it by
+-- Rows kept by where they are (own; you may skip it): in front of a split by the distance from the text's beginning, after it by
 -- that to the text's end.
 use Rattle.std.{specs.Prelude.{◌≡◌, ℕ, ◌+◌, ◌-◌, ◌<◌, ◌^◌, List, [], ◌∷◌, ◌++◌, drop, length, map, reverse, Option, Some}, specs.Str.IsUtf8}
 use Rattle.yq_core.specs.Answers.{◌>>=◌}

@@ -1,4 +1,4 @@
--- Reading (own; a reader may skip it): the rows of a text, as the code keeps them: where they begin in it, and how long their pieces are.
+-- Reading (own; you may skip it): the rows of a text, as the code keeps them: where they begin in it, and how long their pieces are.
 use Rattle.std.{specs.Prelude.{◌≡◌, ℕ, zero, suc, ◌+◌, ◌-◌, ℤ, pos, List, [], ◌∷◌, length, map, take, drop}, specs.List.All}
 use Rattle.std.specs.Str.{IsUtf8, IsCharBoundary}
 use Rattle.yq_row_table.{specs.Rows.before_column, specs.View.Slices}

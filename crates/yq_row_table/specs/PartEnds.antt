@@ -1,4 +1,4 @@
--- The ends of the parts of a text on both sides of a split, as they are kept (own; a reader of the contracts may skip it).
+-- The ends of the parts of a text on both sides of a split, as they are kept (own; you may skip it).
 use Rattle.std.specs.Prelude.{ℕ, ◌+◌, ◌-◌, ◌%◌, ◌^◌, List, ◌++◌, drop, map, reverse, take}
 use Rattle.yq_row_table.{specs.declared.ends.EndPlace.EndPlace, specs.declared.ends.Measure.Measure, specs.declared.ends.Shift.Shift}
 use Rattle.yq_row_table.specs.declared.ends.Measure.TheVariants as measures

@@ -1,4 +1,4 @@
--- Reading (own; a reader may skip it: the grammar is what is believed, and the clauses `found` and `only` tie the two).
+-- Reading (own; you may skip it: the clauses `found` and `only` show that it agrees with the grammar).
 use Rattle.std.specs.Prelude.{ℕ, zero, suc, ◌+◌, ℤ, Bool, true, false, ◌||◌, ◌&&◌, not, ◌==◌, nat_le, List, [], ◌∷◌, ◌++◌, length, take}
 use Rattle.std.{specs.Prelude.{drop, if◌then◌else◌, Option, Some, None}, specs.List.prefix_len, specs.Str.chars}
 use Rattle.yq_core.{specs.Answers.◌>>=◌, specs.BlockReading.block_at, specs.Characters.is_text, specs.Piece.deeper}

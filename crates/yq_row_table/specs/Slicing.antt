@@ -1,4 +1,4 @@
--- What reading gives, as the code lends it (own; a reader may skip it).
+-- What reading gives, as the code lends it (own; you may skip it).
 use Rattle.std.specs.Prelude.{ℕ, suc, ◌+◌, Bool, true, false, ◌||◌, ◌==◌, List, [], ◌++◌, length, map, take, drop, Option, Some, None}
 use Rattle.std.specs.Prelude.{if◌then◌else◌, ℤ}
 use Rattle.yq_core.{specs.Answers.◌>>=◌, specs.Piece.deeper, specs.Text.{upto, cut, front, unless, no_white}}

@@ -1,4 +1,4 @@
--- Reading (own; a reader may skip it): rows whose text lends what they spell, as the cut says it.
+-- Reading (own; you may skip it): rows whose text lends what they spell, as the cut says it.
 use Rattle.std.specs.Prelude.{◌≡◌, ℕ, suc, ◌≤◌, ◌<◌, Bool, true, ◌||◌, ◌&&◌, not, List, [], ◌∷◌, length, Option, Some, IfSome, Vec}
 use Rattle.std.{specs.Prelude.slice_get, specs.declared.alloc.Global.Global}
 use Rattle.yq_core.{specs.Borrowed.{IsWholeCollection, borrows_text}, specs.Inline.depth_limit, specs.Plain.holds_break}

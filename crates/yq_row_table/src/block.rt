@@ -23,8 +23,8 @@ fn columns_at(least: usize, digit: Option<u8>, raw: &str) -> Option<usize>
 
 /// Whether the block scalar of a header and raw lines, below a parent of this indentation, keeps the
 /// empty lines at its end, and how far its text is indented, in columns. Of the lines only those up to
-/// the first one that isn't blank are read, and none where a digit tells it. None where the header is
-/// none.
+/// the first one that isn't blank are read, and none of them where the header has a digit. `None` where the
+/// header isn't one.
 pub(crate) fn block_numbers_of(head: &str, raw: &str, parent: i64) -> Option<(bool, usize)>
     ensures { option_map (λ b. (b.0, b.1)) result ≡ spec.block_numbers_of parent head.now raw.now }
 {

@@ -198,7 +198,7 @@ impl PartEnds {
     /// where ends were replaced before.
     ///
     /// # Errors
-    /// Want of memory. The ends are then the same.
+    /// Lack of memory. The ends are then the same.
     pub fn exchange(
         &mut self,
         from: usize,

@@ -1,4 +1,4 @@
--- Reading (own; a reader may skip it): what is walked, the rows of a document with what is known of them.
+-- Reading (own; you may skip it): what is walked, the rows of a document with what is known of them.
 use Rattle.std.specs.Prelude.{◌≡◌, ◌<◌, ◌≤◌, [], ◌∷◌, ℕ, List, map, Option, option_map, slice_get, Some, IfSome, ◌++◌}
 use Rattle.yq_core.{specs.Entries.tree_step, specs.Paths.Step}
 use Rattle.yq_outline.{specs.Ends.reached, specs.Extents.{IsRowsView, lines_before_mark}, specs.Lines.lines_of_rows, specs.Outline.Line}

@@ -1,4 +1,4 @@
--- Rows that go from the end of a text, after one that stays as it was read (own; a reader of the contracts may skip it).
+-- Rows that go from the end of a text, after one that stays as it was read (own; you may skip it).
 use Rattle.std.specs.Prelude.{◌≡◌, ℕ, ◌+◌, ◌<◌, false, length, reverse, None, Some, slice_get}
 use Rattle.yq_row_table.{specs.Kept.moved_end, specs.declared.ends.EndPlace.EndPlace, specs.declared.places.Places.Places}
 use Rattle.yq_rows.{specs.Sides.first_byte, specs.declared.kept.Kept.Kept, specs.declared.touched.Touched.Touched}

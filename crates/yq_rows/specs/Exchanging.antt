@@ -1,4 +1,4 @@
--- What a change touches and what is written in its place, and rows and ends of parts that are replaced by others (own; a reader of the contracts may skip it).
+-- What a change touches and what is written in its place, and rows and ends of parts that are replaced by others (own; you may skip it).
 use Rattle.std.specs.Prelude.{◌≡◌, ℕ, ◌+◌, ◌-◌, ◌<◌, ◌≤◌, ◌^◌, List, ◌++◌, drop, length, map, reverse, take}
 use Rattle.yq_row_table.{specs.Grammar.IsCut, specs.Items.{Item, items_of_cut}, specs.Kept.{near, far, moved_end, ArePlaced}}
 use Rattle.yq_row_table.{specs.Rows.Cut, specs.Touched.TouchesOnly, specs.declared.ends.EndPlace.EndPlace}

@@ -1,4 +1,4 @@
--- What the readers of rows give, as pieces of rows (own; a reader may skip it).
+-- What the readers of rows give, as pieces of rows (own; you may skip it).
 use Rattle.std.specs.Prelude.{◌≡◌, ℕ, Bool, true, false, List, ◌++◌, Some}
 use Rattle.yq_inline.specs.declared.measuring.MeasuredKind.{MeasuredKind}
 use Rattle.yq_rows.{specs.declared.content.Filling.Filling, specs.declared.marks.RowMark.RowMark as Sign, specs.declared.marks.Begin.Begin}

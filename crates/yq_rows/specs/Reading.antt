@@ -1,4 +1,4 @@
--- What is read where rows and ends of parts are exchanged (own; a reader of the contracts may skip it).
+-- What is read where rows and ends of parts are exchanged (own; you may skip it).
 use Rattle.std.specs.Prelude.{◌≡◌, ℕ, ◌-◌, ◌<◌, ◌≤◌, ◌^◌, Bool, true, false, not, List, [], ◌++◌, length, map, take, drop, Option, Some}
 use Rattle.std.{specs.Prelude.{None, if◌then◌else◌}, specs.Str.{IsCharBoundary, IsUtf8}}
 use Rattle.yq_row_table.{specs.Items.{Item, items_text}, specs.Kept.{near, ends_near, placed_rows, TextsIn}, specs.Meter.begins_line}

@@ -1,4 +1,4 @@
--- What calls that read and keep rows answer (own; a reader of the contracts may skip it).
+-- What calls that read and keep rows answer (own; you may skip it).
 use Rattle.std.specs.Borrow.{Bor}
 use Rattle.std.specs.Prelude.{◌≡◌, ◌-◌, ◌==◌, ◌&&◌, ◌||◌, ◌++◌, ◌∷◌, ℕ, Bool, List, Option, Some, None, IfOk, OnOk, Result, Ok, Err, Vec}
 use Rattle.std.specs.Prelude.{[], is_ok, length, nat_lt, not, option_map, if◌then◌else◌, IfSome, ℤ, true, false}
@@ -30,15 +30,15 @@ ReadsMarked column b r = (gap : List ℕ) → Gives (λ f. row_of gap column (be
 abbrev pub may_be_at : asked.Limit → ℕ → List ℕ → Bool
 may_be_at limit column text = allows (limit_view limit) column && not (column == 0 && is_marker text)
 
--- a row, what it asks of the next one, what comes after it, whether it is a word row for sure, and how deep its head is known to be
+-- a row, its condition on the next row, what comes after it, whether it is surely a word row, and how deep its head is known to be
 abbrev pub RowRead : Type 0
 RowRead = Offsets × asked.Limit × Bor (List ℕ) × Bool × ℕ
 
--- the answer is the row that reading gives, what it asks of the next one, and what comes after it
+-- the answer is the row that reading gives, its condition on the next row, and what comes after it
 abbrev pub GivesRow : List ℕ → Result RowRead ReadError → Option SlicedRow → Type 0
 GivesRow whole r read = Gives (λ x. (slices_in whole x.0, limit_view x.1, x.2.now)) r read
 
--- a row that is found is that which reading gives, with what it asks of the next one, and what comes after it
+-- a row that is found is the one that reading gives, with its condition on the next row, and what comes after it
 abbrev pub FindsRow : List ℕ → Option RowRead → Option SlicedRow → Type 0
 FindsRow whole found read = IfSome found (λ x. read ≡ Some (slices_in whole x.0, limit_view x.1, x.2.now))
 

@@ -1,4 +1,4 @@
--- What is in front of items that a change touches, and in front of those after them, by places (own; a reader of the contracts may skip it).
+-- What is in front of items that a change touches, and in front of those after them, by places (own; you may skip it).
 use Rattle.std.specs.Prelude.{◌≡◌, ◌==◌, ◌&&◌, Bool, ℕ, suc, ◌+◌, ◌-◌, ◌<◌, ◌≤◌, ◌^◌, nat_le, nat_lt, List, [], ◌∷◌, ◌++◌, length, map}
 use Rattle.std.specs.Prelude.{reverse, Option, Some, None, slice_get, if◌then◌else◌}
 use Rattle.yq_core.specs.Answers.{◌>>=◌}

@@ -54,15 +54,16 @@ fn write(text: &mut TextGapBuffer, kept: Kept, new: &str)
     text.exchange(gone, new);
 }
 
-/// Writes what comes into a text in the place of the bytes that a change doesn't keep, and places of its
-/// rows come to be those of the new text. Of that no more is read than what comes in the place of the
-/// touched rows and ends of parts, without an end whose marker's line is the last that stays in front,
-/// and without the line of a marker that stays after them: the lines of that are counted. Other rows, ends
-/// of parts and bytes stay as they are, before and after: the time goes to those that are touched, and to
-/// those between this change and the one before.
+/// Replaces the bytes of a text that a change doesn't keep, and makes the places of its rows those of
+/// the new text.
+///
+/// Only the rows and ends of parts that replace the touched ones are read, without the line of a marker
+/// that stays; their lines are counted. All others stay as they are. The time is in proportion to what
+/// is touched, and to what is between this change and the one before.
 ///
 /// # Errors
-/// Want of memory alone. Text and places are then those of the old text.
+///
+/// Only lack of memory. The text and the places are then those of the old text.
 pub fn follow(
     alloc: Global,
     text: &mut TextGapBuffer,

@@ -10,8 +10,8 @@ use std::alloc::Global;
 use yq_core::ReadError;
 use yq_row_table::Rows;
 
-/// The rows and ends of parts that are read in a region of a text. Its lines are given one by one,
-/// and each is counted once.
+/// The rows and ends of parts in a region of a text. Its lines are given one by one, and each is
+/// counted once.
 pub fn read_region<'t>(
     alloc: Global,
     text: &'t str,

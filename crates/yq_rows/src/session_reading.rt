@@ -104,7 +104,7 @@ fn settle(ends: &mut PartEnds, unread: Option<EndPlace>, more: bool)
 /// that are read are counted: all but that of a marker which stays.
 ///
 /// # Errors
-/// Want of memory alone.
+/// Lack of memory alone.
 pub(crate) fn read(
     alloc: Global,
     region: &str,

@@ -88,7 +88,7 @@ pub(crate) fn begin_of(after: &[Offsets], len: usize) -> usize
 /// after it.
 ///
 /// # Errors
-/// Want of memory. The split is then somewhere between.
+/// Lack of memory. The split is then somewhere between.
 pub(crate) fn move_split(
     text: &TextGapBuffer,
     places: &mut Places,

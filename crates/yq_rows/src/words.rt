@@ -1,4 +1,4 @@
-//! What a letter, a digit or no ASCII in front tells.
+//! Rows, keys and heads that begin with a letter, a digit or no ASCII.
 ghost use Rattle.std.specs.Prelude.{◌≡◌, ◌≢◌, IfErr, IsTrue, false, true};
 ghost use Rattle.yq_core.{specs.Answers.ReadsAs, specs.Text.front, specs.declared.fault.FaultKind.TheVariants.NotUtf8};
 ghost use Rattle.yq_row_table.specs.WordRows.{borrows_quoted};

@@ -60,14 +60,14 @@ fn read_at(text: &[u8], start: usize, least: usize) -> Result<Piece, FaultKind>
     })
 }
 
-/// The block scalar that begins at an offset, in bytes, of a text. `parent` is the indentation of its
-/// parent, in columns, and -1 below no parent.
+/// The block scalar that begins at an offset of a text, in bytes (YAML 1.2.2, section 8.1). `parent` is
+/// the indentation of its parent, in columns, or -1 if it has none.
 ///
-/// The error comes exactly where none begins there, or where what follows it may not: it is
-/// [`FaultKind::BadBlockHeader`] at an impossible header, [`FaultKind::BadIndent`] where a blank line is
-/// longer than the indentation of the first text line, [`FaultKind::TabIndent`] where a tab is in
-/// the indentation of a line, and [`FaultKind::NoFinalBreak`] where the text ends in a line of the
-/// scalar. No memory is taken.
+/// Refused exactly where none begins there, or where the text after it may not follow: as
+/// [`FaultKind::BadBlockHeader`] at an impossible header, as [`FaultKind::BadIndent`] where a blank
+/// line has more spaces than the first text line is indented by, as [`FaultKind::TabIndent`] where a
+/// tab is in the indentation of a line, and as [`FaultKind::NoFinalBreak`] where the text ends in a
+/// line of the scalar. Takes no memory.
 pub fn read_block(text: &str, at: usize, parent: i64) -> Result<Piece, FaultKind>
     requires { IsCharBoundary text.now at }
     ensures exact { ReadsAs (λ p. p) result (reading.block_from parent at text.now) }

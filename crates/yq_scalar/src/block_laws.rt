@@ -7,16 +7,16 @@ ghost use Rattle.yq_core.{specs.declared.style.Style.TheVariants.Literal, specs.
 ghost use Rattle.yq_scalar.specs.WrittenScalars.{CanBeLiteral, CanBeWritten, LiteralText, written_literal};
 ghost use Rattle.yq_scalar.specs.RepairedGaps.{MayRepair, MayRepairAfter, repaired_after};
 
-/// What is read is a block scalar in front of its rest, what is one is read, and a text begins with one
-/// block scalar at most.
+/// What is read as a block scalar is one, each block scalar is read, and a text begins with one at
+/// most.
 pub fn one_block()
     ensures takes { (least : ℕ) → ReadsOnly (block_at least) block_text (IsBlock least) }
     ensures again { (least : ℕ) → ReadsAgain (block_at least) block_text (IsBlock least) }
     ensures one { (least : ℕ) → HasOneReading block_text (IsBlock least) }
 {}
 
-/// What is written for a string that can be written literal is a block scalar, before whatever may
-/// come after one, and means the string.
+/// What is written for a string that can be written literal is a block scalar before any text that may
+/// follow one, and means the string.
 pub fn literal_spells()
     ensures block { (least : ℕ) (x : LiteralText) (rest : List ℕ) →
         CanBeLiteral least x rest → IsBlock least (written_literal x) rest }

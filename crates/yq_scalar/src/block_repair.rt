@@ -83,11 +83,12 @@ fn push_gap(
     Ok(())
 }
 
-/// The gap made fit to come after the block scalar of a piece: its blank lines go if the scalar keeps
-/// empty lines, else those that are no empty lines of the scalar are emptied; its first comment line is
-/// moved to a column if it would be text of the scalar.
+/// The gap that is left after the block scalar of a piece, changed so that it may follow it. Its blank
+/// lines are removed if the scalar keeps empty lines (`+`); else those that the scalar could not have
+/// as empty lines are emptied. Its first comment line is moved to `column` if it would be text of the
+/// scalar.
 ///
-/// Memory is taken once.
+/// Takes memory once.
 pub fn repair(alloc: Global, scalar: &Piece, column: usize, gap: &str) -> Result<String, AllocError>
     ensures exact { GivesText result
         (repaired_gap scalar.now.keep scalar.now.indent column gap.now) }

@@ -11,10 +11,11 @@ use std::alloc::{AllocError, Global};
 use yq_core::{Piece, Style};
 use yq_scalar_reader::{plain_content, quoted_content};
 
-/// What the scalar of a piece means, where the piece was given for this text: the lines of a plain
-/// or quoted scalar folded and its escapes read, those of a block scalar without their indentation.
+/// What the scalar of a piece means, where the piece was read from this text: the lines of a plain or
+/// quoted scalar folded and its escapes read, those of a block scalar without their indentation (YAML
+/// 1.2.2, sections 6.5, 7.3 and 8.1).
 ///
-/// Memory is taken once.
+/// Takes memory once.
 pub fn content(alloc: Global, text: &str, piece: &Piece) -> Result<String, AllocError>
     requires { spec.IsReadPiece text.now piece.now }
     ensures exact { GivesText result (spec.piece_content text.now piece.now) }

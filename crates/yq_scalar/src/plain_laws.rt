@@ -5,7 +5,8 @@ ghost use Rattle.yq_core.{specs.Scalar.{ScalarText, plain_of}, specs.Text.{front
 ghost use Rattle.yq_core.{specs.declared.style.Place.Place, specs.OneReading.{HasOneReading, ReadsAgain, ReadsOnly}};
 ghost use Rattle.yq_scalar.specs.WrittenScalars.{CanBePlain, CanBePlainBefore, CanBePlainText};
 
-/// What is read as a plain scalar is one, what is one is read, and a text begins with one at most.
+/// What is read as a plain scalar is one, each plain scalar is read, and a text begins with one at
+/// most.
 pub fn one_plain()
     ensures takes { (flow : Bool) (spaces : Option ℕ) →
         ReadsOnly (plain_at flow spaces) (λ p rest. p ++ rest) (IsPlain flow spaces) }

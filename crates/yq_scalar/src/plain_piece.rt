@@ -7,11 +7,10 @@ ghost use Rattle.yq_core.specs.Piece as spec;
 use yq_core::{FaultKind, Piece, Place, Style, further_spaces, inline_piece};
 use yq_scalar_reader::{begins_plain, in_flow, split_plain};
 
-/// The plain scalar that begins at an offset, in bytes, of a text, going on as far as it may. `indent`
-/// is the indentation of its parent, in columns, and -1 below no parent.
+/// The longest plain scalar that begins at an offset of a text, in bytes (YAML 1.2.2, section 7.3.3).
+/// `indent` is the indentation of its parent, in columns, or -1 if it has none.
 ///
-/// The error is [`FaultKind::BadScalar`], exactly where no plain scalar begins there. No memory is
-/// taken.
+/// Refused as [`FaultKind::BadScalar`], exactly where no plain scalar begins there. Takes no memory.
 #[tactic(auto, using(yq_core::proofs::PieceLaws::found_by))]
 pub fn read_plain(text: &str, at: usize, place: Place, indent: i64) -> Result<Piece, FaultKind>
     requires { IsCharBoundary text.now at }

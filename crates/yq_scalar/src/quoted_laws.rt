@@ -6,7 +6,8 @@ ghost use Rattle.yq_core.{specs.Plain.holds_break, specs.Text.front, specs.Writa
 ghost use Rattle.yq_core.specs.OneReading.{HasOneReading, ReadsAgain, ReadsOnly};
 ghost use Rattle.yq_scalar.specs.QuotedTexts.{IsQuotedBefore};
 
-/// What is read as a quoted scalar is one, what is one is read, and a text begins with one at most.
+/// What is read as a quoted scalar is one, each quoted scalar is read, and a text begins with one at
+/// most.
 pub fn one_quoted()
     ensures takes { ReadsOnly quoted_at (λ p rest. p ++ rest) IsQuotedBefore }
     ensures again { ReadsAgain quoted_at (λ p rest. p ++ rest) IsQuotedBefore }

@@ -18,10 +18,10 @@ fn style_of(quote: u8) -> Style
     }
 }
 
-/// The quoted scalar that begins at an offset, in bytes, of a text.
+/// The quoted scalar that begins at an offset of a text, in bytes (YAML 1.2.2, sections 7.3.1 and
+/// 7.3.2).
 ///
-/// The error is [`FaultKind::BadScalar`], exactly where no quoted scalar begins there. No memory is
-/// taken.
+/// Refused as [`FaultKind::BadScalar`], exactly where no quoted scalar begins there. Takes no memory.
 #[tactic(auto, using(yq_core::proofs::QuotedPieceLaws::found_by))]
 pub fn read_quoted(text: &str, at: usize) -> Result<Piece, FaultKind>
     requires { IsCharBoundary text.now at }

@@ -1,4 +1,4 @@
--- What plain, single-quoted and literal scalars hold as it is (own; a reader may skip it: only clauses inside this crate cite it).
+-- What plain, single-quoted and literal scalars hold as it is (own; you may skip it: only clauses inside this crate cite it).
 use Rattle.std.specs.Prelude.{ℕ, nat_le, Bool, false, ◌&&◌, not, List, [], ◌∷◌}
 use Rattle.yq_scalar_reader.specs.declared.plain_text.Holder.{Holder}
 use Rattle.yq_core.{specs.PlainText.is_plain_char, specs.Text.{is_feed, is_white}, specs.Writable.{is_single_char, is_literal_char}}

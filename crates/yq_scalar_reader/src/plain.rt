@@ -200,7 +200,7 @@ pub fn words_len(text: &[u8]) -> usize
     }
 }
 
-/// The text cut where a plain scalar in front has to end. `flow` tells that it is in a flow
+/// The text cut where a plain scalar in front has to end. `flow` says that it is in a flow
 /// collection, and `spaces` with how many spaces a further line of it begins at least; with `None`
 /// it has one line.
 #[inline(always)]

@@ -16,7 +16,7 @@ fn is_quoted_run(quote: u8, text: &[u8]) -> bool
     n + 2 == text.len() && first_is(quote, rest.split_at(n).1)
 }
 
-/// Whether a key or scalar is in quotes on one line, and has no escapes, as sixteen bytes at a time tell.
+/// Whether a key or scalar is in quotes on one line, and has no escapes; sixteen bytes are looked at together.
 #[inline(always)]
 pub fn is_quoted_line(piece: &[u8]) -> bool
     ensures { IsTrue result → is_borrowed_text piece.now ≡ true }

@@ -18,7 +18,7 @@ abbrev pub and_then : {A B : Type 0} → (A → Judgement B) → Judgement A →
 and_then f (gives x) = f x
 and_then f (refuses why) = refuses why
 
--- what an error says of what comes of something: the refusal; want of memory says nothing (own)
+-- what an error says of what comes of something: the refusal; lack of memory says nothing (own)
 abbrev pub MatchFails : {Y : Type 0} → ExprError → Judgement Y → Type 0
 MatchFails (errors.Fault why) outcome = outcome ≡ refuses why
 MatchFails errors.Memory outcome = Unit {0}

@@ -72,7 +72,7 @@ pub record SameRoom (old new : Room) : Type 0 where
   pub has : (place : CommentPlace) (path : List Step) → new.has place path ≡ old.has place path
 
 -- What an operation leaves of rooms, where these are the documents after it: the room of the other documents is as it was, and a comment leaves that of its
--- own one too. The root of that one after it tells whether it is still block (own).
+-- own one too. The root of that one after it says whether it is still block (own).
 pub record LeavesRooms (op : Operation) (old new : ℕ → Room) (docs : List Document) : Type 0 where
   pub others : (i : ℕ) → (i ≡ op_document op → ⊥) → SameRoom (old i) (new i)
   pub comments : SetsComment op → SameRoom (old (op_document op)) (new (op_document op))

@@ -15,7 +15,7 @@ pub record IsChange (ss : List Segment) (c : ChangedMiddle) : Type 0 where
   pub exact : exchange_of ss ≡ gives (new_text ss) c.splices.items
   pub text : are_kept ss ≡ false → new_text ss ≡ take c.front (old_text ss) ++ (string_bytes c.new ++ drop (length (old_text ss) - c.back) (old_text ss))
 
--- the answer is what segments change of their text, or nothing, where the new one would be too large; want of memory says nothing (own)
+-- the answer is what segments change of their text, or nothing, where the new one would be too large; lack of memory says nothing (own)
 abbrev pub Changes : Result (Option ChangedMiddle) AllocError → List Segment → Type 0
 Changes (Ok (Some c)) ss = IsChange ss c
 Changes (Ok None) ss = exchange_of ss ≡ too_large

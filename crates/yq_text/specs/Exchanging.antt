@@ -21,7 +21,7 @@ exchange_of ss = if nat_le (length (new_text ss)) text_limit then gives (new_tex
 abbrev pub IsBuilt : ℕ → List Segment → Edited → Type 0
 IsBuilt front ss e = gives (new_text ss) (changes_after front ss) ≡ gives (string_bytes e.text) e.splices.items
 
--- the answer is what the exchange comes to; want of memory says nothing (own)
+-- the answer is what the exchange comes to; lack of memory says nothing (own)
 abbrev pub Exchanged : Result (Option Edited) AllocError → Exchange → Type 0
 Exchanged (Ok (Some e)) x = x ≡ gives (string_bytes e.text) e.splices.items
 Exchanged (Ok None) x = x ≡ too_large

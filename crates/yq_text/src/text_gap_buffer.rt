@@ -80,7 +80,7 @@ impl TextGapBuffer {
     /// Makes room for so many bytes at the split.
     ///
     /// # Errors
-    /// Want of memory. The text is as it was.
+    /// Lack of memory. The text is as it was.
     pub fn reserve(&mut self, more: usize) -> Result<(), AllocError>
         ensures front { self.new.front ≡ self.old.front }
         ensures back { self.new.back ≡ self.old.back }

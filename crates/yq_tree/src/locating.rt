@@ -8,7 +8,7 @@ use yq_documents::{Documents, Part, Path};
 use yq_lookup::CutText;
 use yq_nodes::Node;
 
-/// The node at a path, if the path leads to one.
+/// The node at a path, with its key and comments; `None` if the path leads to no node.
 pub fn locate<'d, 't>(documents: &'d Documents<'t>, path: &Path) -> Option<Node<'d, 't>>
     ensures node { option_map node_of result ≡ located path.now documents.now }
     ensures labelled { option_map labelled_of result ≡ labelled_located path.now documents.now }
@@ -20,7 +20,8 @@ pub fn locate<'d, 't>(documents: &'d Documents<'t>, path: &Path) -> Option<Node<
     root.descend(&path.steps)
 }
 
-/// Whether the text has room for a comment at a path, as `CutText::has_room`.
+/// Whether the text has room for a comment at the node of a path, as
+/// [`CutText::has_room`](yq_lookup::CutText::has_room) says.
 pub fn has_room(documents: &Documents<'_>, path: &Path, part: Part) -> bool
     ensures { result ≡ spec.has_room path.now part documents.now }
 {

@@ -34,15 +34,21 @@ fn content_place(documents: &Documents<'_>, path: &Path) -> Option<Span>
     content_span(&entry)
 }
 
-/// The place of a part of the node at a path, in bytes from the start of the text; none, where the
-/// path leads nowhere or the node has no such part. `Content` is what is in the head, without its
-/// anchor: a block scalar with its lines and their breaks; or a block collection, from its first key
-/// or dash to the end of its last line, before its break; a null of which nothing but perhaps an
-/// anchor is written has none. `Entry` goes from the key or dash to the end of the entry's or item's
-/// last line, before its break; a root has none. Inside a flow collection it goes from the key, or
-/// from the item with its anchor, to the end of the node. `HeadComment` is the lines of the run of
-/// comments above the row that the key or dash begins, with their breaks; `LineComment` goes from `#`
-/// to the line's end, before its break.
+/// The place of a part of the node at a path, in bytes from the start of the text. `None` if the path
+/// leads to no node, or the node has no such part.
+///
+/// - `Content` is the head without its anchor. That of a block scalar has its lines with their breaks.
+/// That of a block collection goes from its first key or dash to the end of its last line, before the
+/// break. A null of which nothing but perhaps an anchor is written has none.
+///
+/// - `Entry` goes from the key or dash to the end of the last line of the entry or item, before the
+/// break. A root has none. In a flow collection it goes from the key, or from the item with its anchor,
+/// to the end of the node.
+///
+/// - `HeadComment` is the run of comment lines directly above the row that the key or dash begins, with
+/// their breaks.
+///
+/// - `LineComment` goes from `#` to the end of the line, before the break.
 pub fn extent(documents: &Documents<'_>, path: &Path, part: Part) -> Option<Span>
     ensures { option_map span result ≡
         option_map piece_span (path_piece path.now part (cut_of documents.now)) }

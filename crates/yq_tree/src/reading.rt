@@ -17,8 +17,8 @@ use yq_documents::Documents;
 use yq_outline::lines_shaped;
 use yq_rows::scan;
 
-/// The text that bytes are in UTF-8. Bytes that are none are refused as
-/// `NotUtf8`, on the line of the first byte that isn't UTF-8.
+/// The text that bytes are in UTF-8. Bytes that aren't UTF-8 are refused as `NotUtf8`, on the line
+/// (from 1) of the first wrong byte.
 pub fn text_of(bytes: &[u8]) -> Result<&str, ReadFault>
     ensures utf8 { MatchResult result (λ s. (is_utf8 bytes.now ≡ true) × (s.now ≡ bytes.now))
         (λ f. (is_utf8 bytes.now ≡ false) × (f.kind ≡ NotUtf8)) }
@@ -50,6 +50,9 @@ fn read_text(alloc: Global, text: &str) -> Result<Documents<'_>, ReadError>
 }
 
 /// Reads bytes as documents.
+///
+/// Refused exactly where the grammar doesn't read them. Bytes that aren't UTF-8 are refused as
+/// `NotUtf8`, before any other fault. The fault has its line, counted from 1.
 #[tactic(auto, unfolding(yq_documents::specs::Reading::read_at))]
 pub fn read(alloc: Global, bytes: &[u8]) -> Result<Documents<'_>, ReadError>
     // The bytes read as the documents.
@@ -79,7 +82,7 @@ pub fn read(alloc: Global, bytes: &[u8]) -> Result<Documents<'_>, ReadError>
     }
 }
 
-/// No bytes have two readings.
+/// No bytes can be read in two ways.
 pub fn one_reading()
     ensures { (bytes : List ℕ) (docs others : List Document) → ReadsDocuments bytes docs →
         ReadsDocuments bytes others → docs ≡ others }

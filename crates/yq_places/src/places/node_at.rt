@@ -1,4 +1,4 @@
-//! What the nodes at paths are, each read from the rows that tell it.
+//! What the nodes at paths are, each read from its rows.
 ghost use Rattle.std.specs.Prelude.{◌≡◌, map, option_map, false, IfOk, None};
 ghost use Rattle.yq_core.{specs.Entries.tree_step, specs.Paths.node_at, specs.Trees.placed_tree};
 ghost use Rattle.yq_outline.{specs.Ends.part, specs.Outline.value, specs.Positions.begins_with_node, specs.View.head_view};
