@@ -1,20 +1,13 @@
 -- What an update changes: place by place, and document by document.
-use Rattle.std.proofs.Common.{rules, append_assoc, ◌≡◌, ℕ, suc, ◌+◌, ◌<◌, ◌≤◌, List, [], ◌∷◌, ◌++◌, length, map, drop, sym, ap, ◌∙◌}
-use Rattle.std.{proofs.Common.{append-nil, add-one}, proofs.lemmas.List.drop_all}
+use Rattle.std.proofs.Common.{rules, append_assoc, ◌≡◌, ℕ, suc, ◌+◌, ◌<◌, List, [], ◌∷◌, ◌++◌, length, drop, sym, ap, ◌∙◌, add-one}
 use Rattle.yq_core.specs.Tree.{Node}
 use Rattle.yq_documents.specs.Documents.{Document}
 use Rattle.yq_semantics.specs.Changes.{Room, Changed, put_with_path, at_each, with_value, changes_at, changes_in, changes_from}
 use Rattle.yq_semantics.{specs.Judgement.{MatchFails, Judgement, and_then, gives, ExprError}, specs.Meaning.roots_of}
-use Rattle.yq_semantics.{specs.Places.{FoundPlace, for_each}, specs.Program.{Stage, Term, Update, assign}, specs.RightValues.right_value}
+use Rattle.yq_semantics.{specs.Places.FoundPlace, specs.Program.{Stage, Term, Update, assign}, specs.RightValues.right_value}
 use Rattle.yq_semantics.specs.declared.program.Operator.{Operator}
 use Rattle.yq_eval.specs.PlaceView.{put_after}
 use Rattle.yq_semantics.specs.declared.program.Operator.TheVariants as operator
-
--- ---- places
-
--- after the last one nothing more comes
-pub each_done : {X A B : Type 0} (v : X → A) (f : A → Judgement (List B)) (before : List B) (xs : List X) (i : ℕ) (all : Judgement (List B)) → length xs ≤ i → put_after before (for_each f (map v (drop i xs))) ≡ all → all ≡ gives before
-each_done v f before xs i all past so_far = search (rules, drop_all, append-nil)
 
 -- ---- the value of a right side
 

@@ -1,12 +1,12 @@
 -- Entries that come into a mapping, by additions that each fit at their turn: all are in it afterwards.
 use Rattle.std.proofs.Common.{◌≡◌, ◌≢◌, ℕ, suc, ◌+◌, ◌≤◌, Bool, true, false, cond, List, Option, Some, None, is_some, refl, sym, ap, ◌∙◌}
-use Rattle.std.{proofs.Common.{subst, arith, rules}, proofs.lemmas.Option.{none-some, same_Some}}
-use Rattle.std.proofs.lemmas.Bool.{false≢true, cond-false}
-use Rattle.yq_core.specs.Paths.{Step, To, key_is, is_here, further, child_at, change_child, remove_child, append_child}
-use Rattle.yq_core.{specs.Shapes.{AreEntries, IsNew}, specs.Tree.{Node, alias, scalar, list, Children, none, child, children_of, key_label}}
+use Rattle.std.{proofs.Common.{subst, arith, rules}, proofs.lemmas.Option.{none-some, same_Some}, proofs.lemmas.Bool.cond-false}
+use Rattle.yq_core.{specs.Paths.{Step, To, is_here, further, child_at, remove_child, append_child}, specs.Shapes.{AreEntries, IsNew}}
+use Rattle.yq_core.specs.Tree.{Node, Children, none, child, key_label}
 use Rattle.yq_documents.specs.TreeEdits.{replaced_node}
 use Rattle.yq_semantics.{specs.Changes.{Addition, appends, overwrites, addition}, specs.Meaning.add_to, specs.Sizes.{items_in, items_among}}
-use Rattle.yq_semantics.{proofs.PathLaws.{bytes_differ, bytes_refl, bytes_same}, proofs.sizes.RowSizes.under_anchor}
+use Rattle.yq_semantics.{proofs.PathLaws.{bytes_differ, bytes_refl}, proofs.sizes.RowSizes.under_anchor}
+use Rattle.yq_semantics.{proofs.updates.AllowedChanges.{other_append, key_same, other_change}, proofs.updates.FitsInOrder.child_changed}
 use Rattle.yq_core.specs.Tree as tree
 
 -- items or entries have one of a key, with so many items and entries at least
@@ -20,17 +20,6 @@ HaveEntries none cs = Unit {0}
 HaveEntries (child label v ds) cs = HasEntry label.key v cs × HaveEntries ds cs
 
 -- ---- what is found of another key
-
-other_append : (j k : List ℕ) (v : Node) (es : Children) → j ≢ k → child_at (To k) (append_child (key_label (Some j)) v es) ≡ child_at (To k) es
-other_append j k v none d = cond-false (key_is k (Some j)) (Some v) None (bytes_differ j k d)
-other_append j k v (child label n es) d = ap (λ (o : Option Node). cond (key_is k label.key) (Some n) o) (other_append j k v es d)
-
-key_same : (j : List ℕ) (o : Option (List ℕ)) → key_is j o ≡ true → o ≡ Some j
-key_same j o h = search (rules, false≢true, bytes_same)
-
-other_change : (j k : List ℕ) (f : Node → Node) (es : Children) → j ≢ k → child_at (To k) (change_child (To j) f es) ≡ child_at (To k) es
-other_change j k f none d = refl
-other_change j k f (child label n es) d = search (rules, key_same, bytes_differ, cond-false, other_change j k f es d)
 
 other_remove : (j k : List ℕ) (es : Children) → j ≢ k → child_at (To k) (remove_child (To j) es) ≡ child_at (To k) es
 other_remove j k none d = refl
@@ -78,16 +67,12 @@ found_appended : (k : List ℕ) (v : Node) (es : Children) → child_at (To k) e
 found_appended k v none h = ap (λ b. cond b (Some v) None) (bytes_refl k)
 found_appended k v (child label n es) h = search (rules, none-some, found_appended k v es)
 
-pub found_changed : (s : Step) (f : Node → Node) (cs : Children) (n : Node) → child_at s cs ≡ Some n → child_at s (change_child s f cs) ≡ Some (f n)
-found_changed s f none n h = absurd (none-some _ h)
-found_changed s f (child label m cs) n h = search (rules, same_Some, found_changed (further s) f cs n)
-
 -- an entry is there after its addition
 pub entry_comes : (cs : Children) (k : List ℕ) (v : Node) (es : Children) → Adds (addition cs (Some k) v) es → HasEntry (Some k) v (add_to (addition cs (Some k) v) es)
 entry_comes cs k v es h = go (is_some (child_at (To k) cs)) h
   where
     go : (b : Bool) → Adds (cond b (overwrites k v) (appends (Some k) v)) es → HasEntry (Some k) v (add_to (cond b (overwrites k v) (appends (Some k) v)) es)
-    go true e = (replaced_node v e.0, found_changed (To k) (replaced_node v) es e.0 e.1, omega (arith, under_anchor (tree.anchor_of e.0) v))
+    go true e = (replaced_node v e.0, child_changed (To k) (replaced_node v) es e.0 e.1, omega (arith, under_anchor (tree.anchor_of e.0) v))
     go false e = (v, found_appended k v es e, omega arith)
 
 -- and after that of another key

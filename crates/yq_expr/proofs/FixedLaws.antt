@@ -1,11 +1,11 @@
 -- What an update of one node at a fixed path plans, and that no update brings an alias.
-use Rattle.std.proofs.Common.{rules, not, ◌==◌, ◌≡◌, ℕ, zero, suc, cond, pos, Bool, true, false, List, [], ◌∷◌, ◌++◌, length, map}
-use Rattle.std.proofs.Common.{slice_get, Option, Some, None, if◌then◌else◌, is_some, option_map, refl, sym, ap, subst, ◌∙◌, arith}
-use Rattle.std.{proofs.Common.{append-nil, append_assoc}, proofs.lemmas.Bool.false≢true, proofs.lemmas.Bool.Decides.nat_tests}
-use Rattle.std.{proofs.lemmas.Option.{none-some, same_Some}, proofs.lemmas.Simd.map-map, specs.List.list_any, specs.Borrow.Bor}
-use Rattle.std.{specs.Prelude.{IfSome, Result, Ok, Err}, specs.declared.alloc.AllocError.AllocError}
-use Rattle.yq_core.{specs.Scalar.ScalarText, specs.Entries.tree_step, specs.Anchors.names_of, specs.Shapes.{AreEntries, AreItems, IsTree}}
-use Rattle.yq_core.specs.Paths.{Step, To, Nth, child_at, is_item, key_is, node_at}
+use Rattle.std.proofs.Common.{rules, not, ◌==◌, ◌≡◌, ℕ, cond, pos, Bool, true, false, List, [], ◌∷◌, ◌++◌, length, map, slice_get, Option}
+use Rattle.std.proofs.Common.{Some, None, if◌then◌else◌, is_some, option_map, refl, sym, ap, subst, ◌∙◌, arith, append-nil, append_assoc}
+use Rattle.std.{proofs.lemmas.Bool.false≢true, proofs.lemmas.Bool.Decides.nat_tests, proofs.lemmas.Option.{none-some, same_Some}}
+use Rattle.std.{proofs.lemmas.Simd.map-map, specs.List.list_any, specs.Borrow.Bor, specs.Prelude.{IfSome, Result, Ok, Err}}
+use Rattle.std.specs.declared.alloc.AllocError.{AllocError}
+use Rattle.yq_core.{specs.Scalar.ScalarText, specs.Entries.tree_step, specs.Anchors.names_of, specs.Shapes.{AreItems, IsTree}}
+use Rattle.yq_core.specs.Paths.{Step, To, Nth, child_at, key_is, node_at}
 use Rattle.yq_core.specs.Tree.{Node, scalar, list, Children, none, child, children_of}
 use Rattle.yq_semantics.{specs.View.{stage_of, term_of, program_step, update_of}, specs.declared.program.CommentPlace.CommentPlace}
 use Rattle.yq_semantics.specs.Judgement.{Judgement, and_then, gives, refuses}
@@ -19,7 +19,7 @@ use Rattle.yq_semantics.{specs.Rooms.room_of, specs.declared.refusal.Refusal.The
 use Rattle.yq_semantics.{proofs.ChildPlaces.{child_tree, children_tree}, proofs.JudgementLaws.{gives_same, then_gives}}
 use Rattle.yq_semantics.{proofs.RoomLaws.rooms_are_ready, proofs.updates.Aliases.{AllWriteNone, WritesNone, all_bring, at_once_no_more}}
 use Rattle.yq_semantics.{proofs.updates.Each.each_weaker, proofs.updates.FitChanges.update_fit, proofs.updates.FitsInOrder.MayChange}
-use Rattle.yq_semantics.{proofs.updates.Mentions.in_less, specs.declared.op.Op.Op}
+use Rattle.yq_semantics.{proofs.updates.Mentions.in_less, specs.declared.op.Op.Op, proofs.updates.Apart.no_entry}
 use Rattle.yq_documents.{specs.Documents.Document, specs.Reading.{documents_of, cut_of, read_at}, proofs.ReadLaws.read_takes}
 use Rattle.yq_documents.proofs.ReadyLaws.{read_ready}
 use Rattle.yq_outline.{proofs.ShapeLaws.{shaped_by_lines, shaped_is_tree}, specs.Names.is_reference}
@@ -48,16 +48,11 @@ no_key : (k : List ℕ) (cs : Children) → AreItems cs → child_at (To k) cs �
 no_key k none h = refl
 no_key k (child label n cs) h = ap (λ (o : Option (List ℕ)). cond (key_is k o) (Some n) (child_at (To k) cs)) h.0 ∙ no_key k cs h.1
 
-no_item : (i : ℕ) (cs : Children) → AreEntries cs → child_at (Nth i) cs ≡ None
-no_item i none h = refl
-no_item zero (child label n cs) h = ap (λ (o : Option (List ℕ)). cond (is_item o) (Some n) (child_at (Nth 0) cs)) h.0.1 ∙ no_item 0 cs h.1
-no_item (suc i) (child label n cs) h = no_item i cs h.1
-
 key_there : (j : List ℕ) (y : List Step) (m k : Node) → IsTree m → child_at (To j) (children_of m) ≡ Some k → step_there (key j) (there y m) ≡ gives (there (y ++ To j ∷ []) k ∷ [])
 key_there j y m k tree at = search (rules, none-some, no_key)
 
 item_there : (i : ℕ) (y : List Step) (m k : Node) → IsTree m → child_at (Nth i) (children_of m) ≡ Some k → step_there (index (pos i)) (there y m) ≡ gives (there (y ++ Nth i ∷ []) k ∷ [])
-item_there i y m k tree at = search (rules, none-some, no_item)
+item_there i y m k tree at = search (rules, none-some, no_entry)
 
 fixed_there : (s : PathStep) (x : Step) (y : List Step) (m k : Node) → fixed_step s ≡ Some x → IsTree m → child_at x (children_of m) ≡ Some k → step_there s (there y m) ≡ gives (there (y ++ x ∷ []) k ∷ [])
 fixed_there s x y m k is tree at = search (rules, same_Some, key_there, item_there, none-some)

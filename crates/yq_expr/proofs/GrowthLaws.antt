@@ -7,14 +7,15 @@ use Rattle.yq_documents.{specs.Documents.Document, specs.TreeEdits.{led, replace
 use Rattle.yq_semantics.{specs.After.{after_op, all_after, done_to}, specs.Changes.Room, specs.Fits.{AllFit, Fits}, specs.Meaning.AreReady}
 use Rattle.yq_semantics.specs.NodeEdits.{NodeEdits, and_at, at_once, becomes, done_by, same_path}
 use Rattle.yq_semantics.{specs.Operations.{Operation, append, replace}, specs.Places.FoundPlace, specs.PlacesApart.{AreApart, IsBeforeAll}}
-use Rattle.yq_semantics.{specs.Sizes.{items_in, items_of_all}, proofs.sizes.AfterSizes.appended_size, proofs.sizes.RowSizes.under_anchor}
-use Rattle.yq_semantics.{proofs.updates.Apart.node_spared, proofs.updates.AtOnce.one_more, proofs.updates.Folds.path_same}
-use Rattle.yq_semantics.{proofs.updates.OneAt.{change_none, one_becomes}, proofs.updates.PlanMeans.after_join}
-use Rattle.yq_semantics.proofs.updates.Spares.{IsSpared, Spares, idle}
+use Rattle.yq_semantics.specs.Sizes.{items_in, items_of_all}
+use Rattle.yq_semantics.proofs.sizes.AfterSizes.{appended_size, led_size, nth_holds, nth_size, path_size}
+use Rattle.yq_semantics.{proofs.sizes.RowSizes.under_anchor, proofs.updates.Apart.node_spared, proofs.updates.AtOnce.one_more}
+use Rattle.yq_semantics.{proofs.updates.Folds.path_same, proofs.updates.OneAt.{change_none, one_becomes, change_twice}}
+use Rattle.yq_semantics.{proofs.updates.PlanMeans.after_join, proofs.updates.Spares.{IsSpared, Spares, idle}}
+use Rattle.yq_semantics.proofs.updates.AlikeRooms.{nth_changed}
 use Rattle.yq_expr.{specs.Oversized.{BeginsOversized, items_limit}, proofs.EntryLaws.entries_size}
 use Rattle.yq_expr.proofs.MergeSizes.{items_of, merge_there, merged}
 use Rattle.yq_expr.proofs.Gains.{AreAppends, Gain, GainSome, appended, appends, each_writes, merges, no_more, nothing, one_place, puts}
-use Rattle.yq_expr.proofs.TreeSizes.{changed_twice, led_size, nth_changed, nth_holds, nth_size, path_size}
 
 -- ---- one node after another
 
@@ -78,7 +79,7 @@ append_all rooms doc path _ _ (appended {k} {v} {ops} {n} utf8 valid all) root d
       d = done_to (rooms doc).block op b.d;
       nth = nth_changed doc (done_to (rooms doc).block op) docs b.d b.nth;
       by = λ m. next (b.by m);
-      is = ap (changed_at path next) b.is ∙ changed_twice path b.by next root;
+      is = ap (changed_at path next) b.is ∙ change_twice path next b.by root;
     })
 
 -- ---- what comes at places

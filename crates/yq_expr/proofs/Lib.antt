@@ -18,4 +18,3 @@ pub mod Gains
 pub mod GrowthLaws
 pub mod SpreadOps
 pub mod OversizedOps
-pub mod TreeSizes

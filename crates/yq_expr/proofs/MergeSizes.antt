@@ -1,34 +1,20 @@
 -- How many items and entries documents have after the entries of a mapping came to a node.
 use Rattle.std.proofs.Common.{◌≡◌, ℕ, ◌+◌, ◌<◌, ◌≤◌, true, List, [], ◌∷◌, ◌++◌, map, Option, Some, None, option_and_then, refl, sym, ap}
 use Rattle.std.{proofs.Common.{subst, ◌∙◌, arith}, proofs.lemmas.Option.{none-some, same_Some}, specs.List.slice_get}
-use Rattle.yq_core.{specs.Paths.{Step, To, child_at, node_at, within, change_child, changed_at}, specs.Shapes.{AreEntries, IsNew}}
-use Rattle.yq_core.specs.Tree.{Label, Node, alias, scalar, list, Children, none, child, children_of, key_label}
+use Rattle.yq_core.{specs.Paths.{Step, To, child_at, node_at, within, changed_at}, specs.Shapes.{AreEntries, IsNew}}
+use Rattle.yq_core.specs.Tree.{Label, Node, alias, scalar, list, Children, none, child, children_of}
 use Rattle.yq_documents.{specs.Documents.Document, specs.TreeEdits.change_nth}
 use Rattle.yq_flow_edits.specs.Valued.{AreValueTrees}
 use Rattle.yq_semantics.specs.After.{after_op, all_after, done_to}
 use Rattle.yq_semantics.{specs.Changes.{Addition, Room, addition, additions, appends, overwrites}, specs.Fits.{AllFit, Fits, Takes}}
 use Rattle.yq_semantics.{specs.Meaning.add_to, specs.Operations.{append, replace}, specs.Plans.add_op}
-use Rattle.yq_semantics.{specs.Sizes.{items_in, items_among, items_of_all}, proofs.ChildPlaces.node_further, proofs.updates.OneAt.add_after}
-use Rattle.yq_expr.proofs.EntryLaws.{Adds, HasEntry, HaveEntries, entry_comes, entry_stays, found_changed}
-use Rattle.yq_expr.proofs.TreeSizes.{changed_twice, nth_changed, nth_size}
+use Rattle.yq_semantics.{specs.Sizes.{items_in, items_among, items_of_all}, proofs.ChildPlaces.node_further}
+use Rattle.yq_semantics.{proofs.updates.OneAt.{add_after, change_twice}, proofs.updates.FitsInOrder.node_change}
+use Rattle.yq_semantics.{proofs.sizes.AfterSizes.nth_size, proofs.updates.AlikeRooms.nth_changed}
+use Rattle.yq_expr.proofs.EntryLaws.{Adds, HasEntry, HaveEntries, entry_comes, entry_stays}
 use Rattle.yq_core.specs.Tree as tree
 
 -- ---- nodes at paths
-
-child_within : (s : Step) (f : Node → Node) (r n : Node) → child_at s (children_of r) ≡ Some n → child_at s (children_of (within (change_child s f) r)) ≡ Some (f n)
-child_within s f (alias a) n h = absurd (none-some _ h)
-child_within s f (scalar a k t) n h = absurd (none-some _ h)
-child_within s f (list a cs) n h = found_changed s f cs n h
-child_within s f (tree.map a cs) n h = found_changed s f cs n h
-
--- the node at a path, changed
-node_changed : (p : List Step) (f : Node → Node) (r n : Node) → node_at p r ≡ Some n → node_at p (changed_at p f r) ≡ Some (f n)
-node_changed [] f r n h = ap (λ x. Some (f x)) (same_Some r n h)
-node_changed (s ∷ p) f r n h = go (child_at s (children_of r)) refl (λ m. node_changed p f m n) h
-  where
-    go : (o : Option Node) → child_at s (children_of r) ≡ o → ((m : Node) → node_at p m ≡ Some n → node_at p (changed_at p f m) ≡ Some (f n)) → option_and_then (node_at p) o ≡ Some n → node_at (s ∷ p) (changed_at (s ∷ p) f r) ≡ Some (f n)
-    go None is ih e = absurd (none-some _ e)
-    go (Some m) is ih e = ap (option_and_then (node_at p)) (child_within s (changed_at p f) r m is) ∙ ih m e
 
 -- where something is in a node, that is there
 pub node_above : (p : List Step) (s : Step) (r w : Node) → node_at (p ++ s ∷ []) r ≡ Some w → (n : Node) × (node_at p r ≡ Some n)
@@ -54,7 +40,7 @@ module _ (rooms : ℕ → Room) (doc : ℕ) (path : List Step) (root : Node) (to
   once_more docs by b g f so = record {
     d = g b.d;
     nth = nth_changed doc g docs b.d b.nth;
-    is = so b.d ∙ (ap (changed_at path f) b.is ∙ changed_twice path by f root);
+    is = so b.d ∙ (ap (changed_at path f) b.is ∙ change_twice path f by root);
     size = omega (arith, b.size, nth_size doc g docs b.d b.nth);
   }
 
@@ -82,7 +68,7 @@ module _ (rooms : ℕ → Room) (doc : ℕ) (path : List Step) (root : Node) (to
     fit_adds x docs by b h = go x h
       where
         now : node_at path b.d.root ≡ Some (by old)
-        now = ap (node_at path) b.is ∙ node_changed path by root old at
+        now = ap (node_at path) b.is ∙ node_change path by root old at
 
         go : (x : Addition) → Fits rooms (add_op doc path x) docs → MayAdd x (by old)
         go (appends k v) fits =

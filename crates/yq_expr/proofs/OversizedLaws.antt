@@ -1,11 +1,10 @@
 -- Sums of lists of known sizes.
-use Rattle.std.proofs.Common.{◌≡◌, inl, inr, ℕ, ◌+◌, ◌<◌, ◌≤◌, max, arith, false, List, [], ◌∷◌, ◌++◌, None, refl, sym, ap, subst, ◌∙◌}
+use Rattle.std.proofs.Common.{◌≡◌, inl, inr, ℕ, ◌+◌, ◌≤◌, max, arith, false, List, [], ◌∷◌, ◌++◌, None, refl, sym, ap, subst, ◌∙◌}
 use Rattle.std.proofs.lemmas.Str.{IsUtf8-string_bytes}
 use Rattle.yq_core.{specs.Paths.append_children, specs.Tree.{Node, alias, scalar, list, Children, none, child}}
 use Rattle.yq_flow_edits.specs.Valued.{IsValueTree, AreValueTrees}
-use Rattle.yq_planner.{specs.ListSizes.HasSize, specs.declared.updating.list_size.ListSize.ListSize, specs.Substitutes.IsSubstitute}
-use Rattle.yq_semantics.{specs.Judgement.{Judgement, and_then, gives}, specs.Places.FoundPlace}
-use Rattle.yq_semantics.specs.Program.{Term, PathStep, key, index, each}
+use Rattle.yq_planner.{specs.ListSizes.HasSize, specs.declared.updating.list_size.ListSize.ListSize}
+use Rattle.yq_semantics.{specs.Judgement.{and_then, gives}, specs.Places.FoundPlace, specs.Program.{Term, PathStep, key, index, each}}
 use Rattle.yq_semantics.{specs.RightValues.{is_null, as_items, right_value, sum, sum_from, term_value}, specs.Sizes.items_in}
 use Rattle.yq_semantics.specs.View.{program_step}
 use Rattle.yq_expr.specs.Oversized.{AddsItems, AreItemsOf, GiveItems, GivesSized, HaveUtf8Keys, ItemsOfSize}

@@ -8,7 +8,7 @@ use Rattle.yq_semantics.specs.Changes.{Addition, appends, overwrites, Change, re
 use Rattle.yq_semantics.specs.Changes.{all_allowed, created, has_long_key, have_long_key, is_deep, is_overlong_key, is_too_deep}
 use Rattle.yq_semantics.specs.Changes.{is_too_long, is_used_inside, nested, overwrites_used, put_below, put_with_path, takes_used, value_in}
 use Rattle.yq_semantics.{specs.Changes.writes_long_key, specs.Judgement.{and_then, gives}, specs.Places.FoundPlace}
-use Rattle.yq_semantics.specs.Program.{PathStep, key, index, each}
+use Rattle.yq_semantics.{specs.Program.{PathStep, key, index, each}, proofs.updates.FitChanges.addition_value}
 use Rattle.yq_expr.specs.EffectView.{is_mapping}
 use Rattle.yq_core.specs.Tree as tree
 use Rattle.yq_core.specs.declared.kind.Kind.TheVariants as kinds
@@ -82,9 +82,6 @@ put_alike root p v w h = below_alike root p.path p.node p.missing v w (alike v w
 or_parts : (a b c : Bool) → (a || (b || c)) ≡ false → (a ≡ false) × ((b ≡ false) × (c ≡ false))
 or_parts a b c h = search rules
 
-value_added : (cs : Children) (k : Option (List ℕ)) (v : Node) → value_in (addition cs k v) ≡ v
-value_added cs k v = search rules
-
 short_added : (cs : Children) (k : Option (List ℕ)) (v : Node) → is_overlong_key k ≡ false → has_long_key v ≡ false → writes_long_key (addition cs k v) ≡ false
 short_added cs k v short fit = search rules
 
@@ -98,8 +95,8 @@ lt_either l m a b = search (rules, true_lt, lt_true, false_lt, lt_false)
 
 -- the deepest of several is too deep
 any_deep : (m : ℕ) (cs : Children) (label : Label) (n : Node) (ds : Children) → list_any (λ x. is_deep m (value_in x)) (additions cs (child label n ds)) ≡ nat_lt depth_limit (m + deepest (child label n ds))
-any_deep m cs label n none = search (rules, value_added)
-any_deep m cs label n (child next o ds) = search (rules, value_added, lt_either, any_deep m cs next o ds)
+any_deep m cs label n none = search (rules, addition_value)
+any_deep m cs label n (child next o ds) = search (rules, addition_value, lt_either, any_deep m cs next o ds)
 
 module _ (root : Node) (x : List Step) where
   unused : HaveNoAlias (names_of root) → (o : Option Node) → is_used_inside (names_of root) o ≡ false

@@ -1,6 +1,6 @@
 -- Sums of strings of known lengths, and what no text can hold.
-use Rattle.std.proofs.Common.{◌≡◌, ℕ, ◌+◌, ◌/◌, ◌<◌, ◌≤◌, false, true, IsUtf8, List, [], ◌∷◌, ◌++◌, length, None, refl, sym, ap, ◌∙◌, subst}
-use Rattle.std.{proofs.Common.{arith, length-append, map, Option, Result}, proofs.lemmas.Str.IsUtf8-append}
+use Rattle.std.proofs.Common.{◌≡◌, ℕ, ◌+◌, ◌/◌, ◌<◌, ◌≤◌, IsUtf8, List, [], ◌∷◌, ◌++◌, length, None, refl, sym, ap, ◌∙◌, subst, arith}
+use Rattle.std.{proofs.Common.{length-append, map, Option, Result}, proofs.lemmas.Str.IsUtf8-append}
 use Rattle.std.specs.declared.alloc.AllocError.{AllocError}
 use Rattle.yq_core.{specs.Tree.{Node, list, scalar, Children}, specs.declared.kind.Kind.Kind}
 use Rattle.yq_flow_edits.specs.Valued.{IsValueTree}
@@ -9,8 +9,8 @@ use Rattle.yq_planner.specs.declared.updating.list_size.ListSize.{ListSize}
 use Rattle.yq_semantics.{specs.Judgement.{Judgement, and_then, gives}, specs.Places.FoundPlace, specs.Program.Term}
 use Rattle.yq_semantics.{specs.RightValues.{as_items, sum, sum_from, term_value}, specs.View.term_of}
 use Rattle.yq_semantics.specs.declared.program.Operator.{Operator}
-use Rattle.yq_expr.specs.Oversized.{AddsItems, AreItemsOf, GivesList, GivesString, IsLargeSum, ItemsOfSize, HasSmall, SumsFrom, found_sum}
-use Rattle.yq_expr.{specs.Oversized.{found_term, items_limit}, specs.FixedPaths.IfAny}
+use Rattle.yq_expr.specs.Oversized.{AddsItems, GivesList, GivesString, IsLargeSum, ItemsOfSize, HasSmall, SumsFrom, found_sum, found_term}
+use Rattle.yq_expr.{specs.Oversized.items_limit, specs.FixedPaths.IfAny}
 use Rattle.yq_eval.specs.PlaceView.{place_of}
 use Rattle.yq_core.specs.declared.kind.Kind.TheVariants as kinds
 use Rattle.yq_eval.specs.declared.matching.place.FoundPlace as found

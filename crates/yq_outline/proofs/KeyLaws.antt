@@ -1,9 +1,7 @@
 -- Unique keys, as a test and as a fact.
-use Rattle.std.proofs.Common.{◌≡◌, ◌≢◌, ℕ, zero, suc, List, [], ◌∷◌, get_or, Bool, true, false, not, refl, sym, ap, ◌∙◌, arith, bytes_eq}
-use Rattle.std.{proofs.Common.{◌↔◌, rules, ◌≤◌, ◌++◌, length, drop, ◌&&◌, append-nil}, specs.Bool.IsTrue}
-use Rattle.std.proofs.lemmas.Bool.{and_parts, and_from, or_parts, false≢true, false_from_ne_true, not-true, le-leb}
-use Rattle.std.{proofs.lemmas.List.Folds.list_any_none, proofs.lemmas.List.Kept.AllPairs-cons, proofs.lemmas.Slice.Eq.bytes_eq-Decides}
-use Rattle.std.{specs.List.{list_any, All}, proofs.lemmas.List.drop_all, specs.Prelude.String, specs.declared.alloc.Global.Global}
+use Rattle.std.{proofs.Common.{◌≡◌, ℕ, List, Bool, true, refl, arith, ◌↔◌, ◌≤◌, ◌++◌, length, drop, ◌&&◌, append-nil}, specs.Bool.IsTrue}
+use Rattle.std.{proofs.lemmas.Bool.{and_parts, and_from, le-leb}, proofs.lemmas.List.drop_all, specs.Prelude.String}
+use Rattle.std.specs.declared.alloc.Global.{Global}
 use Rattle.yq_core.specs.Tree.{Node, alias, scalar, list, map, Children, none, child}
 use Rattle.yq_core.specs.Keys.{AreDistinct, keys_of, HasUniqueKeys, EachHasUniqueKeys, are_distinct, has_unique_keys, each_has_unique_keys}
 use Rattle.yq_core.{specs.declared.piece.Piece.Piece, specs.declared.inline.Inline.Inline, specs.Trees.parts_tree, specs.View.entries_end}

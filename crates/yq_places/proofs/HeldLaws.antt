@@ -1,5 +1,5 @@
 -- A text with its cut, and that it is not too long.
-use Rattle.std.proofs.Common.{◌≡◌, ◌≤◌, ℕ, List, length, subst}
+use Rattle.std.proofs.Common.{◌≤◌, ℕ, List, length, subst}
 use Rattle.yq_text.specs.Limit.{text_limit}
 use Rattle.yq_row_table.specs.View.{RowsView}
 use Rattle.yq_outline.specs.Extents.{IsRowsView}

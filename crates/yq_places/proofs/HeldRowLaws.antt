@@ -1,6 +1,6 @@
 -- The row of a key or dash whose line is its last one, as the code finds it by a walk.
-use Rattle.std.proofs.Common.{rules, ◌≡◌, ℕ, ◌+◌, ◌-◌, ◌<◌, Bool, true, false, not, ◌&&◌, List, [], ◌++◌, length, take, drop, Option, Some}
-use Rattle.std.{proofs.Common.{None, option_map, refl, sym, ap, ◌∙◌, arith, length-append}, proofs.lemmas.Bool.{and_parts, false≢true}}
+use Rattle.std.proofs.Common.{rules, ◌≡◌, ℕ, ◌+◌, ◌-◌, ◌<◌, Bool, true, false, not, ◌&&◌, List, [], length, take, drop, Option, Some, None}
+use Rattle.std.{proofs.Common.{option_map, refl, sym, ap, ◌∙◌, arith, length-append}, proofs.lemmas.Bool.{and_parts, false≢true}}
 use Rattle.std.{proofs.lemmas.Option.{none-some, same_Some, slice_get_within}, specs.List.slice_get}
 use Rattle.yq_core.{specs.Answers.◌>>=◌, specs.Paths.Step, specs.Text.is_empty}
 use Rattle.yq_row_table.{specs.Grammar.IsCut, specs.Rows.{Content, Block, Row, Cut}, specs.RowStarts.row_start, specs.Seams.is_block}

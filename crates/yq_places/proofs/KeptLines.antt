@@ -1,7 +1,7 @@
 -- A line to which steps lead: others lead on from there, also in each text that keeps the rows up to the line's own.
 use Rattle.std.proofs.Common.{◌≡◌, ◌⊎◌, inl, inr, ℕ, zero, suc, ◌+◌, ◌-◌, ◌<◌, ◌≤◌, true, false, List, [], ◌∷◌, ◌++◌, length, map, take}
-use Rattle.std.proofs.Common.{drop, replicate, Option, Some, None, option_map, option_and_then, refl, sym, ap, ◌∙◌, subst, arith, rules}
-use Rattle.std.{proofs.Common.{append-nil, append_assoc, take-take}, proofs.lemmas.Bool.false≢true}
+use Rattle.std.proofs.Common.{drop, replicate, Option, Some, None, option_map, option_and_then, refl, sym, ap, ◌∙◌, arith, append-nil}
+use Rattle.std.{proofs.Common.{append_assoc, take-take}, proofs.lemmas.Bool.false≢true}
 use Rattle.std.proofs.lemmas.List.{drop-take, length-map, map-append, take-append-drop, take-map}
 use Rattle.std.{proofs.lemmas.Option.{same_Some, none-some}, specs.List.slice_get, specs.Option.{is_none, is_some}}
 use mathlib.Core.List.{head-eq_of_cons-eq, tail-eq_of_cons-eq}
@@ -9,14 +9,13 @@ use Rattle.yq_core.{specs.Paths.{Step, is_item}, specs.Text.is_empty, specs.Tree
 use Rattle.yq_outline.{specs.Ends.{found_line, line_at_steps, part, reached}, specs.Extents.lines_before_mark, specs.Group.group}
 use Rattle.yq_outline.specs.Outline.{LineMark, Bare, Key, Dash, Line, level, Outline, end, row, key_of}
 use Rattle.yq_outline.specs.Places.{Context, here, below, beside, compose, lines_before, FoundLine, find_row, place_inside, in_head}
-use Rattle.yq_outline.{specs.Places.{bare_or, find}, specs.Positions.{if_head, reach_from, reach_in, reach_under}}
-use Rattle.yq_outline.{specs.Comments.head_comment, specs.Lines.{head_of, line_mark, row_lines, lines_of_rows}}
+use Rattle.yq_outline.{specs.Places.{bare_or, find}, specs.Positions.{if_head, reach_from, reach_under}, specs.Comments.head_comment}
+use Rattle.yq_outline.specs.Lines.{head_of, line_mark, row_lines, lines_of_rows}
 use Rattle.yq_outline.{specs.RowWalk.{HasDocument, HasRows, IsLine, line_number}, specs.declared.line_position.Position.Position}
 use Rattle.yq_outline.{specs.declared.line_position.Stretch.Stretch, proofs.PathLines.last_line, proofs.WalkEnds.lines_upto}
 use Rattle.yq_outline.{proofs.WalkLevels.{RowAgrees, RowsAgree, last_is}, proofs.WalkPositions.{get_taken, located}}
 use Rattle.yq_outline.proofs.WalkRows.{rows_agree}
-use Rattle.yq_row_table.specs.Rows.{Row, RowMark, dashes_text}
-use Rattle.yq_row_table.specs.View.{Slices, slices, RowsView, colon_of, content_cut, key_of_mark, last_dash}
+use Rattle.yq_row_table.{specs.Rows.{Row, RowMark, dashes_text}, specs.View.{Slices, slices, RowsView, colon_of, key_of_mark, last_dash}}
 use Rattle.yq_row_walk.specs.Walk.{LeadOnBy}
 use Rattle.yq_places.{proofs.FoundLaws.{found_in_lines, inside_number}, proofs.SearchLaws.agree_front, proofs.UnderExchange.lines_append}
 use Rattle.yq_places.{proofs.StrippedLines.{from_strip, line_strip, shape_lines, stripped}, proofs.UptoLaws.{and_then_some, line_stays}}

@@ -4,7 +4,7 @@ use Rattle.std.proofs.Common.{option_map, Bool, true, false, cond, refl, sym, ap
 use Rattle.std.{proofs.Math.Seq.{drop-append_seam, take-append_seam}, proofs.lemmas.Bool.{cond-false, ne_eqb, eqb-true, ltb-true}}
 use Rattle.std.{proofs.lemmas.List.{length-drop, take-append-drop}, proofs.lemmas.Option.{cond_some, same_Some}}
 use Rattle.std.{proofs.lemmas.Str.IsCharBoundary-at_seam, specs.List.slice_get, specs.Str.{IsUtf8, IsCharBoundary}}
-use Rattle.yq_core.{specs.Answers.◌>>=◌, specs.Paths.Step, specs.Text.{joined, text_lines}, proofs.Bools.bind_some}
+use Rattle.yq_core.{specs.Paths.Step, specs.Text.{joined, text_lines}, proofs.Bools.bind_some}
 use Rattle.yq_outline.{specs.Comments.head_comment, specs.Ends.{line_at_steps, lines_end}, specs.Outline.Line}
 use Rattle.yq_outline.{specs.Lines.{lines_from, row_lines, lines_of_rows}, specs.RowWalk.line_number}
 use Rattle.yq_outline.{specs.declared.line_position.Position.Position, specs.declared.line_position.Stretch.Stretch}

@@ -5,7 +5,7 @@ use Rattle.std.proofs.Math.Seq.{drop-append_seam, take-append_seam, take-append-
 use Rattle.std.{proofs.lemmas.Bool.{false≢true, cond-true, cond-false}, proofs.lemmas.List.{length-map, map-append, nil_from_length}}
 use Rattle.std.{proofs.lemmas.List.Sums.{sum_by-cons, sum_by-append}, proofs.lemmas.Option.same_Some, specs.List.{slice_get, sum_by}}
 use Rattle.std.specs.Str.{IsUtf8, IsCharBoundary}
-use Rattle.yq_core.{specs.Answers.◌>>=◌, proofs.Bools.{bind_some, guard_then}}
+use Rattle.yq_core.proofs.Bools.{bind_some, guard_then}
 use Rattle.yq_row_table.{specs.Grammar.{unlimited, AreRows, IsCut, no_rows}, specs.Offsets.row_length}
 use Rattle.yq_row_table.{specs.Rows.{Row, rows_text, Part, part_text, Cut, last, marked}, specs.Splices.nth_part}
 use Rattle.yq_row_table.{specs.View.{Slices, slices, Bound, bounds_from, bounds_of, rows_of, RowsView, rows_view}, specs.RowStarts.part_end}

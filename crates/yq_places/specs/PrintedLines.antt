@@ -2,7 +2,7 @@
 use Rattle.std.specs.Prelude.{ℕ, suc, ◌+◌, ◌&&◌, List, [], ◌∷◌, ◌++◌, length, drop, replicate, Option, Some, None, Bool, false}
 use Rattle.std.specs.Prelude.{if◌then◌else◌}
 use Rattle.yq_core.specs.Text.{is_empty, is_feed, is_return}
-use Rattle.yq_row_table.{specs.Rows.{Content, Nothing, mark_text, content_text, Row, last}, specs.View.content_cut}
+use Rattle.yq_row_table.{specs.Rows.{Content, Nothing, mark_text, content_text, Row}, specs.View.content_cut}
 use Rattle.yq_outline.{specs.Lines.{mark_line, dash_line}, specs.Outline.Line, specs.Positions.has_no_mark}
 use Rattle.yq_documents.specs.Pieces.{TextPiece, head_piece}
 use Rattle.yq_outline.specs.Comments as comments

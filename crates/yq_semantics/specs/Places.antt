@@ -1,6 +1,6 @@
 -- Where steps lead in a document, from places to places (yq manual; own).
 use Rattle.std.specs.Prelude.{ℕ, suc, List, [], ◌∷◌, ◌++◌, map, Option, Some, None}
-use Rattle.yq_core.{specs.Paths.{To, Nth}, specs.Tree.{Label, Node, alias, scalar, list, Children, none, child}}
+use Rattle.yq_core.{specs.Paths.{To, Nth}, specs.Tree.{Node, alias, scalar, list, Children, none, child}}
 use Rattle.yq_semantics.specs.declared.refusal.Refusal.TheVariants.{NotASequence, ThroughAlias}
 use Rattle.yq_semantics.specs.Judgement.{Judgement, and_then, gives, refuses}
 use Rattle.yq_semantics.{specs.Matching.{ChildFound, in_scalar, key_step, index_step}, specs.Program.{PathStep, key, index, each}}

@@ -15,7 +15,7 @@ headed_size : (texts : List (List ℕ)) (cs : Children) → items_among (headed 
 headed_size texts none = refl
 headed_size texts (child l n cs) = refl
 
-led_size : (block : Bool) (lead : List (List ℕ)) (path : List Step) (v : Node) → items_in (led block lead path v) ≡ items_in v
+pub led_size : (block : Bool) (lead : List (List ℕ)) (path : List Step) (v : Node) → items_in (led block lead path v) ≡ items_in v
 led_size true lead [] (alias n) = refl
 led_size true lead [] (scalar a k t) = refl
 led_size true lead [] (list a cs) = headed_size lead cs
@@ -48,7 +48,7 @@ no_child : (s : Step) (cs : Children) (n : Node) → child_at s cs ≡ Some n �
 no_child s none n h e = none-some _ h
 no_child s (child l m cs) n h e = absurd (cc)
 
-path_size : (path : List Step) (f : Node → Node) (root n : Node) → node_at path root ≡ Some n → items_in (changed_at path f root) + items_in n ≡ items_in root + items_in (f n)
+pub path_size : (path : List Step) (f : Node → Node) (root n : Node) → node_at path root ≡ Some n → items_in (changed_at path f root) + items_in n ≡ items_in root + items_in (f n)
 path_size [] f root n h = let same : root ≡ n = same_Some root n h in rw same (omega arith)
 path_size (s ∷ ss) f root n h = go (λ m k. path_size ss f m n k) (child_at s (children_of root)) refl h
   where
@@ -66,7 +66,7 @@ path_size (s ∷ ss) f root n h = go (λ m k. path_size ss f m n k) (child_at s 
         omega (arith, inside, there)
 
 -- documents with one changed
-nth_size : (n : ℕ) (f : Document → Document) (docs : List Document) (d : Document) → slice_get docs n ≡ Some d →
+pub nth_size : (n : ℕ) (f : Document → Document) (docs : List Document) (d : Document) → slice_get docs n ≡ Some d →
     items_of_all (change_nth n f docs) + items_in d.root ≡ items_of_all docs + items_in (f d).root
 nth_size n f [] d h = absurd (none-some _ h)
 nth_size zero f (x ∷ xs) d h = let same : x ≡ d = same_Some x d h in rw same (omega arith)
@@ -76,7 +76,7 @@ nth_size (suc n) f (x ∷ xs) d h = omega (arith, nth_size n f xs d h)
 path_holds : (path : List Step) (root n : Node) → node_at path root ≡ Some n → items_in n ≤ items_in root
 path_holds path root n h = omega (arith, path_size path (λ m. alias []) root n h)
 
-nth_holds : (n : ℕ) (docs : List Document) (d : Document) → slice_get docs n ≡ Some d → items_in d.root ≤ items_of_all docs
+pub nth_holds : (n : ℕ) (docs : List Document) (d : Document) → slice_get docs n ≡ Some d → items_in d.root ≤ items_of_all docs
 nth_holds n docs d h = omega (arith, nth_size n (λ d. record { lead = []; root = alias [] }) docs d h)
 
 -- after a value is put, documents hold what is in it at least

@@ -1,16 +1,15 @@
 -- How long the text is that a scalar means: a text has two bytes at least for each eight bytes of that.
 use Rattle.std.proofs.Common.{◌≡◌, ℕ, zero, suc, ◌+◌, ◌*◌, ◌-◌, ◌≤◌, ◌/◌, Bool, true, false, ◌&&◌, not, List, [], ◌∷◌, ◌++◌, length, take}
-use Rattle.std.proofs.Common.{drop, Option, Some, None, refl, ap, arith, length-append, length-take, length-drop, min, rules, slice_index}
+use Rattle.std.proofs.Common.{drop, Option, Some, None, arith, length-append, length-take, length-drop, min, rules, slice_index}
 use Rattle.std.{proofs.Common.{if◌then◌else◌, ◌==◌}, proofs.lemmas.Str.{length-encode, len_utf8_bounds}}
 use Rattle.std.{proofs.lemmas.List.length-replicate, proofs.lemmas.Bool.false≢true}
 use Rattle.yq_core.{specs.Block.{BlockText, RawLines, AreRaw, no_lines}, specs.declared.block_header.BlockStyle.BlockStyle}
-use Rattle.yq_core.specs.BlockContent.{text_of_line, unindented, part_of, optional_break, literal, joint, chomped_end, is_spaced_line}
-use Rattle.yq_core.{specs.BlockContent.{strips, block_lines_content, block_content}, specs.declared.block_header.Chomping.Chomping}
+use Rattle.yq_core.specs.BlockContent.{unindented, part_of, optional_break, literal, joint, chomped_end, is_spaced_line, strips}
+use Rattle.yq_core.{specs.BlockContent.{block_lines_content, block_content}, specs.declared.block_header.Chomping.Chomping}
 use Rattle.yq_core.specs.ContentReading.{BlankBefore, within, after, one_break_more, item_with_blanks, content_on, quoted_item, item_len}
-use Rattle.yq_core.specs.ContentReading.{item_before, quoted_text, quoted_content, plain_content, escaped, escaped_len, break_len, is_pair}
-use Rattle.yq_core.{specs.Lines.spaces, specs.Quoted.{Gap, folded, joined, gap_text, letters, beside}}
-use Rattle.yq_core.{specs.Scalar.{of_kind, plain_of, string_of}, specs.QuotedReading.{leading_escape, coded, hex, lettered}}
-use Rattle.yq_core.{specs.Scalars.{scalar_of, is_quoted}, specs.SchemaReading.resolve}
+use Rattle.yq_core.specs.ContentReading.{item_before, quoted_content, plain_content, escaped, escaped_len, break_len, is_pair}
+use Rattle.yq_core.{specs.Lines.spaces, specs.Quoted.{folded, joined}, specs.Scalar.{of_kind, plain_of, string_of}}
+use Rattle.yq_core.{specs.QuotedReading.leading_escape, specs.Scalars.{scalar_of, is_quoted}, specs.SchemaReading.resolve}
 use Rattle.yq_core.specs.Text.{is_white, is_feed, is_break, front, is_line, upto, ends_line}
 use Rattle.yq_core.{specs.declared.block_lines.TextIndent.TextIndent, specs.declared.block_types.LineBefore.LineBefore}
 use Rattle.yq_core.specs.declared.kind.Kind.{Kind}

@@ -32,7 +32,7 @@ module _ (old new : ℕ → Room) where
 
 -- ---- the rooms after an operation
 
-nth_changed : {A : Type 0} (n : ℕ) (f : A → A) (xs : List A) (x : A) → slice_get xs n ≡ Some x → slice_get (change_nth n f xs) n ≡ Some (f x)
+pub nth_changed : {A : Type 0} (n : ℕ) (f : A → A) (xs : List A) (x : A) → slice_get xs n ≡ Some x → slice_get (change_nth n f xs) n ≡ Some (f x)
 nth_changed n f [] x h = absurd (cc)
 nth_changed zero f (y ∷ ys) x h = ap (λ o. option_map f o) h
 nth_changed (suc n) f (y ∷ ys) x h = nth_changed n f ys x h

@@ -79,14 +79,14 @@ list_fits root p a cs (child label v ds) items trees h =
     k0 : Unrefused root p (appends None v ∷ additions none ds) → (has_long_key v ≡ false) × (is_deep (suc (length p)) v ≡ false)
     k0 k = ((or_parts (has_long_key v) (list_any writes_long_key (additions none ds)) k.0).0, (or_parts (is_deep (suc (length p)) v) (list_any (λ y. is_deep (suc (length p)) (value_in y)) (additions none ds)) k.1).0)
 
-other_append : (j k : List ℕ) (v : Node) (es : Children) → j ≢ k → child_at (To k) (append_child (key_label (Some j)) v es) ≡ child_at (To k) es
+pub other_append : (j k : List ℕ) (v : Node) (es : Children) → j ≢ k → child_at (To k) (append_child (key_label (Some j)) v es) ≡ child_at (To k) es
 other_append j k v none d = cond-false (key_is k (Some j)) (Some v) None (bytes_differ j k d)
 other_append j k v (child label n es) d = ap (λ (o : Option Node). cond (key_is k label.key) (Some n) o) (other_append j k v es d)
 
-key_same : (j : List ℕ) (o : Option (List ℕ)) → key_is j o ≡ true → o ≡ Some j
+pub key_same : (j : List ℕ) (o : Option (List ℕ)) → key_is j o ≡ true → o ≡ Some j
 key_same j o h = search (rules, false≢true, bytes_same)
 
-other_change : (j k : List ℕ) (f : Node → Node) (es : Children) → j ≢ k → child_at (To k) (change_child (To j) f es) ≡ child_at (To k) es
+pub other_change : (j k : List ℕ) (f : Node → Node) (es : Children) → j ≢ k → child_at (To k) (change_child (To j) f es) ≡ child_at (To k) es
 other_change j k f none d = refl
 other_change j k f (child label n es) d = search (rules, key_same, bytes_differ, cond-false, other_change j k f es d)
 

@@ -25,7 +25,7 @@ find_past_item : (r : ℕ) (d : Option NodeEdit) → d ≢ Some goes → (label 
 find_past_item r d stays label m rest = search (rules, child_kept_or_gone)
 
 -- an item is no entry
-no_entry : (r : ℕ) (cs : Children) → AreEntries cs → child_at (Nth r) cs ≡ None
+pub no_entry : (r : ℕ) (cs : Children) → AreEntries cs → child_at (Nth r) cs ≡ None
 no_entry r none h = refl
 no_entry zero (child label n cs) h = ap (λ (o : Option (List ℕ)). cond (is_item o) (Some n) (child_at (Nth 0) cs)) h.0.1 ∙ no_entry 0 cs h.1
 no_entry (suc r) (child label n cs) h = no_entry r cs h.1

@@ -70,7 +70,7 @@ nested_tree (_ ∷ ms) v h = nested_tree ms v h
 put_fits : (room : Room) (root : Node) (v : Node) → IsPure v → SoFits room root (λ p. put_with_path p v)
 put_fits room root v pure p cs tree at miss h = search (rules, then_gives, gives_same, puts_fit, nested_free, or_parts, nested_tree, cases_Bool)
 
-addition_value : (cs : Children) (o : Option (List ℕ)) (v : Node) → value_in (addition cs o v) ≡ v
+pub addition_value : (cs : Children) (o : Option (List ℕ)) (v : Node) → value_in (addition cs o v) ≡ v
 addition_value cs o v = search rules
 
 adds_none : (cs ds : Children) → HaveNoAlias ds → AddNone (additions cs ds)

@@ -50,15 +50,15 @@ MayChange room root (p, sets_comment place text) = MayComment room place p text 
 abbrev pub AreFit : Room → Node → List Changed → Type 0
 AreFit room root cs = Each (λ (c : Changed). MayChange room root c × WritesNone c.1) cs
 
-child_changed : (s : Step) (f : Node → Node) (cs : Children) (n : Node) → child_at s cs ≡ Some n → child_at s (change_child s f cs) ≡ Some (f n)
+pub child_changed : (s : Step) (f : Node → Node) (cs : Children) (n : Node) → child_at s cs ≡ Some n → child_at s (change_child s f cs) ≡ Some (f n)
 child_changed s f none n h = absurd (cc)
 child_changed s f (child label m cs) n h = search (rules, same_Some, child_changed (further s) f cs n)
 
-children_within : (s : Step) (f : Node → Node) (r n : Node) → child_at s (children_of r) ≡ Some n → child_at s (children_of (within (change_child s f) r)) ≡ Some (f n)
+pub children_within : (s : Step) (f : Node → Node) (r n : Node) → child_at s (children_of r) ≡ Some n → child_at s (children_of (within (change_child s f) r)) ≡ Some (f n)
 children_within s f r n h1 = search (rules, child_changed)
 
 -- the node at a path, changed
-node_change : (p : List Step) (f : Node → Node) (r n : Node) → node_at p r ≡ Some n → node_at p (changed_at p f r) ≡ Some (f n)
+pub node_change : (p : List Step) (f : Node → Node) (r n : Node) → node_at p r ≡ Some n → node_at p (changed_at p f r) ≡ Some (f n)
 node_change [] f r n h = let same : r ≡ n = cc in ap (λ (x : Node). Some (f x)) same
 node_change (s ∷ p) f r n h = go (child_at s (children_of r)) refl (λ m. node_change p f m n) h
   where

@@ -3,9 +3,9 @@ use Rattle.yq_core.specs.Entries.{tree_step}
 use Rattle.yq_semantics.{specs.Changes.{Changed, all_allowed}, specs.Judgement.{Judgement, and_then, gives}, specs.PlacesApart.AreIn}
 use Rattle.yq_semantics.specs.Places.{FoundPlace}
 use Rattle.yq_planner.specs.ChangeView.{changes_below}
-use Rattle.yq_expr.{specs.JudgedChanges.effect_of, proofs.AllChanges.each_done}
-use Rattle.yq_eval.{specs.PlaceView.{node_step_of, place_of}, specs.TreeScalars.HaveScalars}
-use Rattle.yq_eval.proofs.EachLaws.{each_more, each_fails, reached}
+use Rattle.yq_expr.specs.JudgedChanges.{effect_of}
+use Rattle.yq_eval.{proofs.EachLaws.{each_all, each_more, each_fails, reached}, specs.PlaceView.{node_step_of, place_of}}
+use Rattle.yq_eval.specs.TreeScalars.{HaveScalars}
 use Rattle.yq_expr.proofs.at_node.at_each_below.Goals as goal
 
 pub push_below-requires-clause-scalars : goal.push_below-requires-clause-scalars
@@ -49,5 +49,5 @@ pub returns-clause-changes : goal.returns-clause-changes
 returns-clause-changes c = λ root named within.
     let f : FoundPlace → Judgement (List Changed) = λ q. and_then (all_allowed root) (effect_of c.args.effect.now c.args.documents.now q) in
     let past : length c.args.places.now ≤ c.places.place-index = omega (arith, c.places-test.false) in
-    each_done place_of f (changes_below (map tree_step c.args.front.items) c.places.so_far.changes.items) c.args.places.now c.places.place-index _ past (c.places.invariant.so_far root named within)
+    each_all place_of f (changes_below (map tree_step c.args.front.items) c.places.so_far.changes.items) c.args.places.now c.places.place-index _ past (c.places.invariant.so_far root named within)
     ∙ ap gives (sym (c.ended.ensures.changes ∙ ap (λ xs. changes_below xs c.places.so_far.changes.items) c.places.invariant.steps))

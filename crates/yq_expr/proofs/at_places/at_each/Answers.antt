@@ -2,8 +2,9 @@ use Rattle.std.{proofs.Common.{Err, List, map, ap, sym, ◌∙◌, subst, arith,
 use Rattle.yq_semantics.{specs.Changes.{Changed, all_allowed}, specs.Judgement.{Judgement, and_then, gives}, specs.PlacesApart.AreIn}
 use Rattle.yq_semantics.specs.Places.{FoundPlace}
 use Rattle.yq_planner.specs.ChangeView.{changed_of}
-use Rattle.yq_expr.{specs.JudgedChanges.effect_of, proofs.AllChanges.each_done}
-use Rattle.yq_eval.{specs.PlaceView.place_of, specs.TreeScalars.HaveScalars, proofs.EachLaws.{each_more, each_fails, failed, reached}}
+use Rattle.yq_expr.specs.JudgedChanges.{effect_of}
+use Rattle.yq_eval.{proofs.EachLaws.{each_all, each_more, each_fails, failed, reached}, specs.PlaceView.place_of}
+use Rattle.yq_eval.specs.TreeScalars.{HaveScalars}
 use Rattle.yq_expr.proofs.at_places.at_each.Goals as goal
 
 pub returns-in_err-at_place-clause-changes : goal.returns-in_err-at_place-clause-changes
@@ -35,5 +36,5 @@ pub returns-clause-changes : goal.returns-clause-changes
 returns-clause-changes c = λ root named within.
     let f : FoundPlace → Judgement (List Changed) = λ q. and_then (all_allowed root) (effect_of c.args.effect.now c.args.documents.now q) in
     let past : length c.args.places.now ≤ c.places.place-index = omega (arith, c.places-test.false) in
-    each_done place_of f (map changed_of c.places.changes.items) c.args.places.now c.places.place-index _ past (c.places.invariant.so_far root named within)
+    each_all place_of f (map changed_of c.places.changes.items) c.args.places.now c.places.place-index _ past (c.places.invariant.so_far root named within)
     ∙ ap gives (sym c.of_root.ensures.changes)

@@ -1,9 +1,10 @@
 use Rattle.std.{proofs.Common.{Err, List, ap, ◌∙◌, subst, rules}, proofs.lemmas.Result.err_from_is_err_and}
 use Rattle.yq_semantics.{specs.Changes.{Changed, all_allowed}, specs.Judgement.{Judgement, and_then}, specs.PlacesApart.AreIn}
 use Rattle.yq_semantics.specs.Places.{FoundPlace}
-use Rattle.yq_expr.{specs.JudgedChanges.effect_of, proofs.AllChanges.each_done, proofs.ChildPlaces.nothing_before}
+use Rattle.yq_expr.{specs.JudgedChanges.effect_of, proofs.ChildPlaces.nothing_before}
 use Rattle.yq_expr.proofs.VerdictLaws.{after_given, after_fails, verdict_fails}
-use Rattle.yq_eval.{specs.PlaceView.place_of, specs.TreeScalars.HaveScalars, proofs.EachLaws.{each_more, each_fails, failed, reached}}
+use Rattle.yq_eval.{proofs.EachLaws.{each_all, each_more, each_fails, failed, reached}, specs.PlaceView.place_of}
+use Rattle.yq_eval.specs.TreeScalars.{HaveScalars}
 use Rattle.yq_expr.proofs.judged_places.judge_each.Goals as goal
 
 pub places-init : goal.places-init
@@ -38,4 +39,4 @@ places-preserved c =
     }
 
 pub returns : goal.returns
-returns c = search (rules, each_done, c.places.invariant.so_far)
+returns c = search (rules, each_all, c.places.invariant.so_far)

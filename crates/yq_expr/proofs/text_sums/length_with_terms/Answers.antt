@@ -1,4 +1,4 @@
-use Rattle.std.proofs.Common.{◌+◌, ◌≤◌, drop, length, map, None, ap, ◌∙◌, sym, arith}
+use Rattle.std.proofs.Common.{◌+◌, drop, length, map, None, ap, ◌∙◌, sym, arith}
 use Rattle.yq_core.specs.Tree.{scalar}
 use Rattle.yq_eval.{specs.PlaceView.place_of, proofs.EachLaws.reached}
 use Rattle.yq_semantics.{specs.RightValues.{sum_from, term_value}, specs.View.term_of}

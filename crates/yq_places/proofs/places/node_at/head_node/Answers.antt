@@ -1,4 +1,4 @@
-use Rattle.std.{proofs.Common.{◌∙◌, rules}, proofs.lemmas.List.length-map}
+use Rattle.std.{proofs.Common.rules, proofs.lemmas.List.length-map}
 use Rattle.yq_places.proofs.NodeAtLaws.{scalar_steps, scalar_there}
 use Rattle.yq_places.proofs.places.node_at.head_node.Goals as goal
 
