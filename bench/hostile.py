@@ -131,7 +131,7 @@ SUMMED = {
 ENTRIES = [".[] += {" + ",".join(f'"k{number}":1' for number in range(count)) + "}" for count in (20, 100, 400)]
 BELOW = "del(." + "[]" * 60 + ".a[])"
 OWN = {name: SUMS for name in SUMMED} | {
-    "a long string": SUMS,
+    "a long string": [*SUMS, ".[0] += " + "+".join([".[0]"] * 240)],
     "ten long strings": SUMS,
     "mappings and nulls": ENTRIES[:2],
     "few mappings and nulls": ENTRIES[2:],

@@ -156,7 +156,7 @@ def check_sums_that_no_text_holds(folder):
     of_root, of_a = "+".join(["."] * 140), "+".join([".a"] * 140)
     of_itself, of_first = "+".join(["."] * 600), "+".join([".[0]"] * 600)
     wanted = [*(("bare dashes", f". {operator} {of_root}") for operator in ("=", "|=", "+=")), ("commas", f".b = {of_a}")]
-    wanted += [("a long string", f".[] |= {of_itself}"), ("a long string", f".[0] = {of_first}")]
+    wanted += [("a long string", update) for update in (f".[] |= {of_itself}", f".[0] = {of_first}", f".[0] += {of_first}")]
     for name, expression, status, seconds, megabytes in runs(folder, wanted, 8 * MANY):
         within = status, seconds <= SECONDS, megabytes <= MEGABYTES
         equal(within, (1, True, True), (name, expression[:9], status, seconds, megabytes))

@@ -7,8 +7,8 @@ use Rattle.yq_nodes.specs.Nodes.{node_of}
 use Rattle.yq_semantics.{specs.Judgement.gives, specs.Pipes.places, specs.Program.Stage, proofs.updates.PipePlaces.places_are_there}
 use Rattle.yq_eval.{specs.FoundView.found_places, specs.TreeScalars.HasScalars, proofs.MatchLaws.{document_there, places_have}}
 use Rattle.yq_eval.proofs.TreeScalarLaws.{documents_have}
-use Rattle.yq_expr.{specs.DocumentPlaces.{AreInDocument, IsDocumentRoot}, specs.declared.document.DocumentPlaces.DocumentPlaces}
-use Rattle.yq_expr.specs.declared.document.DocumentRoot.{DocumentRoot}
+use Rattle.yq_expr.{specs.DocumentPlaces.{AreInDocument, IsDocumentRoot}, specs.declared.plans.document.DocumentPlaces.DocumentPlaces}
+use Rattle.yq_expr.specs.declared.plans.document.DocumentRoot.{DocumentRoot}
 
 -- a document of a text that is ready
 pub document_root : (d : DocumentRoot) → TextIsReady d.documents.now → d.doc < length (documents_of d.documents.now) →

@@ -13,7 +13,7 @@ use Rattle.yq_semantics.{proofs.sizes.RowSizes.under_anchor, proofs.updates.Apar
 use Rattle.yq_semantics.{proofs.updates.Folds.path_same, proofs.updates.OneAt.{change_none, one_becomes, change_twice}}
 use Rattle.yq_semantics.{proofs.updates.PlanMeans.after_join, proofs.updates.Spares.{IsSpared, Spares, idle}}
 use Rattle.yq_semantics.proofs.updates.AlikeRooms.{nth_changed}
-use Rattle.yq_expr.{specs.Oversized.{BeginsOversized, items_limit}, proofs.EntryLaws.entries_size}
+use Rattle.yq_expr.{specs.Oversized.BeginsOversized, specs.SumSizes.items_limit, proofs.EntryLaws.entries_size}
 use Rattle.yq_expr.proofs.MergeSizes.{items_of, merge_there, merged}
 use Rattle.yq_expr.proofs.Gains.{AreAppends, Gain, GainSome, appended, appends, each_writes, merges, no_more, nothing, one_place, puts}
 

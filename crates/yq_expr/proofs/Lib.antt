@@ -11,7 +11,7 @@ pub mod SubstituteLaws
 pub mod VerdictLaws
 pub mod FixedLaws
 pub mod OversizedLaws
-pub mod TextSumLaws
+pub mod SumLaws
 pub mod EntryLaws
 pub mod MergeSizes
 pub mod Gains

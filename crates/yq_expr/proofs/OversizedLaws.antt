@@ -1,23 +1,18 @@
--- Sums of lists of known sizes.
-use Rattle.std.proofs.Common.{◌≡◌, inl, inr, ℕ, ◌+◌, ◌≤◌, max, arith, false, List, [], ◌∷◌, ◌++◌, None, refl, sym, ap, subst, ◌∙◌}
+-- Items and entries of values and of sums of terms.
+use Rattle.std.proofs.Common.{◌≡◌, inl, inr, ℕ, ◌+◌, ◌≤◌, max, arith, false, List, [], ◌∷◌, ◌++◌, None, refl, sym, subst, ◌∙◌}
 use Rattle.std.proofs.lemmas.Str.{IsUtf8-string_bytes}
-use Rattle.yq_core.{specs.Paths.append_children, specs.Tree.{Node, alias, scalar, list, Children, none, child}}
+use Rattle.yq_core.specs.Tree.{Node, alias, scalar, list}
 use Rattle.yq_flow_edits.specs.Valued.{IsValueTree, AreValueTrees}
 use Rattle.yq_planner.{specs.ListSizes.HasSize, specs.declared.updating.list_size.ListSize.ListSize}
-use Rattle.yq_semantics.{specs.Judgement.{and_then, gives}, specs.Places.FoundPlace, specs.Program.{Term, PathStep, key, index, each}}
-use Rattle.yq_semantics.{specs.RightValues.{is_null, as_items, right_value, sum, sum_from, term_value}, specs.Sizes.items_in}
-use Rattle.yq_semantics.specs.View.{program_step}
-use Rattle.yq_expr.specs.Oversized.{AddsItems, AreItemsOf, GiveItems, GivesSized, HaveUtf8Keys, ItemsOfSize}
-use Rattle.yq_expr.specs.declared.sum_sizes.SumSize.{SumSize}
+use Rattle.yq_semantics.{specs.Places.FoundPlace, specs.Program.{Term, PathStep, key, index, each}}
+use Rattle.yq_semantics.{specs.RightValues.{as_items, right_value, sum}, specs.Sizes.items_in, specs.View.program_step}
+use Rattle.yq_expr.{specs.SumSizes.{GivesSized, ItemsOfSize}, specs.Oversized.{GiveItems, HaveUtf8Keys}}
+use Rattle.yq_expr.specs.declared.sizes.sum_sizes.SumSize.{SumSize}
 use Rattle.yq_eval.{specs.PlaceView.{missing_link, missing_of}, specs.declared.matching.place.Missing.Missing}
 use Rattle.yq_eval.specs.declared.matching.place.Missing.TheFolds.{fold-roll-Missing, ind-Missing, map-Missing}
 use Rattle.yq_eval.specs.declared.matching.place.Missing.TheOpen.{Missing-F}
 use Rattle.yq_core.specs.Tree as tree
 use Rattle.yq_semantics.specs.declared.program.PathStep as program
-
-valid_both : (cs ds : Children) → AreValueTrees false cs → AreValueTrees false ds → AreValueTrees false (append_children cs ds)
-valid_both none ds h k = k
-valid_both (child l n cs) ds h k = (h.0, h.1, valid_both cs ds h.2 k)
 
 -- what a list gets from a valid value is valid
 pub valid_items : (v : Node) → IsValueTree v → AreValueTrees false (as_items v)
@@ -25,22 +20,6 @@ valid_items (alias n) h = absurd h
 valid_items (scalar a k t) h = (refl, h, tt)
 valid_items (list a cs) h = h.1
 valid_items (tree.map a cs) h = (refl, h, tt)
-
--- a list and a value that isn't null
-added_list : (ds : Children) (u : Node) → is_null u ≡ false → sum (list None ds) u ≡ gives (list None (append_children ds (as_items u)))
-added_list ds u h = rw h refl
-
--- a list with the value of one term more, and others after it
-pub one_more : (doc : ℕ) (p : FoundPlace) (ds : Children) (t : Term) (ts : List Term) (total size with_it : ListSize) → AreItemsOf ds total → AddsItems (term_value doc p t) size →
-    ((cs es : Children) → HasSize (list None cs) total → HasSize (list None es) size → HasSize (list None (append_children cs es)) with_it) →
-    (es : Children) × AreItemsOf es with_it × (sum_from doc p (list None es) ts ≡ sum_from doc p (list None ds) (t ∷ ts))
-one_more doc p ds t ts total size with_it h k both =
-    let u = k.0 in
-    let items = append_children ds (as_items u) in (
-      items,
-      record { valid = valid_both ds (as_items u) h.valid k.3.valid; sized = both ds (as_items u) h.sized k.3.sized },
-      sym (ap (and_then (λ v. and_then (λ w. sum_from doc p w ts) (sum (list None ds) v))) k.1 ∙ ap (and_then (λ w. sum_from doc p w ts)) (added_list ds u k.2)),
-    )
 
 -- a list has as many items and entries at least after it got a value as are in that
 pub added_items : (v : Node) → items_in v ≤ items_in (list None (as_items v))

@@ -1,19 +1,17 @@
 -- The operations of an update that gives a place what no text can hold.
 use Rattle.std.proofs.Common.{◌≡◌, inl, inr, ℕ, zero, suc, true, false, List, [], ◌∷◌, ◌++◌, drop, length, None, if◌then◌else◌, Bool, refl}
-use Rattle.std.{proofs.Common.{sym, ap, ◌∙◌, subst, arith, append_assoc, one-mul}, proofs.lemmas.Bool.false≢true}
-use Rattle.std.proofs.lemmas.List.{length-map}
-use Rattle.yq_core.{specs.Shapes.IsTree, specs.Tree.{Node, list}}
+use Rattle.std.{proofs.Common.{sym, ap, ◌∙◌, subst, append_assoc}, proofs.lemmas.Bool.false≢true, proofs.lemmas.List.length-map}
+use Rattle.yq_core.{specs.Shapes.IsTree, specs.Tree.{Node, list, scalar}}
 use Rattle.yq_semantics.specs.Changes.{Room, Changed, add_at, at_each, changes_at, left_pipe, put_with_path, with_value}
 use Rattle.yq_semantics.{specs.Judgement.{Judgement, and_then, gives}, specs.Operations.Operation, specs.Pipes.places}
 use Rattle.yq_semantics.{specs.Places.{FoundPlace, root_place}, specs.Plans.ops_of}
 use Rattle.yq_semantics.{specs.Program.{Stage, Term, Update, UpdatesHold, assign, delete, comment}, specs.RightValues.right_value}
-use Rattle.yq_semantics.{specs.Sizes.items_in, specs.PlacesApart.AreApart, specs.View.update_of, specs.declared.program.Operator.Operator}
-use Rattle.yq_semantics.{proofs.JudgementLaws.{gives_same, then_gives}, proofs.updates.Each.joined_gives}
-use Rattle.yq_semantics.proofs.updates.SumValues.{right_pure}
-use Rattle.yq_expr.specs.Oversized.{BeginsLarge, BeginsOversized, GivesAt, GivesOversizedOps, HaveUtf8Keys, IsList, IsOversized, IsSpread}
-use Rattle.yq_expr.{specs.Oversized.{MayGiveOversized, is_scalar_node}, proofs.OversizedLaws.missing_keys}
-use Rattle.yq_expr.proofs.SpreadOps.{AllHaveUtf8Keys, ComesWhole, adds_begin, modified_begins, puts_begin}
-use Rattle.yq_expr.{specs.Parts.{document_ops, rest_ops}, specs.declared.document.DocumentRoot.DocumentRoot}
+use Rattle.yq_semantics.{specs.PlacesApart.AreApart, specs.View.update_of, proofs.JudgementLaws.{gives_same, then_gives}}
+use Rattle.yq_semantics.{proofs.updates.Each.joined_gives, proofs.updates.SumValues.right_pure}
+use Rattle.yq_expr.specs.Oversized.{BeginsLarge, BeginsOversized, GivesAt, GivesOversizedOps, HaveUtf8Keys, MayGiveOversized}
+use Rattle.yq_expr.{specs.SumSizes.IsSpread, proofs.OversizedLaws.missing_keys}
+use Rattle.yq_expr.proofs.SpreadOps.{AllHaveUtf8Keys, ComesWhole, adds_begin, modified_begins, puts_begin, string_begins}
+use Rattle.yq_expr.{specs.Parts.{document_ops, rest_ops}, specs.declared.plans.document.DocumentRoot.DocumentRoot}
 use Rattle.yq_expr.proofs.PartLaws.{changes_both, ops_join, ops_there, rest_there}
 use Rattle.yq_documents.specs.Documents.{Document}
 use Rattle.yq_nodes.specs.Nodes.{node_of}
@@ -22,6 +20,7 @@ use Rattle.yq_core.specs.Tree as tree
 use Rattle.yq_eval.specs.declared.matching.place.FoundPlace as found
 use Rattle.yq_semantics.specs.declared.program.Update as declared
 use Rattle.yq_semantics.specs.declared.program.Operator.TheVariants as operator
+use Rattle.yq_core.specs.declared.kind.Kind.TheVariants as kinds
 
 -- ---- others after them
 
@@ -46,24 +45,31 @@ module _ (doc : ℕ) (room : Room) (root v : Node) (right : List Term) (found : 
   spread_begins true ps cs s whole keys apart left h = adds_begin doc root v s.valid ps keys apart s.more cs (whole refl) (each_gets add_at ps cs h)
   spread_begins false ps cs s whole keys apart left h = puts_begin doc root v s.valid ps keys apart s.more cs (each_gets put_with_path ps cs h)
 
--- a value that no text can hold, at one place
-sole_spread : (op : Operator) (v : Node) → IsOversized op v → IsSpread v 1
-sole_spread op v big = record { valid = big.valid; more = omega (arith, big.more, one-mul (items_in v)) }
-
 -- a list comes whole
-list_whole : (v : Node) → IsList v → ComesWhole v
-list_whole v (cs, is) = record { no_scalar = ap is_scalar_node is; apart = λ es other. absurd (let both : list None cs ≡ tree.map None es = sym is ∙ other in cc) }
+list_whole : (cs : Children) → ComesWhole (list None cs)
+list_whole cs = record { no_scalar = refl; apart = λ es other. absurd (cc) }
 
 -- ---- at the first of places
 
 module _ (doc : ℕ) (room : Room) (root : Node) (p : FoundPlace) (keys : HaveUtf8Keys p.missing) where
+  -- a value that is put, or a list that is added
+  value_begins : (adds : Bool) (left : List Stage) (right : List Term) (v : Node) (cs : List Changed) → right_value doc right (root_place root) ≡ gives v → IsSpread v 1 → (adds ≡ true → ComesWhole v) →
+      changes_at doc room root (assign left (if adds then operator.Add else operator.Set) right) (p ∷ []) ≡ gives cs → BeginsOversized (ops_of doc cs)
+  value_begins adds left right v cs found large whole h = spread_begins doc room root v right found adds (p ∷ []) cs large whole (keys, tt) (tt, tt) left h
+
+  modified_begins_big : (v : Node) (right : List Term) (cs : List Changed) → right_value doc right p ≡ gives v → IsSpread v 1 → at_each root (λ q. and_then (put_with_path q) (right_value doc right q)) (p ∷ []) ≡ gives cs →
+      BeginsOversized (ops_of doc cs)
+  modified_begins_big v right cs found large h =
+      puts_begin doc root v large.valid (p ∷ []) (keys, tt) (tt, tt) large.more cs (sym (ap (λ j. at_each root (λ q. j) (p ∷ [])) (ap (and_then (put_with_path p)) found)) ∙ h)
+
   pub place_begins_big : (u : Update) (cs : List Changed) → GivesAt doc root u p → changes_at doc room root u (p ∷ []) ≡ gives cs → BeginsOversized (ops_of doc cs)
-  place_begins_big (assign left operator.Set right) cs big h = spread_begins doc room root big.0 right big.1 false (p ∷ []) cs (sole_spread operator.Set big.0 big.2) (λ adds. absurd (false≢true adds)) (keys, tt) (tt, tt) left h
-  place_begins_big (assign left operator.Add right) cs big h = spread_begins doc room root big.0 right big.1 true (p ∷ []) cs (sole_spread operator.Add big.0 big.2) (λ _. list_whole big.0 (big.2.added refl)) (keys, tt) (tt, tt) left h
-  place_begins_big (assign left operator.Modify right) cs big h =
-      let s = sole_spread operator.Modify big.0 big.2 in
-      let put = sym (ap (λ j. at_each root (λ q. j) (p ∷ [])) (ap (and_then (put_with_path p)) big.1)) ∙ h in
-      puts_begin doc root big.0 s.valid (p ∷ []) (keys, tt) (tt, tt) s.more cs put
+  place_begins_big (assign left operator.Set right) cs (inl big) h = value_begins false left right (list None big.0) cs big.1 big.2 (λ adds. absurd (false≢true adds)) h
+  place_begins_big (assign left operator.Set right) cs (inr big) h = value_begins false left right (scalar None kinds.Text big.0) cs big.1 big.3 (λ adds. absurd (false≢true adds)) h
+  place_begins_big (assign left operator.Add right) cs (inl big) h = value_begins true left right (list None big.0) cs big.1 big.2 (λ _. list_whole big.0) h
+  place_begins_big (assign left operator.Add right) cs (inr big) h =
+      string_begins doc root p big.0 cs big.2 keys big.3 (each_gets doc room root (scalar None kinds.Text big.0) right big.1 add_at (p ∷ []) cs h)
+  place_begins_big (assign left operator.Modify right) cs (inl big) h = modified_begins_big (list None big.0) right cs big.1 big.2 h
+  place_begins_big (assign left operator.Modify right) cs (inr big) h = modified_begins_big (scalar None kinds.Text big.0) right cs big.1 big.3 h
   place_begins_big (delete left) cs big h = absurd big
   place_begins_big (comment left place text) cs big h = absurd big
 

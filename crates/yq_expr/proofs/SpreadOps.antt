@@ -1,7 +1,7 @@
 -- The operations of a value that is put at places, or added: what comes at each place.
 use Rattle.std.proofs.Common.{◌≡◌, ℕ, zero, suc, ◌+◌, ◌*◌, ◌<◌, ◌≤◌, map, Option, Bool, true, false, List, [], ◌∷◌, ◌++◌, length, None}
 use Rattle.std.proofs.Common.{if◌then◌else◌, refl, sym, ap, ◌∙◌, subst, arith, append-nil, append_assoc, inl, inr, mul-zero, suc-mul}
-use Rattle.std.{proofs.Common.zero-mul, proofs.lemmas.Bool.false≢true, specs.List.list_any}
+use Rattle.std.{proofs.Common.zero-mul, proofs.lemmas.Bool.false≢true, specs.List.list_any, specs.Str.IsUtf8}
 use Rattle.yq_core.{specs.Tree.{Label, Node, alias, scalar, list, Children, none, child}, specs.Paths.Step, specs.Shapes.AreEntries}
 use Rattle.yq_flow_edits.specs.Valued.{IsValueTree, AreValueTrees}
 use Rattle.yq_semantics.specs.Changes.{Changed, Change, replaces, add_at, add_below, added, additions, all_allowed, at_each, created}
@@ -11,10 +11,14 @@ use Rattle.yq_semantics.{specs.Program.{is_index, PathStep, Term, key, index, ea
 use Rattle.yq_semantics.{specs.Sizes.{items_in, items_among}, proofs.JudgementLaws.{gives_same, then_gives}}
 use Rattle.yq_semantics.{proofs.updates.Each.joined_gives, proofs.updates.Planned.all_same}
 use Rattle.yq_semantics.{specs.declared.refusal.Refusal.TheVariants.{IndexOutOfRange, KindMismatch}, specs.PlacesApart.AreApart}
-use Rattle.yq_expr.specs.Oversized.{BeginsOversized, GiveItems, HaveUtf8Keys, is_scalar_node, items_limit}
+use Rattle.yq_semantics.specs.Conditions.{node_there, value_of}
+use Rattle.yq_expr.specs.Oversized.{BeginsOversized, GiveItems, HaveUtf8Keys, is_scalar_node, string_in}
+use Rattle.yq_expr.specs.SumSizes.{items_limit, IsSpread}
 use Rattle.yq_expr.proofs.Gains.{AreAppends, Gain, GainSome, no_more, one_place, appended, appends, merges, nothing, puts}
 use Rattle.yq_expr.{proofs.GrowthLaws.by_gains, proofs.PartLaws.ops_join}
+use Rattle.yq_outline.specs.Outline.{null_node}
 use Rattle.yq_core.specs.Tree as tree
+use Rattle.yq_core.specs.declared.kind.Kind.TheVariants as kinds
 
 -- the keys that are missing at each of places are UTF-8
 abbrev pub AllHaveUtf8Keys : List FoundPlace → Type 0
@@ -34,6 +38,13 @@ nested_valid [] v keys valid = valid
 nested_valid (key k ∷ ms) v keys valid = (refl, ((k, refl, keys.0), nested_valid ms v keys.1 valid, tt))
 nested_valid (index i ∷ ms) v keys valid = nested_valid ms v keys valid
 nested_valid (each ∷ ms) v keys valid = nested_valid ms v keys valid
+
+-- the operations of a change at a path
+change_comes : (doc : ℕ) (path : List Step) (j : Judgement Change) (cs : List Changed) (n : ℕ) → ((c : Change) → j ≡ gives c → Gain doc path n (change_ops doc (path, c))) → and_then (λ c. gives ((path, c) ∷ [])) j ≡ gives cs →
+    Gain doc path n (ops_of doc cs)
+change_comes doc path (refuses why) cs n comes h = absurd (cc)
+change_comes doc path (gives c) cs n comes h =
+    subst (λ xs. Gain doc path n (ops_of doc xs)) (gives_same h) (subst (Gain doc path n) (sym (append-nil (change_ops doc (path, c)))) (comes c refl))
 
 module _ (doc : ℕ) (v : Node) (valid : IsValueTree v) where
   -- by a change at a path so much comes as is in the value
@@ -64,14 +75,8 @@ module _ (doc : ℕ) (v : Node) (valid : IsValueTree v) where
       go true e = absurd (cc)
       go false e = subst (Comes path) (gives_same e) (created_comes path n m ms keys)
 
-  -- the operations of a change at a path
-  at_path : (path : List Step) (j : Judgement Change) (cs : List Changed) → ((c : Change) → j ≡ gives c → Comes path c) → and_then (λ c. gives ((path, c) ∷ [])) j ≡ gives cs → Gain doc path (items_in v) (ops_of doc cs)
-  at_path path (refuses why) cs comes h = absurd (cc)
-  at_path path (gives c) cs comes h =
-      subst (λ xs. Gain doc path (items_in v) (ops_of doc xs)) (gives_same h) (subst (Gain doc path (items_in v)) (sym (append-nil (change_ops doc (path, c)))) (comes c refl))
-
   put_path : (p : FoundPlace) (cs : List Changed) → HaveUtf8Keys p.missing → put_with_path p v ≡ gives cs → Gain doc p.path (items_in v) (ops_of doc cs)
-  put_path p cs keys h = at_path p.path (put_below p.node p.missing v) cs (λ c is. put_comes p.path p.node p.missing c keys is) h
+  put_path p cs keys h = change_comes doc p.path (put_below p.node p.missing v) cs (items_in v) (λ c is. put_comes p.path p.node p.missing c keys is) h
 
 -- ---- a value that is added
 
@@ -122,16 +127,49 @@ so_added doc (scalar a k t) valid whole some = absurd (false≢true (sym whole.n
 so_added doc (list a cs) valid whole some = subst (λ o. SoAdded doc (list o cs)) (sym valid.0) (list_comes doc cs valid.1 some)
 so_added doc (tree.map a cs) valid whole some = subst (λ o. SoAdded doc (tree.map o cs)) (sym valid.0) (mapping_comes doc cs valid.1 (whole.apart cs (ap (λ o. tree.map o cs) valid.0)) some)
 
-module _ (doc : ℕ) (v : Node) (valid : IsValueTree v) (so : SoAdded doc v) where
-  there_comes : (p : FoundPlace) (cs : List Changed) → HaveUtf8Keys p.missing → add_below p.missing p v ≡ gives cs → Gain doc p.path (items_in v) (ops_of doc cs)
-  there_comes p cs keys h = go p.missing refl h
-    where
-      go : (ms : List PathStep) → p.missing ≡ ms → add_below ms p v ≡ gives cs → Gain doc p.path (items_in v) (ops_of doc cs)
-      go [] is e = at_path doc v valid p.path (added p.node v) cs (λ c same. so p.path p.node c same) e
-      go (m ∷ ms) is e = put_path doc v valid p cs keys e
+-- what is added at a place, of which steps may be missing
+added_there : (doc n : ℕ) (v : Node) (p : FoundPlace) (cs : List Changed) → ((ds : List Changed) → and_then (λ c. gives ((p.path, c) ∷ [])) (added p.node v) ≡ gives ds → p.missing ≡ [] → Gain doc p.path n (ops_of doc ds)) →
+    ((ds : List Changed) (m : PathStep) (ms : List PathStep) → p.missing ≡ m ∷ ms → put_with_path p v ≡ gives ds → Gain doc p.path n (ops_of doc ds)) → is_null v ≡ false → add_at p v ≡ gives cs → Gain doc p.path n (ops_of doc cs)
+added_there doc n v p cs there below null h = go p.missing refl (sym (ap (λ (b : Bool). if b then gives [] else add_below p.missing p v) null) ∙ h)
+  where
+    go : (ms : List PathStep) → p.missing ≡ ms → add_below ms p v ≡ gives cs → Gain doc p.path n (ops_of doc cs)
+    go [] is e = there cs e is
+    go (m ∷ ms) is e = below cs m ms is e
 
-  add_path : is_null v ≡ false → (p : FoundPlace) (cs : List Changed) → HaveUtf8Keys p.missing → add_at p v ≡ gives cs → Gain doc p.path (items_in v) (ops_of doc cs)
-  add_path null p cs keys h = there_comes p cs keys (sym (ap (λ (b : Bool). if b then gives [] else add_below p.missing p v) null) ∙ h)
+add_path : (doc : ℕ) (v : Node) (valid : IsValueTree v) → SoAdded doc v → is_null v ≡ false → (p : FoundPlace) (cs : List Changed) → HaveUtf8Keys p.missing → add_at p v ≡ gives cs → Gain doc p.path (items_in v) (ops_of doc cs)
+add_path doc v valid so null p cs keys h =
+    added_there doc (items_in v) v p cs (λ ds e is. change_comes doc p.path (added p.node v) ds (items_in v) (λ c same. so p.path p.node c same) e) (λ ds m ms is e. put_path doc v valid p ds keys e) null h
+
+-- ---- a string that is added
+
+-- to a node: what is there then is so long
+string_added : (doc : ℕ) (path : List Step) (n : Node) (t : List ℕ) (c : Change) → IsUtf8 t → IsValueTree (scalar None kinds.Text (string_in n ++ t)) → added n (scalar None kinds.Text t) ≡ gives c →
+    Gain doc path (items_in (scalar None kinds.Text (string_in n ++ t))) (change_ops doc (path, c))
+string_added doc path (alias name) t c utf8 valid h = absurd (cc)
+string_added doc path (scalar a kinds.Text s) t c utf8 valid h = subst (λ d. Gain doc path (items_in (scalar None kinds.Text (s ++ t))) (change_ops doc (path, d))) (gives_same h) (puts valid (omega arith))
+string_added doc path (scalar a kinds.Null s) t c utf8 valid h = subst (λ d. Gain doc path (items_in (scalar None kinds.Text t)) (change_ops doc (path, d))) (gives_same h) (puts valid (omega arith))
+string_added doc path (scalar a kinds.Bool s) t c utf8 valid h = absurd (cc)
+string_added doc path (scalar a kinds.Int s) t c utf8 valid h = absurd (cc)
+string_added doc path (scalar a kinds.Float s) t c utf8 valid h = absurd (cc)
+string_added doc path (list a cs) t c utf8 valid h = subst (λ d. Gain doc path (items_in (scalar None kinds.Text t)) (change_ops doc (path, d))) (gives_same h) (appends tt valid nothing (omega arith))
+string_added doc path (tree.map a cs) t c utf8 valid h = absurd (cc)
+
+-- at a place
+string_comes : (doc : ℕ) (p : FoundPlace) (t : List ℕ) (cs : List Changed) → IsUtf8 t → HaveUtf8Keys p.missing → IsValueTree (scalar None kinds.Text (string_in (value_of p) ++ t)) → add_at p (scalar None kinds.Text t) ≡ gives cs →
+    Gain doc p.path (items_in (scalar None kinds.Text (string_in (value_of p) ++ t))) (ops_of doc cs)
+string_comes doc p t cs utf8 keys valid h =
+    let v : Node = scalar None kinds.Text t in
+    let all : Node → Node = λ n. scalar None kinds.Text (string_in n ++ t) in
+    added_there doc (items_in (all (value_of p))) v p cs
+    (λ ds e is.
+        let same : value_of p ≡ p.node = ap (λ ms. node_there ms p.node) is in
+        subst (λ n. Gain doc p.path (items_in (all n)) (ops_of doc ds)) (sym same)
+        (change_comes doc p.path (added p.node v) ds (items_in (all p.node)) (λ c k. string_added doc p.path p.node t c utf8 (subst (λ n. IsValueTree (all n)) same valid) k) e))
+    (λ ds m ms is e.
+        let same : value_of p ≡ null_node = ap (λ xs. node_there xs p.node) is in
+        subst (λ n. Gain doc p.path (items_in (all n)) (ops_of doc ds)) (sym same)
+        (put_path doc v (subst (λ n. IsValueTree (all n)) same valid) p ds keys e))
+    refl h
 
 -- ---- at each of places
 
@@ -155,12 +193,21 @@ first_changed doc root f p ps cs h =
       split = sym (ap (ops_of doc) w.4) ∙ ops_join doc w.0 w.1;
     }
 
-each_comes : (doc n : ℕ) (root : Node) (f : FoundPlace → Judgement (List Changed)) → ((p : FoundPlace) (ds : List Changed) → HaveUtf8Keys p.missing → f p ≡ gives ds → Gain doc p.path n (ops_of doc ds)) →
-    (ps : List FoundPlace) (cs : List Changed) → AllHaveUtf8Keys ps → at_each root f ps ≡ gives cs → GainSome doc ps (length ps * n) (ops_of doc cs)
-each_comes doc n root f comes [] cs keys h = subst (λ k. GainSome doc [] k (ops_of doc cs)) (sym (zero-mul n)) (subst (GainSome doc [] 0) (ap (ops_of doc) (gives_same h)) no_more)
-each_comes doc n root f comes (p ∷ ps) cs keys h =
+-- at each of places so much comes by a function
+abbrev EachComes : ℕ → ℕ → (FoundPlace → Judgement (List Changed)) → List FoundPlace → Type 0
+EachComes doc n f [] = Unit {0}
+EachComes doc n f (p ∷ ps) = ((ds : List Changed) → f p ≡ gives ds → Gain doc p.path n (ops_of doc ds)) × EachComes doc n f ps
+
+by_keys : (doc n : ℕ) (f : FoundPlace → Judgement (List Changed)) → ((p : FoundPlace) (ds : List Changed) → HaveUtf8Keys p.missing → f p ≡ gives ds → Gain doc p.path n (ops_of doc ds)) →
+    (ps : List FoundPlace) → AllHaveUtf8Keys ps → EachComes doc n f ps
+by_keys doc n f comes [] keys = tt
+by_keys doc n f comes (p ∷ ps) keys = ((λ ds h. comes p ds keys.0 h), by_keys doc n f comes ps keys.1)
+
+each_comes : (doc n : ℕ) (root : Node) (f : FoundPlace → Judgement (List Changed)) (ps : List FoundPlace) (cs : List Changed) → EachComes doc n f ps → at_each root f ps ≡ gives cs → GainSome doc ps (length ps * n) (ops_of doc cs)
+each_comes doc n root f [] cs comes h = subst (λ k. GainSome doc [] k (ops_of doc cs)) (sym (zero-mul n)) (subst (GainSome doc [] 0) (ap (ops_of doc) (gives_same h)) no_more)
+each_comes doc n root f (p ∷ ps) cs comes h =
     let w = first_changed doc root f p ps cs h in
-    subst (GainSome doc (p ∷ ps) (length (p ∷ ps) * n)) (sym w.split) (one_place (comes p w.here keys.0 w.first) (each_comes doc n root f comes ps w.there keys.1 w.others) (omega (arith, suc-mul (length ps) n)))
+    subst (GainSome doc (p ∷ ps) (length (p ∷ ps) * n)) (sym w.split) (one_place (comes.0 w.here w.first) (each_comes doc n root f ps w.there comes.1 w.others) (omega (arith, suc-mul (length ps) n)))
 
 -- ---- at the first of places, another value at each
 
@@ -212,11 +259,22 @@ all_gain doc n ps ops g apart more = subst BeginsOversized (append-nil ops) (by_
 module _ (doc : ℕ) (root v : Node) (valid : IsValueTree v) (ps : List FoundPlace) (keys : AllHaveUtf8Keys ps) (apart : AreApart ps) (more : items_limit < length ps * items_in v) (cs : List Changed) where
   -- a value that is put at places
   pub puts_begin : at_each root (λ p. put_with_path p v) ps ≡ gives cs → BeginsOversized (ops_of doc cs)
-  puts_begin h = all_gain doc (length ps * items_in v) ps (ops_of doc cs) (each_comes doc (items_in v) root (λ p. put_with_path p v) (put_path doc v valid) ps cs keys h) apart more
+  puts_begin h =
+      let f : FoundPlace → Judgement (List Changed) = λ p. put_with_path p v in
+      all_gain doc (length ps * items_in v) ps (ops_of doc cs) (each_comes doc (items_in v) root f ps cs (by_keys doc (items_in v) f (put_path doc v valid) ps keys) h) apart more
 
   -- a value that is added there
   pub adds_begin : ComesWhole v → at_each root (λ p. add_at p v) ps ≡ gives cs → BeginsOversized (ops_of doc cs)
   adds_begin whole h =
+      let f : FoundPlace → Judgement (List Changed) = λ p. add_at p v in
       let some = factor_some (length ps) (items_in v) items_limit more in
       let comes = add_path doc v valid (so_added doc v valid whole some) (not_null v whole.no_scalar) in
-      all_gain doc (length ps * items_in v) ps (ops_of doc cs) (each_comes doc (items_in v) root (λ p. add_at p v) comes ps cs keys h) apart more
+      all_gain doc (length ps * items_in v) ps (ops_of doc cs) (each_comes doc (items_in v) root f ps cs (by_keys doc (items_in v) f comes ps keys) h) apart more
+
+-- a string that is added at one place
+pub string_begins : (doc : ℕ) (root : Node) (p : FoundPlace) (t : List ℕ) (cs : List Changed) → IsUtf8 t → HaveUtf8Keys p.missing → IsSpread (scalar None kinds.Text (string_in (value_of p) ++ t)) 1 →
+    at_each root (λ q. add_at q (scalar None kinds.Text t)) (p ∷ []) ≡ gives cs → BeginsOversized (ops_of doc cs)
+string_begins doc root p t cs utf8 keys large h =
+    let n : ℕ = items_in (scalar None kinds.Text (string_in (value_of p) ++ t)) in
+    let f : FoundPlace → Judgement (List Changed) = λ q. add_at q (scalar None kinds.Text t) in
+    all_gain doc (1 * n) (p ∷ []) (ops_of doc cs) (each_comes doc n root f (p ∷ []) cs ((λ ds e. string_comes doc p t ds utf8 keys large.valid e), tt) h) (tt, tt) large.more

@@ -12,7 +12,7 @@ use Rattle.yq_semantics.{specs.Judgement.{Judgement, MatchFails, and_then, gives
 use Rattle.yq_semantics.{specs.Places.{FoundPlace, for_each, root_place}, specs.Plans.plan, specs.RightValues.right_value}
 use Rattle.yq_semantics.{specs.Program.{Stage, Term, Update, assign}, specs.declared.program.Operator.Operator}
 use Rattle.yq_expr.{specs.EffectView.{is_mapping, value_at}, proofs.AllChanges.value_there, proofs.SubstituteLaws.{add_alike, put_alike}}
-use Rattle.yq_expr.specs.Oversized.{HasSmall}
+use Rattle.yq_expr.specs.SumSizes.{HasSmall}
 use Rattle.yq_semantics.specs.declared.program.Operator.TheVariants as operator
 
 -- ---- an answer

@@ -3,7 +3,7 @@ use Rattle.yq_core.specs.Shapes.{IsTree}
 use Rattle.yq_nodes.specs.Nodes.{node_of}
 use Rattle.yq_eval.{specs.FoundView.found_places, specs.TreeScalars.{HasScalars, HaveScalars}}
 use Rattle.yq_semantics.specs.PlacesApart.{AreIn}
-use Rattle.yq_expr.{specs.declared.document.DocumentPlaces.DocumentPlaces, specs.declared.document.DocumentRoot.DocumentRoot}
+use Rattle.yq_expr.{specs.declared.plans.document.DocumentPlaces.DocumentPlaces, specs.declared.plans.document.DocumentRoot.DocumentRoot}
 
 -- a document's root is a tree, whose scalars have the kinds of their texts (own)
 pub record IsDocumentRoot (d : DocumentRoot) : Type 0 where

@@ -4,7 +4,7 @@ use Rattle.yq_core.{specs.Tree.{Node, alias, scalar, list}, specs.Values.value_n
 use Rattle.yq_semantics.{specs.Changes.{Room, Changed, put_with_path, add_at, remove_at, comment_at}, specs.Judgement.{Judgement, and_then}}
 use Rattle.yq_semantics.{specs.Places.FoundPlace, specs.RightValues.right_value, specs.View.term_of}
 use Rattle.yq_core.specs.Tree as tree
-use Rattle.yq_expr.specs.declared.effect.Action as effect
+use Rattle.yq_expr.specs.declared.plans.effect.Action as effect
 
 -- what is changed at a place of the document of that number, which has such room (own)
 abbrev pub effect_at : ℕ → Room → effect.Action → FoundPlace → Judgement (List Changed)

@@ -13,10 +13,10 @@ use Rattle.yq_semantics.{specs.Changes.with_value, specs.Meaning.roots_of}
 use Rattle.yq_semantics.{specs.Judgement.{Judgement, Judges, MatchFails, and_then, gives, ExprError}, specs.Places.{FoundPlace, root_place}}
 use Rattle.yq_semantics.{specs.PlacesApart.{AreIn, IsIn}, specs.RightValues.right_value, specs.Rooms.room_of}
 use Rattle.yq_semantics.{specs.View.{term_of, update_of}, specs.declared.program.Term.Term, specs.declared.program.Update.Update}
-use Rattle.yq_expr.{specs.EffectView.{effect_at, is_mapping}, specs.declared.document.DocumentEffect.DocumentEffect}
-use Rattle.yq_expr.{specs.declared.at_node.ChildChanges.ChildChanges, specs.declared.document.DocumentPlaces.DocumentPlaces}
-use Rattle.yq_expr.specs.declared.document.DocumentRoot.{DocumentRoot}
-use Rattle.yq_expr.specs.declared.effect.Action as effect
+use Rattle.yq_expr.{specs.EffectView.{effect_at, is_mapping}, specs.declared.plans.document.DocumentEffect.DocumentEffect}
+use Rattle.yq_expr.{specs.declared.plans.at_node.ChildChanges.ChildChanges, specs.declared.plans.document.DocumentPlaces.DocumentPlaces}
+use Rattle.yq_expr.specs.declared.plans.document.DocumentRoot.{DocumentRoot}
+use Rattle.yq_expr.specs.declared.plans.effect.Action as effect
 use Rattle.yq_eval.specs.declared.matching.place.FoundPlace as place
 
 -- a document's aliases, each with what it names (own)

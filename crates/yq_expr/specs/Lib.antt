@@ -6,6 +6,7 @@ pub mod Summand
 pub mod ManyKeys
 pub mod Parts
 pub mod JudgedChanges
+pub mod SumSizes
 pub mod Oversized
 pub mod PlannedUpdates
 pub mod FixedPaths

@@ -1,21 +1,20 @@
 -- Values that no text can hold, once or at many places, since they have more items and entries than a text may have; eight bytes of a scalar's text
 -- count as one (own).
-use Rattle.std.specs.Prelude.{◌≡◌, ◌+◌, ◌<◌, ◌*◌, ◌⊎◌, ℕ, false, List, [], ◌∷◌, ◌++◌, length, map, if◌then◌else◌, Option, Some, None, ⊤}
-use Rattle.std.{specs.Prelude.{Bool, Result, ◌≤◌, true, IfOk, IfSome}, specs.Str.IsUtf8, specs.declared.alloc.AllocError.AllocError}
-use Rattle.yq_core.{specs.Tree.{Node, alias, list, scalar, Children}, specs.Values.value_node, specs.declared.value.Value.Value}
+use Rattle.std.specs.Prelude.{◌≡◌, ◌+◌, ◌<◌, ◌⊎◌, ℕ, false, List, [], ◌∷◌, ◌++◌, length, map, if◌then◌else◌, Option, Some, None, ⊤, Bool}
+use Rattle.std.{specs.Prelude.{Result, ◌≤◌, true, IfOk, IfSome}, specs.Str.IsUtf8}
+use Rattle.yq_core.specs.Tree.{Node, alias, list, scalar}
 use Rattle.yq_documents.specs.Documents.{Document}
-use Rattle.yq_flow_edits.specs.Valued.{IsValueTree, AreValueTrees}
-use Rattle.yq_planner.{specs.ListSizes.HasSize, specs.Substitutes.IsSubstitute, specs.declared.updating.list_size.ListSize.ListSize}
-use Rattle.yq_semantics.specs.Judgement.{Judgement, gives, ExprError}
-use Rattle.yq_semantics.{specs.RightValues.{is_null, as_items, right_value, sum_from, term_value}, specs.Sizes.{items_in, items_of_all}}
+use Rattle.yq_flow_edits.specs.Valued.{IsValueTree}
+use Rattle.yq_semantics.{specs.Judgement.{Judgement, gives, ExprError}, specs.RightValues.right_value, specs.Sizes.{items_in, items_of_all}}
 use Rattle.yq_semantics.{specs.Operations.{Operation, replace, append, remove, line_comment, head_comment}, specs.After.all_after}
 use Rattle.yq_semantics.{specs.Changes.Room, specs.Fits.AllFit, specs.Meaning.AreReady}
 use Rattle.yq_semantics.specs.Program.{PathStep, key, index, each, Stage, Term, Update, UpdatesHold, assign, delete, comment}
-use Rattle.yq_semantics.{specs.Places.{FoundPlace, root_place}, specs.View.{update_of, term_of}, specs.declared.program.Operator.Operator}
+use Rattle.yq_semantics.{specs.Conditions.value_of, specs.Places.{FoundPlace, root_place}, specs.View.update_of}
+use Rattle.yq_semantics.specs.declared.program.Operator.{Operator}
 use Rattle.yq_eval.specs.PlaceView.{place_of, places_of}
-use Rattle.yq_expr.{specs.FixedPaths.IfAny, specs.Parts.{IsLater, values_limit}, specs.PlannedUpdates.{ops_inside, rest_in}}
-use Rattle.yq_expr.{specs.declared.parts.PlanPart.PlanPart, specs.declared.parts.OpenPart.OpenPart, specs.EffectView.is_mapping}
-use Rattle.yq_expr.{specs.declared.document.DocumentRoot.DocumentRoot, specs.declared.sum_sizes.SumSize.SumSize}
+use Rattle.yq_expr.{specs.Parts.{IsLater, values_limit}, specs.PlannedUpdates.{ops_inside, rest_in}}
+use Rattle.yq_expr.{specs.declared.plans.parts.PlanPart.PlanPart, specs.declared.plans.parts.OpenPart.OpenPart}
+use Rattle.yq_expr.{specs.declared.plans.document.DocumentRoot.DocumentRoot, specs.SumSizes.{items_limit, IsSpread, GivesLarge}}
 use Rattle.yq_nodes.specs.Nodes.{node_of}
 use Rattle.yq_eval.specs.declared.matching.place.FoundPlace as place
 use Rattle.yq_semantics.specs.declared.program.Term as term
@@ -23,41 +22,7 @@ use Rattle.yq_semantics.specs.declared.program.Operator.TheVariants as operator
 use Rattle.yq_semantics.specs.declared.program.Update as declared
 use Rattle.yq_core.specs.Tree as tree
 use Rattle.yq_core.specs.declared.kind.Kind.TheVariants as kinds
-use Rattle.yq_expr.specs.declared.sum_sizes.SumSize.TheVariants as sizes
-
--- items are those of a list of known size, and valid (own)
-pub record AreItemsOf (cs : Children) (size : ListSize) : Type 0 where
-  pub valid : AreValueTrees false cs
-  pub sized : HasSize (list None cs) size
-
--- a judgement gives a value that isn't null, from which a list gets items of a list of known size (own)
-abbrev pub AddsItems : Judgement Node → ListSize → Type 0
-AddsItems j size = (v : Node) × (j ≡ gives v) × (is_null v ≡ false) × AreItemsOf (as_items v) size
-
--- a judgement gives a list of known size (own)
-abbrev pub GivesList : Judgement Node → ListSize → Type 0
-GivesList j size = (cs : Children) × (j ≡ gives (list None cs)) × AreItemsOf cs size
-
--- a judgement gives a string that has so many bytes at least (own)
-abbrev pub GivesString : Judgement Node → ℕ → Type 0
-GivesString j n = (t : List ℕ) × (j ≡ gives (scalar None kinds.Text t)) × IsUtf8 t × (n ≤ length t)
-
--- a judgement gives a list or a string of such a size (own)
-abbrev pub GivesSized : Judgement Node → SumSize → Type 0
-GivesSized j (sizes.List size) = GivesList j size
-GivesSized j (sizes.Text n) = GivesString j n
-
--- what a judgement gives is valid where that has such a size, and so many items and entries at least (own)
-abbrev pub ItemsOfSize : SumSize → ℕ → Type 0
-ItemsOfSize size n = (j : Judgement Node) → GivesSized j size → (v : Node) × (j ≡ gives v) × IsValueTree v × (n ≤ items_in v)
-
--- how many items and entries a text may have: each takes two bytes at least (own)
-abbrev pub items_limit : ℕ
-items_limit = 8388608
-
--- a value is a list (own)
-abbrev pub IsList : Node → Type 0
-IsList v = (cs : Children) × (v ≡ list None cs)
+use Rattle.yq_expr.specs.declared.sizes.sum_sizes.SumSize.TheVariants as sizes
 
 -- a value is a scalar (own)
 abbrev pub is_scalar_node : Node → Bool
@@ -65,49 +30,6 @@ is_scalar_node (alias name) = false
 is_scalar_node (scalar a k t) = true
 is_scalar_node (list a cs) = false
 is_scalar_node (tree.map a cs) = false
-
--- A value that an assignment puts, or a list that it adds, is valid and has more items and entries than a text may have (own).
-pub record IsOversized (op : Operator) (v : Node) : Type 0 where
-  pub valid : IsValueTree v
-  pub added : op ≡ operator.Add → IsList v
-  pub more : items_limit < items_in v
-
--- a judgement gives such a value (own)
-abbrev pub GivesOversized : Operator → Judgement Node → Type 0
-GivesOversized op j = (v : Node) × (j ≡ gives v) × IsOversized op v
-
--- what has such a size is one (own)
-abbrev pub IsLargeSum : Operator → SumSize → Type 0
-IsLargeSum op size = (j : Judgement Node) → GivesSized j size → GivesOversized op j
-
--- a small value is refused where another one is that is no mapping (own)
-abbrev pub IsSmallOf : Node → Node → Type 0
-IsSmallOf v w = (is_mapping v ≡ false) × IsSubstitute v w
-
--- a judgement gives a value, and a small one is refused where that is (own)
-abbrev pub HasSmall : Judgement Node → Node → Type 0
-HasSmall j w = (v : Node) × (j ≡ gives v) × IsSmallOf v w
-
--- a small value is refused where what has such a size is (own)
-abbrev pub IsSmallFor : SumSize → Value → Type 0
-IsSmallFor size w = (j : Judgement Node) → GivesSized j size → HasSmall j (value_node w)
-
--- what a term gives, from a place (own)
-abbrev pub found_term : ℕ → place.FoundPlace → term.Term → Judgement Node
-found_term doc p t = term_value doc (place_of p) (term_of t)
-
--- what a sum of terms gives, from a place (own)
-abbrev pub found_sum : ℕ → place.FoundPlace → List term.Term → Judgement Node
-found_sum doc p ts = right_value doc (map term_of ts) (place_of p)
-
--- an answer's size is that of the sum of a list of such a size and of terms (own)
-abbrev pub SumsFrom : ℕ → place.FoundPlace → ListSize → List term.Term → Result (Option ListSize) AllocError → Type 0
-SumsFrom doc p first ts result = (cs : Children) → AreItemsOf cs first → IfAny result (GivesList (sum_from doc (place_of p) (list None cs) (map term_of ts)))
-
--- an answer is as long as the sum of a string that has so many bytes at least and of terms (own)
-abbrev pub JoinsFrom : ℕ → place.FoundPlace → ℕ → List term.Term → Result (Option ℕ) AllocError → Type 0
-JoinsFrom doc p first ts result =
-    (t : List ℕ) → IsUtf8 t → first ≤ length t → IfAny result (GivesString (sum_from doc (place_of p) (scalar None kinds.Text t) (map term_of ts)))
 
 -- the keys of steps are UTF-8 (own)
 abbrev pub HaveUtf8Keys : List PathStep → Type 0
@@ -122,9 +44,23 @@ value_start operator.Set root p = root_place root
 value_start operator.Modify root p = p
 value_start operator.Add root p = root_place root
 
--- what an assignment gives at a place is a value that no text can hold (own)
+-- the text of a string (own)
+abbrev pub string_in : Node → List ℕ
+string_in (alias name) = []
+string_in (scalar a kinds.Text t) = t
+string_in (scalar a k t) = []
+string_in (list a cs) = []
+string_in (tree.map a cs) = []
+
+-- the string to which an assignment adds a string at a place (own)
+abbrev pub string_before : Operator → FoundPlace → List ℕ
+string_before operator.Set p = []
+string_before operator.Modify p = []
+string_before operator.Add p = string_in (value_of p)
+
+-- what an assignment gives at a place is a value that no text can hold there (own)
 abbrev pub GivesAt : ℕ → Node → Update → FoundPlace → Type 0
-GivesAt doc root (assign left op right) p = GivesOversized op (right_value doc right (value_start op root p))
+GivesAt doc root (assign left op right) p = GivesLarge (string_before op p) (right_value doc right (value_start op root p))
 GivesAt doc root (delete left) p = ⊥
 GivesAt doc root (comment left place text) p = ⊥
 
@@ -143,11 +79,6 @@ MakesThere d u p = MakesOversized d u (place_of p)
 -- the same at the first of several (own)
 abbrev pub MakesFirst : DocumentRoot → declared.Update → List place.FoundPlace → Type 0
 MakesFirst d u ps = FirstMakesOversized d u (places_of ps)
-
--- A valid value comes so many times that no text can hold all items and entries (own).
-pub record IsSpread (v : Node) (count : ℕ) : Type 0 where
-  pub valid : IsValueTree v
-  pub more : items_limit < count * items_in v
 
 -- An assignment puts a value, or adds it, if it is no scalar, at so many places that no text can hold all items and entries (own).
 pub record SpreadsTooMany (d : DocumentRoot) (u : declared.Update) (count : ℕ) : Type 0 where
@@ -239,7 +170,3 @@ pub record EndsPartAt (document : DocumentRoot) (update : declared.Update) (plac
 -- the same of an answer that ends a part there, if it does (own)
 abbrev pub EndsPart : DocumentRoot → declared.Update → ℕ → OpenPart → OpenPart → Result (Option ℕ) ExprError → Type 0
 EndsPart document update place before after result = IfOk result (λ o. IfSome o (EndsPartAt document update place before after))
-
--- a small value is refused where the sum of terms is (own)
-abbrev pub ReplacesSum : ℕ → place.FoundPlace → List term.Term → Value → Type 0
-ReplacesSum doc p ts w = HasSmall (found_sum doc p ts) (value_node w)

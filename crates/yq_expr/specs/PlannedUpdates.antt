@@ -5,8 +5,8 @@ use Rattle.yq_semantics.{specs.After.all_after, specs.Fits.AllFit, specs.Judgeme
 use Rattle.yq_semantics.{specs.Operations.{Operation, operations_of}, specs.Plans.plan, specs.Program.{Update, update_at}}
 use Rattle.yq_semantics.{specs.Rooms.room_of, specs.View.{program_of, update_of}, specs.declared.op.Op.Op, specs.Under.all_under}
 use Rattle.yq_semantics.{specs.declared.under.OpsUnder.OpsUnder, specs.declared.program.Syntax.Syntax}
-use Rattle.yq_expr.{specs.Parts.{LeavesOps, document_ops, rest_ops}, specs.declared.parts.PlanPart.PlanPart}
-use Rattle.yq_expr.specs.declared.document.DocumentRoot.{DocumentRoot}
+use Rattle.yq_expr.{specs.Parts.{LeavesOps, document_ops, rest_ops}, specs.declared.plans.parts.PlanPart.PlanPart}
+use Rattle.yq_expr.specs.declared.plans.document.DocumentRoot.{DocumentRoot}
 use Rattle.yq_nodes.specs.Nodes.{node_of}
 use Rattle.yq_semantics.specs.declared.program.Update as declared
 

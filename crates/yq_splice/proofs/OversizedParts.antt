@@ -10,7 +10,7 @@ use Rattle.yq_text.specs.Splice.{Splice}
 use Rattle.yq_edit_rules.specs.Operands.{HasOperand, KeyIsUtf8}
 use Rattle.yq_edit_laws.{specs.Carried.carry_all, specs.Edit.{Edit, edit_after}, specs.Valid.{AreServed, FailsAt, HaveOperands}}
 use Rattle.yq_edit_laws.proofs.ServeLaws.{OperationsCome, all_come}
-use Rattle.yq_expr.specs.Oversized.{AllWrite, BeginsOversized, MayBeUtf8, WritesValue, items_limit}
+use Rattle.yq_expr.{specs.Oversized.{AllWrite, BeginsOversized, MayBeUtf8, WritesValue}, specs.SumSizes.items_limit}
 use Rattle.yq_splice.{specs.Parts.Awaits, proofs.PartLaws.{IsUnderWay, first_served, rest_awaits, some_fail}}
 use Rattle.yq_failure.specs.declared.failure.Failure.TheVariants as failure
 use Rattle.yq_edit_laws.specs.Edit as edits

@@ -1,6 +1,0 @@
-use Rattle.std.proofs.Common.{rules}
-use Rattle.yq_expr.proofs.FixedLaws.{some_below}
-use Rattle.yq_expr.proofs.fixed.remove_one.Goals as goal
-
-pub returns : goal.returns
-returns c = search (rules, some_below)

@@ -1,0 +1,18 @@
+use Rattle.std.proofs.Common.{◌≡◌, drop, map}
+use Rattle.yq_core.{specs.Tree.Node, specs.Anchors.names_of}
+use Rattle.yq_semantics.{specs.Changes.at_each, specs.PlacesApart.AreIn}
+use Rattle.yq_planner.{specs.ChangeView.changed_of, specs.Indexes.HasAliases, specs.ValidChanges.AreValidChanges}
+use Rattle.yq_expr.specs.JudgedChanges.{effect_of}
+use Rattle.yq_eval.{specs.PlaceView.{places_of, put_after}, specs.TreeScalars.HaveScalars}
+use Rattle.yq_expr.proofs.plans.at_places.at_each.Given as goal
+
+abbrev pub invariant-places : goal.invariant-places
+invariant-places l = record {
+  same : l.cut ≡ l.documents;
+  scalars : HaveScalars (places_of (drop l.place-index l.places));
+  valid : AreValidChanges l.changes.items;
+  within : (root : Node) → AreIn root (places_of l.places) → AreIn root (places_of (drop l.place-index l.places));
+  so_far : (root : Node) → HasAliases (names_of root) l.effect.aliases.now → AreIn root (places_of l.places) →
+      put_after (map changed_of l.changes.items) (at_each root (effect_of l.effect l.documents) (places_of (drop l.place-index l.places)))
+      ≡ at_each root (effect_of l.effect l.documents) (places_of l.places);
+}
