@@ -4,10 +4,8 @@ use std::fs::metadata;
 use std::io::IsTerminal;
 use std::path::Path;
 use std::{fs, io};
-use yq_args::Command;
-use yq_explain::{
-    asked_code, asks_lines, code_of, expression_lines, place_lines, push_name, push_rows,
-};
+use yq_args::{Command, asked_code, asks_lines};
+use yq_explain::{code_of, expression_lines, place_lines, push_name, push_rows};
 use yq_fault::Fault;
 use yq_run::{Out, as_slices, asked_command, own_words, purpose_of};
 

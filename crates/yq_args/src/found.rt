@@ -1,13 +1,21 @@
 //! What is in the words of a command line, as far as it can be read.
 
+use crate::command_word::split_command;
+use crate::explain_option::asked_code;
 use crate::options::{is_known, without_value};
 
 /// How many of the words that are no options are kept.
 const KEPT: usize = 3;
 
-/// What is in the words after the command's.
+/// What is in the words.
 #[derive(Clone, Copy)]
 pub struct Found<'w> {
+    /// The command's name; `eval` where none is written.
+    pub command: &'w str,
+    /// Whether the first word is the command's name.
+    pub is_named: bool,
+    /// The code of which alone the words ask.
+    pub code: Option<&'w str>,
     /// The first option that the command doesn't have.
     pub unknown: Option<&'w str>,
     /// The first three words that are no options; empty ones where there are fewer.
@@ -25,9 +33,13 @@ fn is_option(word: &str) -> bool {
     word.starts_with('-') && word != "-"
 }
 
-/// What is in these words after the command's.
-pub fn find<'w>(command: &str, words: &[&'w str]) -> Found<'w> {
+/// What is in these words.
+pub fn find<'w>(words: &[&'w str]) -> Found<'w> {
+    let (command, rest) = split_command(words);
     let mut found = Found {
+        command,
+        is_named: rest.len() < words.len(),
+        code: asked_code(words),
         unknown: None,
         names: [""; KEPT],
         count: 0,
@@ -36,7 +48,7 @@ pub fn find<'w>(command: &str, words: &[&'w str]) -> Found<'w> {
     };
     let mut only_names = false;
     let mut before = None;
-    'words: for word in words {
+    'words: for word in rest {
         if before.is_some() {
             if is_option(word) {
                 found.lacking = before;
@@ -64,8 +76,8 @@ pub fn find<'w>(command: &str, words: &[&'w str]) -> Found<'w> {
 }
 
 /// The first word that is one too many.
-pub fn surplus<'w>(command: &str, found: &Found<'w>) -> Option<&'w str> {
-    let most = if matches!(command, "eval" | "squash") {
+pub fn surplus<'w>(found: &Found<'w>) -> Option<&'w str> {
+    let most = if matches!(found.command, "eval" | "squash") {
         2
     } else {
         1

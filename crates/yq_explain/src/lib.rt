@@ -2,7 +2,6 @@
 #![tactic(auto)]
 
 mod advice;
-mod asking;
 mod caret;
 mod codes;
 mod expected;
@@ -17,7 +16,6 @@ mod updates;
 mod value_line;
 mod value_place;
 
-pub use asking::{asked_code, asks_lines};
 pub use caret::push_name;
 pub use expression::expression_lines;
 pub use rows::{code_of, push_rows};

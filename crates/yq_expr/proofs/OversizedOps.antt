@@ -1,7 +1,7 @@
 -- The operations of an update that gives a place what no text can hold.
 use Rattle.std.proofs.Common.{◌≡◌, inl, inr, ℕ, zero, suc, true, false, List, [], ◌∷◌, ◌++◌, drop, length, None, if◌then◌else◌, Bool, refl}
 use Rattle.std.{proofs.Common.{sym, ap, ◌∙◌, subst, append_assoc}, proofs.lemmas.Bool.false≢true, proofs.lemmas.List.length-map}
-use Rattle.yq_core.{specs.Shapes.IsTree, specs.Tree.{Node, list, scalar}}
+use Rattle.yq_core.{specs.Shapes.IsTree, specs.Tree.{Node, list, scalar, Children}}
 use Rattle.yq_semantics.specs.Changes.{Room, Changed, add_at, at_each, changes_at, left_pipe, put_with_path, with_value}
 use Rattle.yq_semantics.{specs.Judgement.{Judgement, and_then, gives}, specs.Operations.Operation, specs.Pipes.places}
 use Rattle.yq_semantics.{specs.Places.{FoundPlace, root_place}, specs.Plans.ops_of}

@@ -162,13 +162,13 @@ string_comes doc p t cs utf8 keys valid h =
     let all : Node → Node = λ n. scalar None kinds.Text (string_in n ++ t) in
     added_there doc (items_in (all (value_of p))) v p cs
     (λ ds e is.
-        let same : value_of p ≡ p.node = ap (λ ms. node_there ms p.node) is in
-        subst (λ n. Gain doc p.path (items_in (all n)) (ops_of doc ds)) (sym same)
-        (change_comes doc p.path (added p.node v) ds (items_in (all p.node)) (λ c k. string_added doc p.path p.node t c utf8 (subst (λ n. IsValueTree (all n)) same valid) k) e))
+    let same : value_of p ≡ p.node = ap (λ ms. node_there ms p.node) is in
+    subst (λ n. Gain doc p.path (items_in (all n)) (ops_of doc ds)) (sym same)
+    (change_comes doc p.path (added p.node v) ds (items_in (all p.node)) (λ c k. string_added doc p.path p.node t c utf8 (subst (λ n. IsValueTree (all n)) same valid) k) e))
     (λ ds m ms is e.
-        let same : value_of p ≡ null_node = ap (λ xs. node_there xs p.node) is in
-        subst (λ n. Gain doc p.path (items_in (all n)) (ops_of doc ds)) (sym same)
-        (put_path doc v (subst (λ n. IsValueTree (all n)) same valid) p ds keys e))
+    let same : value_of p ≡ null_node = ap (λ xs. node_there xs p.node) is in
+    subst (λ n. Gain doc p.path (items_in (all n)) (ops_of doc ds)) (sym same)
+    (put_path doc v (subst (λ n. IsValueTree (all n)) same valid) p ds keys e))
     refl h
 
 -- ---- at each of places

@@ -114,10 +114,15 @@ large_list before size more j h = inl (h.0, h.1, record { valid = (refl, h.2.val
 pub large_text : (before : List ℕ) (n both : ℕ) → IsUtf8 before → both ≤ n + length before → items_limit < both / 8 → IsLargeSum before (sizes.Text n)
 large_text before n both utf8 joined more j h =
     let all = before ++ h.0 in
-    inr (h.0, h.1, h.2, record {
-      valid = text_valid all (IsUtf8-append before h.0 utf8 h.2);
-      more = omega (arith, joined, more, h.3, length-append before h.0, one-mul (items_in (scalar None kinds.Text all)));
-    })
+    inr (
+      h.0,
+      h.1,
+      h.2,
+      record {
+        valid = text_valid all (IsUtf8-append before h.0 utf8 h.2);
+        more = omega (arith, joined, more, h.3, length-append before h.0, one-mul (items_in (scalar None kinds.Text all)));
+      },
+    )
 
 -- ---- small values for large ones
 

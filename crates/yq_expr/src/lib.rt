@@ -7,12 +7,12 @@ mod sizes;
 mod terms;
 mod verdicts;
 
-pub use plans::fixed::{is_sole, plan_by_rows};
 pub use memory::heavy::is_heavy;
-pub use verdicts::judging::judge;
+pub use plans::fixed::{is_sole, plan_by_rows};
 pub use plans::parts::{PlanPart, plan_part};
 pub use plans::placed::push_change;
 pub use plans::planning::{plan, plan_under};
+pub use verdicts::judging::judge;
 pub use yq_core::{Value, copied_steps};
 pub use yq_eval::{Match, matches};
 pub use yq_expr_parser::{ParseError, one_program, parse_expr};

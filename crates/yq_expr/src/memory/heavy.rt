@@ -7,13 +7,13 @@ ghost use Rattle.yq_expr.specs.Parts.{IsInOrder};
 ghost use Rattle.yq_semantics.specs.Program as spec;
 ghost use Rattle.yq_failure.specs.declared.failure.Failure.TheVariants as failure;
 
-use crate::plans::changes::left;
-use crate::plans::document::DocumentRoot;
 use crate::memory::modified::are_many;
 use crate::memory::path_weights::{has_each, most_of_path, paths_weight};
 use crate::memory::weights::{
     ADDITION_WEIGHT, SCALAR_WEIGHT, VALUES_LIMIT, assignment, sole_weight, weight, weight_at,
 };
+use crate::plans::changes::left;
+use crate::plans::document::DocumentRoot;
 use bumpalo::Bump;
 use memchr::memchr_iter;
 use std::alloc::Global;

@@ -6,14 +6,14 @@ ghost use Rattle.yq_eval.{specs.PlaceView.{place_of, places_of}, specs.TreeScala
 ghost use Rattle.yq_expr.specs.Parts.{values_limit};
 ghost use Rattle.yq_failure.specs.declared.failure.Failure.TheVariants as failure;
 
+use crate::memory::path_weights::path_weight;
+use crate::memory::weights::{VALUES_LIMIT, ValueWeight, weight};
 use crate::plans::document::DocumentRoot;
 use crate::sizes::oversized::is_oversized;
-use crate::memory::path_weights::path_weight;
-use crate::terms::right_value::{right_value, term_value};
-use crate::terms::same_term::{count_same, stays};
 use crate::sizes::sum_sizes::ITEMS_LIMIT;
 use crate::sizes::sums::may_be_large;
-use crate::memory::weights::{VALUES_LIMIT, ValueWeight, weight};
+use crate::terms::right_value::{right_value, term_value};
+use crate::terms::same_term::{count_same, stays};
 use bumpalo::Bump;
 use std::alloc::{AllocError, Global};
 use yq_core::{Kind, Value};

@@ -7,8 +7,8 @@ ghost use Rattle.yq_eval.{specs.PlaceView.place_of, specs.TreeScalars.HasScalars
 ghost use Rattle.yq_semantics.specs.Changes as spec;
 
 use crate::plans::effect::Action;
-use crate::terms::right_value::right_value;
 use crate::plans::steps::missing_steps;
+use crate::terms::right_value::right_value;
 use std::alloc::{AllocError, Global};
 use yq_core::{DEPTH_LIMIT, Value};
 use yq_eval::{FoundPlace, Missing};

@@ -11,11 +11,11 @@ ghost use Rattle.yq_planner.specs.ValidChanges.{HoldValidValues, KeepValidValues
 ghost use Rattle.yq_semantics.specs.Program as spec;
 ghost use Rattle.yq_failure.specs.declared.failure.Failure.TheVariants as failure;
 
+use crate::memory::modified::count_within;
+use crate::memory::weights::{VALUES_LIMIT, ValueWeight, modified, weight_at};
 use crate::plans::changes::{changes_at, left};
 use crate::plans::document::{DocumentPlaces, DocumentRoot};
-use crate::memory::modified::count_within;
 use crate::sizes::spread::begins_large;
-use crate::memory::weights::{VALUES_LIMIT, ValueWeight, modified, weight_at};
 use bumpalo::Bump;
 use std::alloc::{AllocError, Global};
 use yq_documents::Documents;

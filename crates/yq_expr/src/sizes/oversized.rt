@@ -6,9 +6,9 @@ ghost use Rattle.yq_nodes.specs.Nodes.{node_of};
 ghost use Rattle.yq_eval.{specs.PlaceView.{place_of, places_of}, specs.TreeScalars.{HasScalars, HaveScalars}};
 ghost use Rattle.yq_expr.specs.Oversized as spec;
 
+use crate::memory::weights::assignment;
 use crate::plans::document::DocumentRoot;
 use crate::sizes::sums::sum_size;
-use crate::memory::weights::assignment;
 use std::alloc::{AllocError, Global};
 use yq_core::Kind;
 use yq_eval::FoundPlace;

@@ -7,13 +7,13 @@ ghost use Rattle.yq_semantics.specs.View.{term_of};
 ghost use Rattle.yq_expr.specs.Oversized.{BeginsLarge, GiveItems, ModifiesTooMuch, SpreadsTooMany, is_scalar_node};
 ghost use Rattle.yq_expr.specs.SumSizes.{IsSpread, items_limit};
 
+use crate::memory::weights::assignment;
 use crate::plans::document::DocumentRoot;
 use crate::sizes::item_counts::count_in;
 use crate::sizes::oversized::begins_oversized;
-use crate::terms::right_value::right_value;
 use crate::sizes::sum_sizes::ITEMS_LIMIT;
 use crate::sizes::sums::sum_size;
-use crate::memory::weights::assignment;
+use crate::terms::right_value::right_value;
 use std::alloc::{AllocError, Global};
 use yq_core::Value;
 use yq_eval::FoundPlace;

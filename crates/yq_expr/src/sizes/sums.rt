@@ -35,23 +35,31 @@ fn size_of_term<'a, 't>(
     }
 }
 
-/// The same of a term, where its size is known for the term before it.
+/// A sum so far.
+#[derive(Clone, Copy)]
+struct SumSoFar<'a> {
+    /// The last term, and how large that is which the sum got from it.
+    last: &'a Term,
+    added: SumSize,
+    total: SumSize,
+}
+
+/// How large that is which a sum gets from the next term.
 fn size_of_next<'a, 't>(
     alloc: Global,
     doc: usize,
-    last: (&'a Term, SumSize),
+    sum: &SumSoFar<'a>,
     term: &'a Term,
     place: &FoundPlace<'a, 't>,
-    sum: SumSize,
 ) -> Result<Option<SumSize>, AllocError>
     requires place { HasScalars (place_of place.now).node }
-    requires last { AddsSized (spec.found_term doc place.now last.0.now) last.1 }
+    requires last { AddsSized (spec.found_term doc place.now sum.now.last.now) sum.now.added }
     ensures { IfAny result (AddsSized (spec.found_term doc place.now term.now)) }
 {
-    if is_same_term(term, last.0) {
-        return Ok(Some(last.1));
+    if is_same_term(term, sum.last) {
+        return Ok(Some(sum.added));
     }
-    size_of_term(alloc, doc, term, place, Some(sum))
+    size_of_term(alloc, doc, term, place, Some(sum.total))
 }
 
 /// How large the sum of a value and of terms is, where the value is that of a term before them.
@@ -66,19 +74,25 @@ fn size_with_terms<'a, 't>(
     requires first { GivesSized (spec.found_term doc place.now first.0.now) first.1 }
     ensures { SumsFrom doc place.now first.entry.1 terms.now result }
 {
-    let mut last = first;
-    let mut total = first.1;
+    let mut sum = SumSoFar {
+        last: first.0,
+        added: first.1,
+        total: first.1,
+    };
     'terms: for term in terms {
-        let Some(size) = size_of_next(alloc, doc, last, term, place, total)? else {
+        let Some(added) = size_of_next(alloc, doc, &sum, term, place)? else {
             return Ok(None);
         };
-        let Some(sum) = total.with(&size) else {
+        let Some(total) = sum.total.with(&added) else {
             return Ok(None);
         };
-        last = (term, size);
-        total = sum;
+        sum = SumSoFar {
+            last: term,
+            added,
+            total,
+        };
     }
-    Ok(Some(total))
+    Ok(Some(sum.total))
 }
 
 /// How large the sum of terms is, where that is a list or a string.

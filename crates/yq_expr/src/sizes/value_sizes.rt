@@ -61,11 +61,7 @@ fn size_of_first(alloc: Global, value: &Value) -> Result<Option<SumSize>, AllocE
 /// How large that is which a sum gets from a value, as far as it is known: items of a list, or the end of a string. Nothing,
 /// where the value is null, or may not be added.
 #[tactic(auto, using(crate::proofs::SumLaws::sized_adds))]
-fn size_of_added(
-    alloc: Global,
-    value: &Value,
-    sum: SumSize,
-) -> Result<Option<SumSize>, AllocError>
+fn size_of_added(alloc: Global, value: &Value, sum: SumSize) -> Result<Option<SumSize>, AllocError>
     ensures { IfAny result (AddsSized (gives (value_node value.now))) }
 {
     if is_null(value) {

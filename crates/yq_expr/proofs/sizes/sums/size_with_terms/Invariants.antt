@@ -7,7 +7,7 @@ use Rattle.yq_expr.proofs.sizes.sums.size_with_terms.Given as goal
 
 abbrev pub invariant-terms : goal.invariant-terms
 invariant-terms l = record {
-  adds : AddsSized (term_value l.doc (place_of l.place) (term_of l.last.0.now)) l.last.1;
-  so_far : (v : Node) → GivesSized (gives v) l.fn.first.1 → (w : Node) × GivesSized (gives w) l.total ×
+  adds : AddsSized (term_value l.doc (place_of l.place) (term_of l.sum.last.now)) l.sum.added;
+  so_far : (v : Node) → GivesSized (gives v) l.fn.first.1 → (w : Node) × GivesSized (gives w) l.sum.total ×
       (sum_from l.doc (place_of l.place) w (map term_of (drop l.term-index l.terms)) ≡ sum_from l.doc (place_of l.place) v (map term_of l.terms));
 }

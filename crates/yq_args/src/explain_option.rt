@@ -1,6 +1,6 @@
-//! The words that ask for such lines.
+//! The words that ask for lines about a refusal, or about a code.
 
-/// Whether `--explain` is one of the options.
+/// Whether `--explain` is one of the options: lines about a refusal are asked for.
 pub fn asks_lines(words: &[&str]) -> bool {
     'words: for word in words {
         match *word {
