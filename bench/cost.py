@@ -22,7 +22,7 @@ import sys
 import tempfile
 
 import edit
-from measured import used_by
+from measured import instructions, used_by
 from services import services
 
 HERE = os.path.dirname(os.path.abspath(__file__))
@@ -104,15 +104,6 @@ def used(folder, words):
     return float(seconds), int(peak), done.stderr
 
 
-def instructions(folder, words):
-    """How many instructions a command takes."""
-    out = os.path.join(folder, "callgrind")
-    line = ["valgrind", "--tool=callgrind", f"--callgrind-out-file={out}", *words]
-    subprocess.run(line, cwd=folder, stdout=subprocess.DEVNULL, stderr=subprocess.DEVNULL, check=False)
-    with open(out, encoding="utf-8") as counted:
-        return next(int(row.split()[1]) for row in counted if row.startswith(("summary:", "totals:")))
-
-
 def put(folder, text):
     with open(os.path.join(folder, "f"), "wb") as out:
         out.write(text)
@@ -124,7 +115,7 @@ def asked(words, path):
 
 def start(folder, words):
     put(folder, b"a: 1\n")
-    return instructions(folder, asked(words, ".a"))
+    return instructions(asked(words, ".a"), folder, check=False)
 
 
 def read_row(folder, name, text, words, path, counted, begun):
@@ -133,7 +124,7 @@ def read_row(folder, name, text, words, path, counted, begun):
     turns = [used(folder, line) for _ in range(TURNS)]
     assert all(said == b"" for _, _, said in turns), turns[0][2][:200]
     seconds, peak = min(spent for spent, _, _ in turns), max(peak for _, peak, _ in turns)
-    per_byte = f"{(instructions(folder, line) - begun) / len(text):.1f}" if counted else ""
+    per_byte = f"{(instructions(line, folder, check=False) - begun) / len(text):.1f}" if counted else ""
     print(f"{name:>20}{per_byte:>20}{seconds:>10.4f}{peak / 1e6:>12.1f}{peak / len(text):>14.1f}")
 
 
@@ -158,7 +149,7 @@ def edits(folder, yq, counting):
         edit.timed(folder, yq, "undo", "f")
         peaks.append(used(folder, words)[1])
         edit.timed(folder, yq, "undo", "f")
-    per_byte = instructions(folder, words) / len(text) if counting else 0
+    per_byte = instructions(words, folder, check=False) / len(text) if counting else 0
     print(f"\nan edit of services, 16 MB: {min(times):.3f} s, floor {min(floors):.3f} s, edit / floor {min(times) / min(floors):.1f}, ", end="")
     print(f"peak / bytes {max(peaks) / len(text):.1f}, instructions/byte {per_byte:.1f}")
 
@@ -179,7 +170,7 @@ def real(folder, yq, given):
         if said and not said.startswith(b"Error: X"):
             left_out += 1
             continue
-        count, length = instructions(folder, [yq, ".none", "f"]) - begun, os.path.getsize(file)
+        count, length = instructions([yq, ".none", "f"], folder, check=False) - begun, os.path.getsize(file)
         total, size = total + count, size + length
         each.append(count / length)
     if not each:

@@ -19,18 +19,9 @@ import subprocess
 import sys
 import tempfile
 
-from measured import used_by
+from measured import instructions, used_by
 
 RECORD = 175
-
-
-def instructions(yq, folder, *words):
-    """How many instructions a command takes."""
-    out = os.path.join(folder, "callgrind")
-    line = ["valgrind", "--tool=callgrind", f"--callgrind-out-file={out}", yq, *words]
-    subprocess.run(line, cwd=folder, stdout=subprocess.DEVNULL, stderr=subprocess.DEVNULL, check=True)
-    with open(out, encoding="utf-8") as counted:
-        return next(int(row.split()[1]) for row in counted if row.startswith(("summary:", "totals:")))
 
 
 def spent():
@@ -89,7 +80,7 @@ def by_records(yq):
             with tempfile.TemporaryDirectory(prefix="yq-bench-") as folder:
                 written(folder, "f", text)
                 written(folder, "f.undo.json", journal)
-                row.append(instructions(yq, folder, *words) / 1e6 if counted else used_by([yq, *words], folder)[0])
+                row.append(instructions([yq, *words], folder) / 1e6 if counted else used_by([yq, *words], folder)[0])
         print(f"{count:>10}{len(journal):>10}" + "".join(f"{it:>12.3f}" for it in row))
 
 

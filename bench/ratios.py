@@ -14,6 +14,8 @@ import sys
 import tempfile
 from concurrent.futures import ThreadPoolExecutor
 
+from measured import by_callgrind
+
 MOST = 4
 PLACES = 4_000
 
@@ -143,10 +145,7 @@ def counted(yq, expression, text):
     with tempfile.TemporaryDirectory(prefix="yq-bench-") as folder:
         with open(os.path.join(folder, "f"), "wb") as out:
             out.write(text)
-        line = ["valgrind", "--tool=callgrind", "--callgrind-out-file=counts", yq, expression, "f"]
-        done = subprocess.run(line, cwd=folder, stdout=subprocess.PIPE, stderr=subprocess.DEVNULL, check=False)
-        with open(os.path.join(folder, "counts"), encoding="utf-8") as rows:
-            total = next(int(row.split()[1]) for row in rows if row.startswith(("summary:", "totals:")))
+        done, total = by_callgrind([yq, expression, "f"], folder, printed=subprocess.PIPE)
     return done.returncode, total, done.stdout
 
 

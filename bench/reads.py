@@ -17,7 +17,7 @@ import sys
 import tempfile
 import time
 
-from measured import used_by
+from measured import instructions, used_by
 
 ITEMS = 100_000
 READS = (
@@ -50,15 +50,6 @@ def read(yq, folder, expression):
     return spent, peak
 
 
-def instructions(yq, folder, *words):
-    """How many instructions a command takes."""
-    out = os.path.join(folder, "callgrind")
-    line = ["valgrind", "--tool=callgrind", f"--callgrind-out-file={out}", yq, *words]
-    subprocess.run(line, cwd=folder, stdout=subprocess.DEVNULL, stderr=subprocess.DEVNULL, check=True)
-    with open(out, encoding="utf-8") as counted:
-        return next(int(row.split()[1]) for row in counted if row.startswith(("summary:", "totals:")))
-
-
 def times(yq, folder, size, turns):
     for name, expression in READS:
         printed = len(subprocess.run([yq, expression, "f"], cwd=folder, capture_output=True, check=True).stdout)
@@ -70,9 +61,9 @@ def times(yq, folder, size, turns):
 
 
 def counts(yq, folder, size):
-    start = instructions(yq, folder, "--help")
+    start = instructions([yq, "--help"], folder)
     for name, expression in READS:
-        print(f"{name:>18}{size:>11}{(instructions(yq, folder, expression, 'f') - start) / size:>20.1f}")
+        print(f"{name:>18}{size:>11}{(instructions([yq, expression, 'f'], folder) - start) / size:>20.1f}")
 
 
 def main():
