@@ -13,7 +13,7 @@ import sys
 import tempfile
 
 from copies import copy_to
-from crates import folder, libraries
+from crates import carry_out, folder, libraries
 from gate import prove, say
 
 PROGRAM = "yq"
@@ -39,7 +39,4 @@ def main(words):
 
 
 if __name__ == "__main__":
-    try:
-        sys.exit(main(sys.argv[1:]))
-    except KeyboardInterrupt:
-        sys.exit(130)
+    carry_out(main)

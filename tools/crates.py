@@ -3,6 +3,7 @@
 import os
 import re
 import resource
+import sys
 import time
 
 ROOT = os.path.dirname(os.path.dirname(os.path.abspath(__file__)))
@@ -52,6 +53,14 @@ def number_in(path, pattern):
 
 def folder(crate):
     return os.path.join(ROOT, "crates", crate)
+
+
+def carry_out(main):
+    """Ends as a script's `main` does with the words after its name, and with status 130 where it is interrupted."""
+    try:
+        sys.exit(main(sys.argv[1:]))
+    except KeyboardInterrupt:
+        sys.exit(130)
 
 
 def kept_by_host():

@@ -18,7 +18,7 @@ import sys
 import threading
 import time
 
-from crates import ROOT, RT, kept_by_host, took
+from crates import ROOT, RT, carry_out, kept_by_host, took
 from gate_page import chain_line, rows_of_page, table, with_tasks, write
 from reasons import Reasons
 from watch import PROOF, TESTS, Watch
@@ -141,7 +141,4 @@ def main(words):
 
 
 if __name__ == "__main__":
-    try:
-        sys.exit(main(sys.argv[1:]))
-    except KeyboardInterrupt:
-        sys.exit(130)
+    carry_out(main)

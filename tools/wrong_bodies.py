@@ -15,7 +15,7 @@ import sys
 import tempfile
 
 from copies import copy_to
-from crates import libraries, took
+from crates import carry_out, libraries, took
 from edits import hindrance, names_in
 from evidence import write_rows
 from gate import BEGAN, KEPT, prove, say
@@ -80,7 +80,4 @@ def main(words):
 
 
 if __name__ == "__main__":
-    try:
-        sys.exit(main(sys.argv[1:]))
-    except KeyboardInterrupt:
-        sys.exit(130)
+    carry_out(main)
