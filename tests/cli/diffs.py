@@ -10,11 +10,10 @@ import re
 import shutil
 import subprocess
 import sys
-import tempfile
 
 sys.path.insert(0, os.path.dirname(os.path.abspath(__file__)))
 
-from harness import SECONDS, Folder, Skip, equal
+from harness import SECONDS, Skip, equal, run_alone
 from random_edits import Update
 from random_texts import Texts
 from oracle import documents_of
@@ -298,6 +297,5 @@ def check_other_options_stay_beside_a_diff(folder):
 
 
 if __name__ == "__main__":
-    with tempfile.TemporaryDirectory(prefix="yq-diffs-") as path:
-        random_diffs(Folder(os.path.realpath(sys.argv[1]), path), int(sys.argv[2]), sys.argv[3] if len(sys.argv) > 3 else "1")
+    run_alone(random_diffs, *sys.argv[1:3], *(sys.argv[3:4] or "1"))
     print(f"{sys.argv[2]} texts: each diff leads both ways")

@@ -5,6 +5,7 @@ import os
 import subprocess
 
 from harness import as_nobody, each_user, equal
+from other_users import put
 from tracing import traced
 
 WEB = b"name: web # main\nport: 8080\n"
@@ -110,8 +111,7 @@ def check_a_text_without_an_end(folder):
 def check_a_file_that_nobody_may_read(folder):
     as_nobody()
     folder.give_away()
-    folder.write("f", WEB)
-    os.chmod(folder.name("f"), 0o600)
+    put(folder, "f", WEB, 0, 0, 0o600)
     folder.refuses("S2 read failed", "undo", "f", nobody=True)
     folder.refuses("S2 read failed", "-i", ".port = 9090", "f", nobody=True)
     equal((folder.read("f"), folder.names()), (WEB, ["f"]))
@@ -119,8 +119,7 @@ def check_a_file_that_nobody_may_read(folder):
 
 def check_a_folder_that_nobody_may_write(folder):
     as_nobody()
-    folder.write("f", WEB)
-    os.chmod(folder.name("f"), 0o644)
+    put(folder, "f", WEB, 0, 0, 0o644)
     os.chmod(folder.path, 0o755)
     folder.refuses("S3 write failed", "-i", ".port = 9090", "f", nobody=True)
     equal((folder.read("f"), folder.names()), (WEB, ["f"]))
@@ -129,8 +128,7 @@ def check_a_folder_that_nobody_may_write(folder):
 def check_nobody_in_a_folder_of_its_own(folder):
     as_nobody()
     folder.give_away()
-    folder.write("f", WEB)
-    os.chmod(folder.name("f"), 0o646)
+    put(folder, "f", WEB, 0, 0, 0o646)
     folder.accepts("-i", ".port = 9090", "f", nobody=True)
     equal((folder.read("f"), folder.mode("f"), folder.mode("f.undo.json")), (EDITED, 0o646, 0o646))
     folder.accepts("undo", "f", nobody=True)

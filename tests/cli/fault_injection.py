@@ -8,6 +8,7 @@ import json
 import os
 import re
 from concurrent.futures import ThreadPoolExecutor
+from functools import partial
 
 from harness import equal
 from tracing import calls_in, own_calls, traced
@@ -52,6 +53,7 @@ EDIT = Scenario(["-i", ".n = 4", FILE], [EDIT_2, EDIT_3, UNDO], History([1, 2, 3
 UNDO_OF_TWO = Scenario(UNDO, [EDIT_2, EDIT_3], History([1, 2, 3], 2), History([1, 2, 3], 1))
 REDO_OF_TWO = Scenario(REDO, [EDIT_2, EDIT_3, UNDO], History([1, 2, 3], 1), History([1, 2, 3], 2))
 SQUASH = Scenario(["squash", "2", FILE], [EDIT_2, EDIT_3], History([1, 2, 3], 2), History([1, 3], 1))
+COMMANDS = {"a first edit": FIRST_EDIT, "an edit": EDIT, "an undo": UNDO_OF_TWO, "a redo": REDO_OF_TWO, "a squash": SQUASH}
 
 
 def prepared(folder, scenario):
@@ -187,24 +189,12 @@ def each_call(folder, name, scenario):
     print(f"{name}: {calls}; each failed with {', '.join(ERRORS)}, and was the first that a killed run didn't make")
 
 
-def check_each_call_of_a_first_edit(folder):
-    each_call(folder, "a first edit", FIRST_EDIT)
+def of_each_command(what, tries):
+    """A check of its own for each command, which tries it with a folder, the command's name and its scenario."""
+    return {f"check_each_{what}_of_{name.replace(' ', '_')}": partial(tries, name=name, scenario=it) for name, it in COMMANDS.items()}
 
 
-def check_each_call_of_an_edit(folder):
-    each_call(folder, "an edit", EDIT)
-
-
-def check_each_call_of_an_undo(folder):
-    each_call(folder, "an undo", UNDO_OF_TWO)
-
-
-def check_each_call_of_a_redo(folder):
-    each_call(folder, "a redo", REDO_OF_TWO)
-
-
-def check_each_call_of_a_squash(folder):
-    each_call(folder, "a squash", SQUASH)
+globals().update(of_each_command("call", each_call))
 
 
 def check_a_temporary_file_that_can_not_be_removed(folder):

@@ -9,6 +9,7 @@ import subprocess
 import sys
 import tempfile
 import traceback
+from concurrent.futures import ThreadPoolExecutor
 
 ROOT = os.path.dirname(os.path.dirname(os.path.dirname(os.path.abspath(__file__))))
 NOBODY = 65534
@@ -150,6 +151,24 @@ def shown(value):
 def seed_of_run():
     """The seed of what is tried at random: YQ_SEED of the environment, else another one in each run."""
     return os.environ.get("YQ_SEED") or random.SystemRandom().randrange(10**9)
+
+
+def side_by_side(folder, count, seed, one):
+    """What `one` gives for each of so many numbers, with a folder and a seed of its own."""
+
+    def run(number):
+        path = folder.name(str(number))
+        os.mkdir(path)
+        return one(Folder(folder.yq, path), f"{seed} {number}")
+
+    with ThreadPoolExecutor(os.cpu_count()) as pool:
+        yield from pool.map(run, range(count))
+
+
+def run_alone(run, yq, count, seed=None):
+    """So many tries of a script, as the words after its name ask for them, in a folder that goes at the end."""
+    with tempfile.TemporaryDirectory(prefix="yq-cli-") as top:
+        return run(Folder(os.path.realpath(yq), top), int(count), seed or seed_of_run())
 
 
 class Tally:

@@ -4,12 +4,11 @@ import os
 import subprocess
 
 from harness import NOBODY, SECONDS, Folder, as_nobody, each_user, equal
+from other_users import EMPTY, SOMEBODY
 
 ONE, TWO = b"n: 1\n", b"n: 2\n"
 EDIT = ["-i", ".n = 2"]
 MOST_OF_NAME = 255
-SOMEBODY = 12345
-EMPTY = b'{"at":0,"pending":null,"records":[],"version":2}\n'
 TOO_LONG = "the journal's name in YQ_JOURNALS would be longer than 255 bytes: name one by '--journal PATH'"
 NO_FILE_PATH = "FILE's path isn't had, or isn't UTF-8, so its journal has no name in YQ_JOURNALS"
 NO_PATH = "YQ_JOURNALS is no absolute path in UTF-8"

@@ -13,12 +13,10 @@ import json
 import os
 import random
 import sys
-import tempfile
-from concurrent.futures import ThreadPoolExecutor
 
 sys.path.insert(0, os.path.dirname(os.path.abspath(__file__)))
 
-from harness import Folder, equal, seed_of_run
+from harness import equal, run_alone, seed_of_run, side_by_side
 from journal_reader import TOP, Number, Record, State, done, documented, expected, lines_of, moved, read_of, refusal, state_of, state_value
 
 COUNT, FILE, JOURNAL = 300, "f", "f.undo.json"
@@ -204,15 +202,7 @@ def one_journal(folder, seed):
 
 def run_journals(folder, count, seed):
     """What came of so many journals."""
-    tally = collections.Counter()
-
-    def run(number):
-        path = folder.name(str(number))
-        os.mkdir(path)
-        return one_journal(Folder(folder.yq, path), f"{seed} {number}")
-
-    with ThreadPoolExecutor(os.cpu_count()) as pool:
-        tally.update(pool.map(run, range(count)))
+    tally = collections.Counter(side_by_side(folder, count, seed, one_journal))
     print(f"journals: seed {seed}, {count} journals: " + ", ".join(f"{number} {what}" for what, number in sorted(tally.items())), flush=True)
     return tally
 
@@ -223,5 +213,4 @@ def check_mutated_journals_are_answered_as_their_reader_says(folder):
 
 
 if __name__ == "__main__":
-    with tempfile.TemporaryDirectory(prefix="yq-journals-") as top:
-        run_journals(Folder(os.path.realpath(sys.argv[1]), top), int(sys.argv[2]), sys.argv[3] if len(sys.argv) > 3 else seed_of_run())
+    run_alone(run_journals, *sys.argv[1:])

@@ -6,8 +6,8 @@ import struct
 import subprocess
 
 from harness import NOBODY, Skip, as_user, equal
+from other_users import SOMEBODY
 
-SOMEBODY = 12345
 ONE, TWO = b"n: 1 # secret\n", b"n: 2 # secret\n"
 ACCESS, DEFAULT = "system.posix_acl_access", "system.posix_acl_default"
 # A list in the form of the kernel (linux/posix_acl_xattr.h): its version, and of each entry whom it is for, what they may, and their number.

@@ -7,8 +7,7 @@ is then refused as out of memory. The file holds the text before it or the one a
 import os
 from concurrent.futures import ThreadPoolExecutor
 
-from fault_injection import EDIT, FIRST_EDIT, REDO_OF_TWO, SQUASH, UNDO_OF_TWO, WORKERS, Scenario
-from fault_injection import goes_on, leftovers, outcome, prepared, walk_through
+from fault_injection import EDIT, WORKERS, Scenario, goes_on, leftovers, of_each_command, outcome, prepared, walk_through
 from harness import Skip, equal
 from tracing import calls_in, traced
 
@@ -63,24 +62,7 @@ def each_growth(folder, name, scenario):
     print(f"{name}: {len(numbers)} growths; each was refused, alone and with all after it")
 
 
-def check_each_growth_of_a_first_edit(folder):
-    each_growth(folder, "a first edit", FIRST_EDIT)
-
-
-def check_each_growth_of_an_edit(folder):
-    each_growth(folder, "an edit", EDIT)
-
-
-def check_each_growth_of_an_undo(folder):
-    each_growth(folder, "an undo", UNDO_OF_TWO)
-
-
-def check_each_growth_of_a_redo(folder):
-    each_growth(folder, "a redo", REDO_OF_TWO)
-
-
-def check_each_growth_of_a_squash(folder):
-    each_growth(folder, "a squash", SQUASH)
+globals().update(of_each_command("growth", each_growth))
 
 
 def check_each_growth_of_what_prints(folder):

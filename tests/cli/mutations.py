@@ -12,12 +12,11 @@ import os
 import random
 import re
 import sys
-import tempfile
-from concurrent.futures import ThreadPoolExecutor
+from functools import partial
 
 sys.path.insert(0, os.path.dirname(os.path.abspath(__file__)))
 
-from harness import Folder, equal, seed_of_run
+from harness import equal, run_alone, seed_of_run, side_by_side
 from tables import TABLES, rows_of, text_of
 
 COUNT, LARGEST, FILE = 300, 4000, "f"
@@ -106,7 +105,7 @@ def is_edited(folder, text, words, tally):
         equal(folder.read(FILE), new, "made again")
 
 
-def one_text(folder, texts, seed):
+def one_text(texts, folder, seed):
     """One text with one to three changes, and two edits of it where it is read."""
     source, tally = random.Random(seed), collections.Counter()
     text = source.choice(texts)
@@ -131,15 +130,8 @@ def one_text(folder, texts, seed):
 def run_texts(folder, count, seed):
     """What came of so many texts."""
     texts, tally = corpus(), collections.Counter()
-
-    def run(number):
-        path = folder.name(str(number))
-        os.mkdir(path)
-        return one_text(Folder(folder.yq, path), texts, f"{seed} {number}")
-
-    with ThreadPoolExecutor(os.cpu_count()) as pool:
-        for each in pool.map(run, range(count)):
-            tally.update(each)
+    for each in side_by_side(folder, count, seed, partial(one_text, texts)):
+        tally.update(each)
     faults = sum(number for what, number in tally.items() if re.fullmatch(r"Y\d+", what))
     others = ", ".join(f"{number} {what}" for what, number in sorted(tally.items()) if not re.fullmatch(r"Y\d+", what))
     print(f"mutations: seed {seed}, {count} texts of {len(texts)}: {others}, {faults} with a fault", flush=True)
@@ -152,5 +144,4 @@ def check_mutated_texts_are_read_or_have_a_fault(folder):
 
 
 if __name__ == "__main__":
-    with tempfile.TemporaryDirectory(prefix="yq-mutations-") as top:
-        run_texts(Folder(os.path.realpath(sys.argv[1]), top), int(sys.argv[2]), sys.argv[3] if len(sys.argv) > 3 else seed_of_run())
+    run_alone(run_texts, *sys.argv[1:])

@@ -3,12 +3,12 @@
 import os
 import stat
 
-from harness import NOBODY, Skip, as_nobody, equal
+from harness import NOBODY, Skip, as_nobody, as_user, equal
+from other_users import SOMEBODY, SOME_GROUP, put
 
 WEB = b"name: web # main\nport: 8080\n"
 EDITED = b"name: web # main\nport: 9090\n"
 EDIT = ["-i", ".port = 9090"]
-SOMEBODY, SOME_GROUP = 12345, 23456
 
 
 def rights(folder, file):
@@ -19,9 +19,7 @@ def rights(folder, file):
 def check_the_owner_and_the_mode_stay(folder):
     as_nobody()
     for mode in (0o600, 0o644, 0o4755, 0o2770, 0o6711, 0o1444):
-        folder.write("f", WEB)
-        os.chown(folder.name("f"), SOMEBODY, SOME_GROUP)
-        os.chmod(folder.name("f"), mode)
+        put(folder, "f", WEB, SOMEBODY, SOME_GROUP, mode)
         folder.accepts(*EDIT, "f")
         equal((folder.read("f"), rights(folder, "f")), (EDITED, (SOMEBODY, SOME_GROUP, mode)))
         folder.accepts("undo", "f")
@@ -47,9 +45,7 @@ def check_who_may_not_give_files_away(folder):
     as_nobody()
     folder.give_away()
     for mode, left in ((0o646, 0o646), (0o606, 0o606), (0o676, 0o666), (0o2626, 0o626), (0o6777, 0o777), (0o4757, 0o757)):
-        folder.write("f", WEB)
-        os.chown(folder.name("f"), SOMEBODY, SOME_GROUP)
-        os.chmod(folder.name("f"), mode)
+        put(folder, "f", WEB, SOMEBODY, SOME_GROUP, mode)
         folder.accepts(*EDIT, "f", nobody=True)
         equal((folder.read("f"), rights(folder, "f")), (EDITED, (NOBODY, NOBODY, left)), oct(mode))
         folder.accepts("undo", "f", nobody=True)
@@ -58,9 +54,7 @@ def check_who_may_not_give_files_away(folder):
 def check_a_new_journal_has_the_rights_of_its_file(folder):
     as_nobody()
     for mode, left in ((0o600, 0o600), (0o664, 0o664), (0o640, 0o640), (0o2775, 0o775)):
-        folder.write("f", WEB)
-        os.chown(folder.name("f"), SOMEBODY, SOME_GROUP)
-        os.chmod(folder.name("f"), mode)
+        put(folder, "f", WEB, SOMEBODY, SOME_GROUP, mode)
         old = os.umask(0o077)
         try:
             folder.accepts(*EDIT, "f")
@@ -74,10 +68,8 @@ def check_a_member_of_the_group_may_go_on(folder):
     """Who may write the file by its group may write the journal that another member made."""
     as_nobody()
     folder.give_away()
-    folder.write("f", WEB)
-    os.chown(folder.name("f"), SOMEBODY, SOME_GROUP)
-    os.chmod(folder.name("f"), 0o660)
-    members = [["setpriv", f"--reuid={user}", f"--regid={user}", f"--groups={SOME_GROUP}"] for user in (SOMEBODY, NOBODY)]
+    put(folder, "f", WEB, SOMEBODY, SOME_GROUP, 0o660)
+    members = [as_user(user, user, SOME_GROUP) for user in (SOMEBODY, NOBODY)]
     folder.accepts(*EDIT, "f", before=members[0])
     equal(rights(folder, "f.undo.json"), (SOMEBODY, SOME_GROUP, 0o660))
     folder.accepts("undo", "f", before=members[1])
@@ -98,9 +90,7 @@ def check_a_file_that_its_user_may_not_write(folder):
     as_nobody()
     folder.give_away()
     for owner, mode in ((SOMEBODY, 0o644), (NOBODY, 0o444), (NOBODY, 0o400)):
-        folder.write("f", WEB)
-        os.chown(folder.name("f"), owner, owner)
-        os.chmod(folder.name("f"), mode | 0o044 if owner == SOMEBODY else mode)
+        put(folder, "f", WEB, owner, owner, mode | 0o044 if owner == SOMEBODY else mode)
         stays_protected(folder, [*EDIT, "f"])
         equal(folder.names(), ["f"])
         os.remove(folder.name("f"))
@@ -109,8 +99,7 @@ def check_a_file_that_its_user_may_not_write(folder):
 def check_a_file_that_is_protected_between_two_edits(folder):
     as_nobody()
     folder.give_away()
-    folder.write("f", WEB)
-    os.chown(folder.name("f"), NOBODY, NOBODY)
+    put(folder, "f", WEB, NOBODY, NOBODY, 0o644)
     for words in ([*EDIT, "f"], ["-i", ".port = 1", "f"], ["undo", "f"]):
         folder.accepts(*words, nobody=True)
     os.chmod(folder.name("f"), 0o444)
@@ -123,8 +112,7 @@ def check_a_file_that_is_protected_between_two_edits(folder):
 def check_a_journal_that_its_user_may_not_write(folder):
     as_nobody()
     folder.give_away()
-    folder.write("f", WEB)
-    os.chmod(folder.name("f"), 0o666)
+    put(folder, "f", WEB, 0, 0, 0o666)
     folder.accepts(*EDIT, "f", nobody=True)
     for owner, mode in ((SOMEBODY, 0o644), (NOBODY, 0o444)):
         os.chown(folder.name("f.undo.json"), owner, owner)
@@ -134,8 +122,7 @@ def check_a_journal_that_its_user_may_not_write(folder):
 
 def check_protection_does_not_hold_root_back(folder):
     as_nobody()
-    folder.write("f", WEB)
-    os.chmod(folder.name("f"), 0o444)
+    put(folder, "f", WEB, 0, 0, 0o444)
     folder.accepts(*EDIT, "f")
     equal((folder.read("f"), folder.mode("f"), folder.mode("f.undo.json")), (EDITED, 0o444, 0o444))
     folder.accepts("undo", "f")
@@ -145,11 +132,8 @@ def check_protection_does_not_hold_root_back(folder):
 def check_a_group_of_ones_own_stays(folder):
     as_nobody()
     folder.give_away()
-    folder.write("f", WEB)
-    os.chown(folder.name("f"), SOMEBODY, SOME_GROUP)
-    os.chmod(folder.name("f"), 0o2660)
-    member = ["setpriv", f"--reuid={NOBODY}", f"--regid={NOBODY}", f"--groups={SOME_GROUP}"]
-    folder.accepts(*EDIT, "f", before=member)
+    put(folder, "f", WEB, SOMEBODY, SOME_GROUP, 0o2660)
+    folder.accepts(*EDIT, "f", before=as_user(NOBODY, NOBODY, SOME_GROUP))
     equal((folder.read("f"), rights(folder, "f")), (EDITED, (NOBODY, SOME_GROUP, 0o660)))
 
 
