@@ -1,6 +1,7 @@
 -- Whether a value is the scalar in the row of a key or dash.
 use Rattle.std.proofs.Common.{◌≡◌, ℕ, ℤ, Bool, true, false, not, ◌&&◌, ◌||◌, eqb, List, [], ◌∷◌, ◌++◌, Option, Some, refl, sym, ap, ◌∙◌}
-use Rattle.std.{proofs.lemmas.Bool.{and_parts, false≢true}, proofs.lemmas.Option.{none-some, same_Some}, specs.Str.bytes_eq}
+use Rattle.std.{proofs.lemmas.Bool.{and_parts, false≢true, or_parts, and_right}, proofs.lemmas.Option.{none-some, same_Some}}
+use Rattle.std.specs.Str.{bytes_eq}
 use Rattle.yq_core.{specs.Answers.◌>>=◌, specs.Paths.Step, specs.Plain.holds_break, specs.Scalar.{ScalarText, of_kind, plain_of}}
 use Rattle.yq_core.{specs.SchemaReading.resolve, specs.Text.is_empty, specs.Tree.Node, specs.declared.kind.Kind.Kind}
 use Rattle.yq_core.{specs.Nodes.begins_with, specs.Scalars.is_quoted, specs.Trees.scalar_node}
@@ -26,26 +27,18 @@ null_first kinds.Int e = refl
 null_first kinds.Float e = refl
 null_first kinds.Text e = refl
 
-neither : (a b : Bool) → (a || b) ≡ false → (a ≡ false) × (b ≡ false)
-neither true b e = absurd (false≢true (sym e))
-neither false b e = (refl, e)
-
-no_right : (a b : Bool) → b ≡ false → (a && b) ≡ false
-no_right true b e = e
-no_right false b e = refl
-
 pub other_plain : (t : List ℕ) (s : ScalarText) → may_spell t s ≡ false → is_same (plain_of t) s ≡ false
 other_plain t s e = go (resolve t)
   where
     no : (eqb (table_row s.kind) (table_row kinds.Null) ≡ false) × (bytes_eq t s.text ≡ false)
-    no = neither (eqb (table_row s.kind) (table_row kinds.Null)) (bytes_eq t s.text) e
+    no = or_parts (eqb (table_row s.kind) (table_row kinds.Null)) (bytes_eq t s.text) e
 
     go : (k : Kind) → is_same (of_kind k t) s ≡ false
     go kinds.Null = ap (λ (b : Bool). b && bytes_eq (of_kind kinds.Null t).text s.text) (null_first s.kind no.0)
-    go kinds.Bool = no_right (eqb 1 (table_row s.kind)) (bytes_eq t s.text) no.1
-    go kinds.Int = no_right (eqb 2 (table_row s.kind)) (bytes_eq t s.text) no.1
-    go kinds.Float = no_right (eqb 3 (table_row s.kind)) (bytes_eq t s.text) no.1
-    go kinds.Text = no_right (eqb 4 (table_row s.kind)) (bytes_eq t s.text) no.1
+    go kinds.Bool = and_right (eqb 1 (table_row s.kind)) (bytes_eq t s.text) no.1
+    go kinds.Int = and_right (eqb 2 (table_row s.kind)) (bytes_eq t s.text) no.1
+    go kinds.Float = and_right (eqb 3 (table_row s.kind)) (bytes_eq t s.text) no.1
+    go kinds.Text = and_right (eqb 4 (table_row s.kind)) (bytes_eq t s.text) no.1
 
 -- ---- the scalar in the head of a row
 
@@ -62,7 +55,7 @@ no_mark n (Block space anchor b) rest h plain some = absurd (false≢true (sym p
 no_quotes : (head : List ℕ) → is_short_plain head ≡ true → is_quoted head ≡ false
 no_quotes head short =
     let marks : Bool = begins_with 42 head || (begins_with 91 head || begins_with 123 head) in
-    (neither (is_quoted head) marks (not_so (is_quoted head || marks) (and_parts (not (is_quoted head || marks)) (not (holds_break head)) short).0)).0
+    (or_parts (is_quoted head) marks (not_so (is_quoted head || marks) (and_parts (not (is_quoted head || marks)) (not (holds_break head)) short).0)).0
 
 fitted : (b : Bool) (o : Option Node) (x : Node) → fitting b o ≡ Some (Some x) → o ≡ Some x
 fitted true o x e = same_Some _ _ e

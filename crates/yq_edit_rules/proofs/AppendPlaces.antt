@@ -7,7 +7,7 @@ use Rattle.yq_flow_edits.specs.Valued.{IsValueTree}
 use Rattle.yq_outline.{specs.Outline.label, specs.Places.content_under, specs.Comments.line_comment as said}
 use Rattle.yq_row_table.{specs.Grammar.{unlimited, AreRows, no_rows, Limit, allows}, specs.Rows.{rows_text, Part, Cut, cut_text}}
 use Rattle.yq_row_table.{proofs.seams.SeamLaws.rows_text-append, specs.Gap.IsGap}
-use Rattle.yq_places.{specs.CollectionEnds.CollectionEnd, proofs.CommentPieceLaws.Ended}
+use Rattle.yq_places.{specs.CollectionEnds.CollectionEnd, proofs.CommentPieceLaws.Ended, proofs.RunSpans.rows_then}
 use Rattle.yq_documents.{specs.Documents.{document_parts, lead_of}, specs.Reading.{part_outline, read_at, root_of}}
 use Rattle.yq_edit_rules.proofs.AppendEntryLaws.{rows_gap, alone_value, alone_writable, IsEntryOf, entry_of, entry_keys, entry_anchors}
 use Rattle.yq_edit_rules.{proofs.AppendEntryLaws.entry_bare, proofs.LaidRows.laid_rows, proofs.RowLaws.value_laid}
@@ -15,13 +15,11 @@ use Rattle.yq_edit_rules.{specs.declared.layout.Layout.Layout, specs.Alone.singl
 use Rattle.yq_edit_rules.{specs.BlockValues.{IsFilledValue, IsEnd}, proofs.CharacterLaws.value_sound, specs.Appends.AreAppendedRows}
 use Rattle.yq_edit_rules.{specs.Changed.{IsChanged, put_document}, specs.CollectionPlaces.IsCollectionEnd}
 use Rattle.yq_edit_rules.{specs.DocumentRows.{IsDocumentPart, after_document}, specs.Rooms.is_block_root, specs.TextPieces.IsPiece}
-use Rattle.yq_edit_rules.{proofs.AppendPlaceLaws.{EndAllows, end_allows}, proofs.EditedLaws.lines_are_there}
-use Rattle.yq_edit_rules.{proofs.EndedRowLaws.{rows_ended, rows_then}, proofs.LeadLaws.same_lead_goes}
-use Rattle.yq_edit_rules.{proofs.TextPieceLaws.{text_is_piece, pieces_joined, line_cut}, specs.Layouts.layout_of}
-use Rattle.yq_edit_rules.{specs.EntryEdits.entry_lines, specs.Operands.KeyIsUtf8, specs.ReadsAfter.ReadsAfter}
+use Rattle.yq_edit_rules.{proofs.AppendPlaceLaws.{EndAllows, end_allows}, proofs.EditedLaws.lines_are_there, proofs.EndedRowLaws.rows_ended}
+use Rattle.yq_edit_rules.{proofs.LeadLaws.same_lead_goes, proofs.TextPieceLaws.{text_is_piece, pieces_joined, line_cut, nothing}}
+use Rattle.yq_edit_rules.{specs.Layouts.layout_of, specs.EntryEdits.entry_lines, specs.Operands.KeyIsUtf8, specs.ReadsAfter.ReadsAfter}
 use Rattle.yq_edit_rules.{proofs.DoneLaws.document_done, proofs.EditsFitLaws.{new_value, key_near, near_keys}}
-use Rattle.yq_edit_rules.{proofs.CommentPieceLaws.nothing, proofs.RemovalPieceLaws.spaces_piece, proofs.AppendTakers.{IsTaker, taker}}
-use Rattle.yq_edit_rules.proofs.LayoutLaws.{steps_least}
+use Rattle.yq_edit_rules.{proofs.RemovalPieceLaws.spaces_piece, proofs.AppendTakers.{IsTaker, taker}, proofs.LayoutLaws.steps_least}
 use Rattle.yq_semantics.{specs.Changes.{is_overlong_key, has_long_key, is_deep}, specs.Fits.Takes, specs.Operations.append}
 use Rattle.yq_text.specs.Script.{Segment, keep, put}
 

@@ -2,26 +2,19 @@
 use Rattle.std.proofs.Common.{◌≡◌, ◌≢◌, get_or, ◌⊎◌, inl, inr, ℕ, zero, suc, ◌+◌, ◌<◌, ◌≤◌, Bool, true, false, ◌&&◌, not, cond, List, []}
 use Rattle.std.proofs.Common.{◌∷◌, ◌++◌, length, replicate, refl, sym, ap, ◌∙◌, subst, arith, append-nil, append_assoc, length-append}
 use Rattle.std.{proofs.Common.rules, proofs.lemmas.Bool.{false≢true, ltb-true, and_parts, cases_Bool}}
-use Rattle.std.{proofs.lemmas.Str.{encode_ascii, IsUtf8-nil, IsUtf8-take}, proofs.Math.Seq.take-append_seam}
+use Rattle.std.{proofs.lemmas.Str.{encode_ascii, IsUtf8-take}, proofs.Math.Seq.take-append_seam}
 use Rattle.std.{proofs.Math.Utf8.{encodes, encode, scalars, low_scalar}, specs.List.list_all, specs.Str.{chars, IsUtf8}}
-use Rattle.yq_core.{specs.BlockWritten.break_text, specs.Characters.{is_text, is_text_char, pairs_returns}}
+use Rattle.yq_core.{specs.BlockWritten.break_text, specs.Characters.{is_text_char, pairs_returns}}
 use Rattle.yq_core.{specs.Text.{is_feed, is_return, is_empty}, specs.declared.block_types.Break.Break, proofs.Bools.not_byte}
 use Rattle.yq_core.{proofs.Bytes.{Each, each_byte}, proofs.WrittenText.{no_break, is_line_ascii, IsLine, line_is_text}}
 use Rattle.yq_row_table.{proofs.NodePieces.before_ascii, proofs.seams.ScalarSeams.ends_return}
 use Rattle.yq_edit_rules.{specs.TextPieces.IsPiece, proofs.LineFrontLaws.{clean_byte, clean_cut}}
-use Rattle.yq_edit_rules.{proofs.TextPieceLaws.{pieces_joined, line_cut}, proofs.RemovalPieceLaws.spaces_piece}
+use Rattle.yq_edit_rules.{proofs.TextPieceLaws.{pieces_joined, line_cut, nothing}, proofs.RemovalPieceLaws.spaces_piece}
 use Rattle.yq_edit_rules.specs.CommentEdits.{comment_line, head_lines}
 use Rattle.yq_semantics.{specs.Changes.can_be_comment, specs.Meaning.{head_comment_lines, split_lines}}
 use Rattle.yq_semantics.specs.declared.program.CommentPlace.TheVariants as comments
 
 -- ---- single bytes
-
-pub nothing_text : is_text [] ≡ true
-unfolding chars pairs_returns
-nothing_text = refl
-
-pub nothing : IsPiece []
-nothing = record { utf8 = IsUtf8-nil; characters = nothing_text }
 
 low_line : (b : ℕ) → is_line_ascii b ≡ true → IsLine (b ∷ []) × IsUtf8 (b ∷ [])
 low_line b h =

@@ -1,17 +1,16 @@
 -- What an operation that fits says of its value, its key, the anchors that go, and the node that is replaced.
-use Rattle.std.proofs.Common.{inl, inr, ◌≡◌, ℕ, ◌+◌, ◌≤◌, Bool, true, false, ◌||◌, List, [], ◌∷◌, ◌++◌, length, Option, Some, None, refl}
-use Rattle.std.{proofs.Common.{sym, ap, ◌∙◌, subst, arith, rules}, proofs.lemmas.Bool.{false≢true, ltb-false, or_parts}}
-use Rattle.std.{specs.List.{list_any, slice_get}, proofs.lemmas.Option.{none-some, same_Some}, specs.Prelude.{◌≢◌, All}, specs.Str.bytes_eq}
+use Rattle.std.proofs.Common.{inl, inr, ◌≡◌, ℕ, ◌+◌, ◌≤◌, Bool, true, false, ◌||◌, List, [], ◌∷◌, length, Option, Some, None, sym, ap, ◌∙◌}
+use Rattle.std.{proofs.Common.{subst, arith, rules}, proofs.lemmas.Bool.{false≢true, ltb-false, or_parts}, specs.List.{list_any, slice_get}}
+use Rattle.std.{proofs.lemmas.Option.{none-some, same_Some}, specs.Prelude.{◌≢◌, All}, specs.Str.bytes_eq}
 use Rattle.yq_core.{specs.Answers.◌>>=◌, specs.Keys.{HasUniqueKeys, EachHasUniqueKeys, AreDistinct, keys_of, depth}}
 use Rattle.yq_core.{specs.Paths.{Step, To, child_at, node_at}, specs.Shapes.{IsTree, AreTrees, AreEntries, IsNew}}
-use Rattle.yq_core.{specs.Tree.{Node, Children}, specs.Inline.depth_limit}
-use Rattle.yq_core.specs.Anchors.{Name, Anchors, Refers, names_of, names_in, IsAmong}
+use Rattle.yq_core.{specs.Tree.{Node, Children}, specs.Inline.depth_limit, specs.Anchors.{Name, Anchors, Refers, names_of, IsAmong}}
 use Rattle.yq_flow_edits.specs.Valued.{IsLabel, IsValueTree, AreValueTrees}
 use Rattle.yq_row_table.specs.Rows.{Part, Cut, cut_text}
 use Rattle.yq_documents.{specs.Documents.{Document, document_parts}, specs.Reading.{documents, root_of}}
 use Rattle.yq_edit_rules.{specs.BlockValues.{IsNear, HasNearKeys, EachHasNearKeys}, proofs.KeyLaws.near_key}
 use Rattle.yq_edit_rules.{specs.Conditions.{aliases_in, AreSpared}, specs.SoundRoots.{IsNewValue, MayReplace}, specs.Operands.KeyIsUtf8}
-use Rattle.yq_edit_rules.proofs.DoneLaws.{nth_map}
+use Rattle.yq_edit_rules.{proofs.DoneLaws.nth_map, proofs.FitLaws.no_names}
 use Rattle.yq_semantics.specs.Changes.{is_overlong_key, has_long_key, have_long_key, is_deep, is_used, refers_to, is_used_inside}
 use Rattle.yq_semantics.{specs.Fits.Fits, specs.Operations.replace, specs.Rooms.room_of, proofs.PathLaws.bytes_refl}
 use Rattle.yq_places.specs.NodesAt.{node_in}
@@ -19,17 +18,6 @@ use Rattle.yq_core.specs.Tree as tree
 use Rattle.yq_documents.specs.Reading as reading
 
 -- ---- values
-
-mutual
-  value_names : (v : Node) → IsValueTree v → names_of v ≡ []
-  value_names (tree.alias n) h = absurd h
-  value_names (tree.scalar a kind text) h = ap (λ x. names_of (tree.scalar x kind text)) h.0
-  value_names (tree.list a cs) h = ap (λ x. names_of (tree.list x cs)) h.0 ∙ values_names false cs h.1
-  value_names (tree.map a cs) h = ap (λ x. names_of (tree.map x cs)) h.0 ∙ values_names true cs h.1
-
-  values_names : (keyed : Bool) (cs : Children) → AreValueTrees keyed cs → names_in cs ≡ []
-  values_names keyed tree.none h = refl
-  values_names keyed (tree.child label n cs) h = λ i. value_names n h.1 i ++ values_names keyed cs h.2 i
 
 other_keys : (k : List ℕ) (cs : Children) → IsNew k cs → All (λ j. k ≢ j) (keys_of cs)
 other_keys k tree.none h = λ i d within. absurd (omega (arith, within))
@@ -51,7 +39,7 @@ mutual
   trees_unique (tree.child label n cs) h = (tree_unique n h.0, trees_unique cs h.1)
 
 pub new_value : (above : ℕ) (v : Node) → IsValueTree v → HasUniqueKeys v → is_deep above v ≡ false → IsNewValue v above
-new_value above v h unique deep = record { bare = value_names v h; unique = unique; nested = ltb-false depth_limit (above + depth v) deep }
+new_value above v h unique deep = record { bare = no_names v h; unique = unique; nested = ltb-false depth_limit (above + depth v) deep }
 
 -- ---- keys
 

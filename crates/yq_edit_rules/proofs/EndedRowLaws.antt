@@ -1,11 +1,10 @@
 -- Rows end in an LF, or nothing is after them.
-use Rattle.std.proofs.Common.{rules, inl, inr, ◌≡◌, ℕ, ℤ, List, [], ◌∷◌, ◌++◌, sym, ◌∙◌, subst}
+use Rattle.std.proofs.Common.{rules, inl, inr, ℕ, ℤ, List, [], ◌∷◌, ◌++◌, sym, ◌∙◌, subst}
 use Rattle.yq_core.proofs.BlockPieceLaws.{IsLf, append_lf}
 use Rattle.yq_row_table.{specs.Exchange.row_front, specs.Grammar.{Limit, limit_after, IsContent, IsRow, AreRows}}
 use Rattle.yq_row_table.{specs.Rows.{Content, content_text, Row, print_row, rows_text}, specs.View.content_cut}
-use Rattle.yq_row_table.{proofs.PlaceLaws.{part_then, row_front-append}, proofs.seams.SeamLaws.rows_text-append}
-use Rattle.yq_row_table.proofs.SliceLaws.{content_slices}
-use Rattle.yq_places.{proofs.CommentPieceLaws.{Ended, content_end}, proofs.SeamLaws.{raw_end, last_ended}}
+use Rattle.yq_row_table.{proofs.PlaceLaws.row_front-append, proofs.seams.SeamLaws.rows_text-append, proofs.SliceLaws.content_slices}
+use Rattle.yq_places.{proofs.CommentPieceLaws.{Ended, content_end}, proofs.SeamLaws.{raw_end, last_ended}, proofs.RunSpans.rows_then}
 
 -- the text of a content
 pub many_lf : (a b c d t : List ℕ) → IsLf t → IsLf (a ++ (b ++ (c ++ (d ++ t))))
@@ -17,10 +16,6 @@ content_ended n c rest h = go (last_ended (content_cut c).4 (content_cut c).5 re
     go : Ended ((content_cut c).4 ++ ((content_cut c).5 ++ [])) rest → Ended (content_text c []) rest
     go (inl lf) = inl (subst IsLf (content_slices c []) (many_lf (content_cut c).0 (content_cut c).1 (content_cut c).2 (content_cut c).3 ((content_cut c).4 ++ ((content_cut c).5 ++ [])) lf))
     go (inr none) = inr none
-
--- the text of rows
-pub rows_then : (rs : List Row) (t : List ℕ) → rows_text rs t ≡ rows_text rs [] ++ t
-rows_then rs t = part_then (record { rows = rs; end = [] }) [] t
 
 pub row_there : (limit : Limit) (others : List Row) (r : Row) (back : List Row) (gap rest : List ℕ) → AreRows limit (others ++ (r ∷ back)) gap rest → (l : Limit) × IsRow l r (rows_text back (gap ++ rest))
 row_there limit [] r back gap rest h = (limit, h.0)

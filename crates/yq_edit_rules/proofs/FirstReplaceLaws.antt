@@ -2,7 +2,7 @@
 use Rattle.std.proofs.Common.{rules, ◌≡◌, ℕ, ◌<◌, true, false, List, [], ◌∷◌, ◌++◌, length, Some, refl, sym, ap, ◌∙◌, subst, arith}
 use Rattle.std.proofs.Common.{append_assoc}
 use Rattle.yq_core.{specs.Text.separates, specs.Alike.{Alike, byte}}
-use Rattle.yq_row_table.specs.Exchange.{allows_first, asked_after}
+use Rattle.yq_row_table.specs.Exchange.{asked_after}
 use Rattle.yq_row_table.specs.Grammar.{IsContent, IsTail, AreDashes, is_entry, IsRow, Limit, unlimited, limit_after, AreRows}
 use Rattle.yq_row_table.specs.Joined.{dashed_row}
 use Rattle.yq_row_table.specs.Rows.{Nothing, Row, after_columns, after_dashes, after_indent, dashes_text, parent_indent, parent_of}
@@ -11,6 +11,7 @@ use Rattle.yq_row_table.proofs.RowPlaces.{takes_place}
 use Rattle.yq_row_table.proofs.seams.JoinLaws.{row_dashed, space_apart, dashes_text-append, after_columns-append}
 use Rattle.yq_row_table.{proofs.splices.SpliceTexts.{first_is, first_text}, proofs.PlaceLaws.first_allowed}
 use Rattle.yq_edit_rules.{specs.Moved.{emptied_row, moved_up}, specs.Replaces.RowsReplace}
+use Rattle.yq_places.proofs.HeadSpanLaws.{free_first}
 use Rattle.yq_row_table.specs.Rows as rows
 
 -- ---- rows among others
@@ -86,7 +87,4 @@ dropped_replaces p front gone back r n ns es tail rest h rows f =
     let u : List ℕ = first_gap back p.end ++ after_first back p.end rest in
     let takes : TakesPlace limit r t (dashed_row ns (Nothing tail) r) u =
     row_dashed limit r ns n es (Nothing tail) t u own.0 (record { dash = f.dashes; content = f.ends u; apart = f.apart u }) in
-    search (rules, first_is, free)
-  where
-    free : (rs : List Row) → allows_first unlimited rs ≡ true
-    free rs = search rules
+    search (rules, first_is, free_first)

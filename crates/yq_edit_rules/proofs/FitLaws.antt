@@ -74,7 +74,7 @@ anchors_fit rs h = one_each (lines_of_rows rs) (rows_unnamed rs h)
 
 -- a value names nothing
 mutual
-  no_names : (n : tree.Node) → IsValueTree n → names_of n ≡ []
+  pub no_names : (n : tree.Node) → IsValueTree n → names_of n ≡ []
   no_names (tree.alias name) h = absurd h
   no_names (tree.scalar a kind t) h = rw h.0 refl
   no_names (tree.list a cs) h = rw h.0 (none_named cs false h.1)

@@ -11,8 +11,8 @@ use Rattle.yq_row_table.{specs.Rows.{Content, Nothing, Inline, Block, dashes_tex
 use Rattle.yq_row_table.{proofs.NodePieces.{BeginsAscii, before_ascii, following_ascii}, proofs.seams.ScalarSeams.ends_return}
 use Rattle.yq_places.{specs.PrintedLines.{less_break, last_break}, specs.RowPieces.{anchor_before, space_before}}
 use Rattle.yq_places.proofs.PrintedTexts.{less_is}
-use Rattle.yq_edit_rules.{specs.TextPieces.IsPiece, proofs.LineFrontLaws.{clean_cut, ends_more}, proofs.TextPieceLaws.byte_cut}
-use Rattle.yq_edit_rules.{proofs.BreakLaws.{IsLfOrCrLf, last_is}, proofs.CommentPieceLaws.{nothing, break_piece}}
+use Rattle.yq_edit_rules.{specs.TextPieces.IsPiece, proofs.LineFrontLaws.{clean_cut, ends_more}, proofs.TextPieceLaws.{byte_cut, nothing}}
+use Rattle.yq_edit_rules.{proofs.BreakLaws.{IsLfOrCrLf, last_is}, proofs.CommentPieceLaws.break_piece}
 use Rattle.yq_core.specs.Nodes as inline
 use Rattle.yq_row_table.specs.Rows as rows
 

@@ -12,8 +12,8 @@ use Rattle.yq_places.proofs.RunSpans.{rows_then}
 use Rattle.yq_edit_rules.{proofs.OneLines.left_none, proofs.HeldLaws.{no_break, front_is, held_there}}
 use Rattle.yq_edit_rules.{specs.PlacementLaws.{HeldSpells, HoldsPieces, HasItsRows}, specs.TextPieces.IsPiece}
 use Rattle.yq_edit_rules.{proofs.PlacementMarks.{entry_there, row_there, rows_ended_there}, proofs.PlacementRows.rows_located}
-use Rattle.yq_edit_rules.{proofs.TextPieceLaws.{line_cut, piece_back, text_is_piece}, proofs.BreakLaws.{IsLfOrCrLf, break_is, last_is}}
-use Rattle.yq_edit_rules.proofs.CommentRowLaws.{entry_row, cut_spelled}
+use Rattle.yq_edit_rules.proofs.TextPieceLaws.{line_cut, piece_back, text_is_piece, nothing}
+use Rattle.yq_edit_rules.{proofs.BreakLaws.{IsLfOrCrLf, break_is, last_is}, proofs.CommentRowLaws.{entry_row, cut_spelled}}
 use Rattle.yq_edit_rules.proofs.HeldCuts.{EndsIn, anchor_cut, anchor_ends, break_is_piece, dashes_end, following_ends, last_of, less_piece}
 use Rattle.yq_edit_rules.{proofs.HeldCuts.{low_last, mark_ends, space_white}, proofs.TailPieces.{HasTailPieces, pieces, white_piece}}
 
@@ -47,14 +47,14 @@ record BelowPieces (b below z : List ℕ) : Type 0 where
   after : IsPiece z
 
 below_pieces : (break below after : List ℕ) → IsPiece break → IsPiece (below ++ after) → (is_empty below ≡ false → Ended below after) → BelowPieces break below after
-below_pieces break [] after b all ends = record { break = Rattle.yq_edit_rules.proofs.CommentPieceLaws.nothing; lines = subst IsPiece (sym no_break) Rattle.yq_edit_rules.proofs.CommentPieceLaws.nothing; last = b; after = all }
+below_pieces break [] after b all ends = record { break = nothing; lines = subst IsPiece (sym no_break) nothing; last = b; after = all }
 below_pieces break (x ∷ xs) after b all ends =
     let k = cut (ends refl) in
     record { break = b; lines = less_piece (x ∷ xs) k.0; last = break_is_piece (last_break (x ∷ xs)) (last_is (x ∷ xs)); after = k.1 }
   where
     cut : Ended (x ∷ xs) after → IsPiece (x ∷ xs) × IsPiece after
     cut (inl lf) = subst (λ t. IsPiece t × IsPiece after) (sym lf.1) (line_cut lf.0 after (subst (λ t. IsPiece (t ++ after)) lf.1 all))
-    cut (inr none) = (subst IsPiece (ap (λ t. (x ∷ xs) ++ t) none ∙ append-nil (x ∷ xs)) all, subst IsPiece (sym none) Rattle.yq_edit_rules.proofs.CommentPieceLaws.nothing)
+    cut (inr none) = (subst IsPiece (ap (λ t. (x ∷ xs) ++ t) none ∙ append-nil (x ∷ xs)) all, subst IsPiece (sym none) nothing)
 
 -- what is below the line of a key or dash ends in a break, or nothing is after
 pub below_ended : (n : ℕ) (s : Step) (ss : List Step) (c : Cut) (e : RowsOfEntry) → HasItsRows n s ss c e → is_empty ((slices e.row).raw ++ rows_text e.under []) ≡ false →

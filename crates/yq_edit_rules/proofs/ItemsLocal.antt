@@ -27,9 +27,6 @@ rows_last rs i trail h = subst (InLast trail) (sym (rows_before rs [] (i ∷ [])
 pub first_within : (t a b : List ℕ) → t ≡ a ++ b → length a ≤ length t
 first_within t a b e = let size : length t ≡ length (a ++ b) = ap length e in omega (arith, size, length-append a b)
 
-pub last_within : (t a b : List ℕ) → t ≡ a ++ b → length b ≤ length t
-last_within t a b e = let size : length t ≡ length (a ++ b) = ap length e in omega (arith, size, length-append a b)
-
 -- ---- the texts of items
 
 pub item_apart : (i : Item) (is : List Item) (rest : List ℕ) → items_text (i ∷ is) rest ≡ item_text i ++ items_text is rest

@@ -6,12 +6,12 @@ use Rattle.yq_core.{proofs.BlockPieceLaws.IsLf, proofs.Bools.guard_then}
 use Rattle.yq_row_table.{proofs.ItemLaws.{rows_items_text, items_joined, parts_are_items}, specs.Grammar.{Limit, limit_after, IsRow}}
 use Rattle.yq_row_table.specs.Items.{Item, row_item, rows_items, items_of_cut, items_text, Asked, nothing_asked, asked_by, asked_of}
 use Rattle.yq_row_table.{specs.Items.AreRowItems, specs.Rows.{Row, print_row, rows_text, Part, Cut, cut_text}, specs.Splices.with_row_gap}
-use Rattle.yq_row_table.{proofs.PlaceLaws.row_then, proofs.RowLaws.row_longer, proofs.seams.FrontSeams.row_some}
+use Rattle.yq_row_table.{proofs.PlaceLaws.row_then, proofs.RowLaws.row_longer, proofs.seams.FrontSeams.row_some, proofs.FrontLaws.front_le}
 use Rattle.yq_documents.{specs.Reading.read_at, proofs.ReadLaws.text_takes}
 use Rattle.yq_places.proofs.CommentPieceLaws.{Ended}
 use Rattle.yq_edit_rules.{proofs.DocumentItemLaws.rows_before, proofs.EndedRowLaws.row_ended, specs.Changed.put_document}
 use Rattle.yq_edit_rules.{specs.Local.{InFirst, InLast, IsLocal}, proofs.OneLines.{is_one_line, left_none, past_feed}}
-use Rattle.yq_edit_rules.proofs.ItemsLocal.{last_within, IsInside}
+use Rattle.yq_edit_rules.proofs.ItemsLocal.{IsInside}
 use Rattle.yq_edit_rules.proofs.LocalLaws.{longer_end, RowsGiveWay, rows_way, gone_text, come_text, rows_local}
 use Rattle.yq_text.specs.Script.{Segment}
 
@@ -39,7 +39,7 @@ row_feed asked r s is rest h = go (row_ended asked.limit r (print_row s (items_t
 
 last_line : (rs : List Row) (asked : Asked) (is : List Item) (rest t trail : List ℕ) → AreRowItems asked (rows_items rs is) rest → rows_text rs [] ≡ t ++ trail → is_one_line trail ≡ true → InLast trail (rows_items rs [])
 last_line [] asked is rest t trail h e one = left_none t trail (sym e)
-last_line (r ∷ []) asked is rest t trail h e one = last_within (print_row r []) t trail e
+last_line (r ∷ []) asked is rest t trail h e one = front_le (print_row r []) t trail e
 last_line (r ∷ (s ∷ more)) asked is rest t trail h e one = go (λ u k. last_line (s ∷ more) (asked_by asked (row_item r)) is rest u trail h.1 k one) (leb (length trail) (length (rows_text (s ∷ more) []))) refl
   where
     whole : print_row r [] ++ rows_text (s ∷ more) [] ≡ t ++ trail

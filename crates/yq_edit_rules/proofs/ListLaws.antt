@@ -51,7 +51,7 @@ unfolding block_node block_children node_text inline.flow_items_text
 map_is l column es = search (rules, pair_is, then_entries)
 
 -- the code's values
-map_node : (v : Vec Entry Global) → value_node (values.Map v) ≡ tree.map None (entries (map field_of v.items))
+pub map_node : (v : Vec Entry Global) → value_node (values.Map v) ≡ tree.map None (entries (map field_of v.items))
 map_node v = simp (string_bytes, node_map, map_twice)
 
 pub list_value : (l : Layout) (column : ℕ) (v : Vec Value Global) → block_value l column (value_node (values.List v)) ≡ block_list l column (map value_node v.items)

@@ -1,8 +1,8 @@
 -- The text with rows taken out is joined of pieces of the old one.
 use Rattle.std.proofs.Common.{◌≡◌, ◌⊎◌, inl, inr, ℕ, zero, suc, ◌<◌, Bool, true, cond, List, [], ◌∷◌, ◌++◌, replicate, Option, Some, None}
 use Rattle.std.{proofs.Common.{refl, sym, ap, ◌∙◌, subst, append-nil, rules}, proofs.lemmas.Bool.{cond_both, cases_Bool}}
-use Rattle.std.{proofs.lemmas.Str.{IsUtf8-from_ascii, IsUtf8-nil, chars-IsAscii}, proofs.lemmas.Str.Ascii.{IsAscii-nil, IsAscii-cons}}
-use Rattle.std.specs.Str.{chars, IsAscii}
+use Rattle.std.{proofs.lemmas.Str.{IsUtf8-from_ascii, chars-IsAscii}, proofs.lemmas.Str.Ascii.{IsAscii-nil, IsAscii-cons}}
+use Rattle.std.specs.Str.{IsAscii}
 use Rattle.yq_core.{specs.Block.RawLines, specs.BlockRepair.{is_short, is_outdented_comment, repaired_blank, repaired_comment, repair}}
 use Rattle.yq_core.{specs.Characters.pairs_returns, specs.Lines.is_blank, specs.Text.{is_white, joined, text_lines, past_white}}
 use Rattle.yq_core.{proofs.Boundaries.white_ascii, proofs.SpaceLaws.white_drop}
@@ -11,14 +11,11 @@ use Rattle.yq_row_table.{specs.Splices.{after_first, first_gap}, proofs.seams.Ga
 use Rattle.yq_places.{specs.PlacedRows.{PlacedPart, placed_document}, specs.RemovalPlaces.{Seam, kept_gap, rows_out}}
 use Rattle.yq_places.{proofs.CommentPieceLaws.{Ended, gap_end}, proofs.PlacedPartLaws.part_is_there}
 use Rattle.yq_places.{proofs.RemovalLines.{LineSeam, line_seam, lies_in, are_lines}, proofs.RemovalTexts.old_text}
-use Rattle.yq_edit_rules.{specs.RemovalChanges.mended, specs.TextPieces.IsPiece, proofs.TextPieceLaws.{line_cut, piece_back, pieces_joined}}
-
-nothing_piece : IsPiece []
-unfolding chars pairs_returns
-nothing_piece = record { utf8 = IsUtf8-nil; characters = refl }
+use Rattle.yq_edit_rules.{specs.RemovalChanges.mended, specs.TextPieces.IsPiece}
+use Rattle.yq_edit_rules.proofs.TextPieceLaws.{line_cut, piece_back, pieces_joined, nothing}
 
 pub seam_pieces : (a b : List ℕ) → LineSeam a b → IsPiece (a ++ b) → IsPiece a × IsPiece b
-seam_pieces a b h1 h2 = search (rules, nothing_piece, line_cut, append-nil)
+seam_pieces a b h1 h2 = search (rules, nothing, line_cut, append-nil)
 
 -- The text before what is taken out, the gap after it and the text after that are pieces.
 pub record PiecesLeft (before gap after : List ℕ) : Type 0 where
@@ -56,7 +53,7 @@ unfolding pairs_returns
 space_piece = search (rules, IsUtf8-from_ascii, byte_ascii, chars-IsAscii)
 
 pub spaces_piece : (n : ℕ) → IsPiece (replicate n 32)
-spaces_piece zero = nothing_piece
+spaces_piece zero = nothing
 spaces_piece (suc n) = pieces_joined (32 ∷ []) (replicate n 32) space_piece (spaces_piece n)
 
 pub front_none : (a b : List ℕ) → a ++ b ≡ [] → a ≡ []

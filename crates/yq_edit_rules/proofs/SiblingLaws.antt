@@ -1,9 +1,9 @@
 -- Outlines one after the other: their lines, evenness, and items or entries.
-use Rattle.std.proofs.Common.{◌≡◌, ℕ, ◌∷◌, ◌++◌, Option, refl, sym, ap, ◌∙◌, append_assoc, rules}
+use Rattle.std.proofs.Common.{◌≡◌, ℕ, ◌∷◌, ◌++◌, refl, sym, ap, ◌∙◌, append_assoc, rules}
 use Rattle.yq_core.{specs.Paths.{within, append_children}, specs.Tree.{Children, child}}
-use Rattle.yq_outline.specs.Outline.{LineMark, Line, level, Outline, end, row, flatten, IsWhole, IsEven, label, children, value}
+use Rattle.yq_outline.specs.Outline.{LineMark, Line, level, Outline, end, row, flatten, IsEven, label, children, value}
 use Rattle.yq_outline.{specs.Places.content_under, proofs.Allowing.IsCollection}
-use Rattle.yq_outline.proofs.Values.{same_rank, same_collection, same_entry, within-shaped}
+use Rattle.yq_outline.{proofs.Values.{same_rank, same_collection, same_entry, within-shaped}, proofs.Plug.entry_whole}
 use Rattle.yq_edit_rules.specs.Siblings.{append_outline, IsEntry, HasEntries}
 use Rattle.yq_outline.proofs.Allowing as allowing
 
@@ -33,9 +33,6 @@ pub next : (n : ℕ) (l : Line) (o : Outline) → allowing.IsEntry l.mark → le
 next n l end e h even = tt
 next n l (row k v b) e h even = same_entry l.mark k.mark e (same_rank l k (h ∙ sym even.0))
 
-whole_any : (m : LineMark) (h : Option _) (o : Outline) → allowing.IsEntry m → IsWhole m h o
-whole_any m h o h1 = search rules
-
 -- evenness
 pub even_right : (n : ℕ) (a b : Outline) → IsEven n (append_outline a b) → IsEven n b
 even_right n end b e = e
@@ -43,11 +40,11 @@ even_right n (row l u a) b e = even_right n a b e.4
 
 pub even_left : (n : ℕ) (a b : Outline) → IsCollection (append_outline a b) → IsEven n (append_outline a b) → IsEven n a
 even_left n end b c e = tt
-even_left n (row l u a) b c e = (e.0, e.1, whole_any l.mark l.head a c, e.3, even_left n a b (next n l (append_outline a b) c e.0 e.4) e.4)
+even_left n (row l u a) b c e = (e.0, e.1, entry_whole l.mark l.head a c, e.3, even_left n a b (next n l (append_outline a b) c e.0 e.4) e.4)
 
 pub even_append : (n : ℕ) (a b : Outline) → IsCollection (append_outline a b) → IsEven n a → IsEven n b → IsEven n (append_outline a b)
 even_append n end b c e f = f
-even_append n (row l u a) b c e f = (e.0, e.1, whole_any l.mark l.head (append_outline a b) c, e.3, even_append n a b (left a b n l c e.0 e.4 f) e.4 f)
+even_append n (row l u a) b c e f = (e.0, e.1, entry_whole l.mark l.head (append_outline a b) c, e.3, even_append n a b (left a b n l c e.0 e.4 f) e.4 f)
   where
     left : (a b : Outline) (n : ℕ) (l : Line) → allowing.IsEntry l.mark → level l ≡ n → IsEven n a → IsEven n b → IsCollection (append_outline a b)
     left end b n l c h e f = next n l b c h f

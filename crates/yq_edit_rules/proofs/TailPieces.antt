@@ -8,7 +8,7 @@ use Rattle.yq_row_table.{proofs.CharacterLaws.pairs_back, proofs.LineEnds.white_
 use Rattle.yq_row_table.proofs.seams.ScalarSeams.{ends_return}
 use Rattle.yq_places.{specs.CommentPlaces.text_to_line_end, specs.PlacedRows.PlacedRow}
 use Rattle.yq_edit_rules.{specs.TextPieces.IsPiece, proofs.LineFrontLaws.{ends_more, clean_cut, line_ends_clean}}
-use Rattle.yq_edit_rules.{proofs.CommentPieceLaws.{nothing, byte_then}, proofs.CommentRowLaws.{line_whole, line_some}}
+use Rattle.yq_edit_rules.{proofs.TextPieceLaws.nothing, proofs.CommentPieceLaws.byte_then, proofs.CommentRowLaws.{line_whole, line_some}}
 
 none_clean : (c rest : List ℕ) → NoneIn ends_line c rest → front is_feed rest ≡ true → ends_return c ≡ false
 none_clean [] rest h f = refl

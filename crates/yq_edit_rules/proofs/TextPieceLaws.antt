@@ -1,14 +1,18 @@
 -- Pieces of a text, joined and cut.
 use Rattle.std.proofs.Common.{arith, ◌≡◌, ℕ, false, List, [], ◌∷◌, ◌++◌, length, refl, sym, ◌∙◌, subst, append_assoc, length-append, rules}
 use Rattle.std.proofs.Math.Seq.{take-append_seam, drop-append_seam}
-use Rattle.std.proofs.lemmas.Str.{IsCharBoundary-from_take, IsUtf8-append, IsUtf8-drop, IsUtf8-from_is_utf8, IsUtf8-take}
-use Rattle.std.{proofs.lemmas.Bool.{and_from, and_parts}, specs.Str.{IsUtf8, IsCharBoundary}}
+use Rattle.std.proofs.lemmas.Str.{IsCharBoundary-from_take, IsUtf8-append, IsUtf8-drop, IsUtf8-from_is_utf8, IsUtf8-take, IsUtf8-nil}
+use Rattle.std.{proofs.lemmas.Bool.{and_from, and_parts}, specs.Str.{IsUtf8, IsCharBoundary, chars}}
 use Rattle.yq_core.{specs.Characters.pairs_returns, specs.Text.{front, is_feed}, proofs.Bools.guard_then}
 use Rattle.yq_row_table.specs.Rows.{cut_text}
 use Rattle.yq_row_table.proofs.CharacterLaws.{all_text, all_join, pairs_join, pairs_back, pairs_front, pairs_cut, EndsBlack}
 use Rattle.yq_row_table.proofs.NodePieces.{EndsAscii, BeginsAscii, following_ascii, before_ascii}
 use Rattle.yq_documents.{specs.Reading.read_at, proofs.ReadLaws.text_takes}
 use Rattle.yq_edit_rules.specs.TextPieces.{IsPiece, TextIsPiece, PiecesJoined, LineCut, BeginsPiece, ByteCut}
+
+pub nothing : IsPiece []
+unfolding chars pairs_returns
+nothing = record { utf8 = IsUtf8-nil; characters = refl }
 
 pub pieces_joined : PiecesJoined
 pieces_joined a b h k =

@@ -1,7 +1,9 @@
 -- A block collection whose last line has no break ends its text: the line gets a break, and rows come after it.
 use Rattle.yq_edit_rules.{proofs.FirstReplaceLaws.rows_after, specs.CollectionPlaces.IsCollectionEnd, specs.DocumentRows.after_document}
 use Rattle.yq_edit_rules.{specs.Ends.closed_with, specs.Rooms.is_block_root, proofs.AppendPlaceLaws.{EndAllows, last_limit}}
-use Rattle.yq_edit_rules.proofs.EndedRowLaws.{row_there, rows_then}
+use Rattle.yq_edit_rules.proofs.EndedRowLaws.{row_there}
+use Rattle.yq_places.{proofs.RunSpans.rows_then, specs.CollectionEnds.{CollectionEnd, is_broken}, specs.PrintedLines.end_break}
+use Rattle.yq_places.proofs.ContentEndLaws.{Ends, content_ends}
 use Rattle.std.proofs.Common.{◌≡◌, inl, inr, ℕ, true, false, List, [], ◌∷◌, ◌++◌, refl, sym, ap, ◌∙◌, subst, append_assoc, append-nil}
 use Rattle.std.{proofs.Common.rules, proofs.lemmas.Bool.false≢true}
 use Rattle.yq_core.{specs.Paths.Step, specs.Text.{is_empty, is_line}}
@@ -11,8 +13,6 @@ use Rattle.yq_row_table.specs.Grammar.{Limit, unlimited, limit_after, allows, Ar
 use Rattle.yq_row_table.specs.Rows.{Content, content_text, Row, parent_indent, print_row, rows_text, Part, part_text, Cut}
 use Rattle.yq_row_table.{specs.Seams.{is_block, tail_after, with_tail}, specs.Splices.first_gap, proofs.PlaceLaws.row_front-append}
 use Rattle.yq_row_table.{proofs.seams.FrontSeams.rows_some, proofs.seams.SeamLaws.rows_text-append}
-use Rattle.yq_places.{specs.CollectionEnds.{CollectionEnd, is_broken}, specs.PrintedLines.end_break}
-use Rattle.yq_places.proofs.ContentEndLaws.{Ends, content_ends}
 use Rattle.yq_documents.{specs.Documents.lead_of, specs.Ready.begins_no_node}
 
 -- ---- nothing is after

@@ -1,6 +1,6 @@
 -- The inline nodes of values: scalars in a style of one line, and collections in flow style.
-use Rattle.yq_edit_rules.{proofs.CommentPieceLaws.{byte_then, nothing}, specs.InlineRows.IsValueNode, specs.TextPieces.IsPiece}
-use Rattle.yq_edit_rules.{proofs.TextPieceLaws.pieces_joined, proofs.FlowWritten.flow_fits}
+use Rattle.yq_edit_rules.{proofs.CommentPieceLaws.byte_then, proofs.TextPieceLaws.{nothing, pieces_joined}, specs.InlineRows.IsValueNode}
+use Rattle.yq_edit_rules.{specs.TextPieces.IsPiece, proofs.FlowWritten.flow_fits}
 use Rattle.std.proofs.Common.{◌≡◌, ℕ, ◌≤◌, not, cond, List, [], ◌∷◌, ◌++◌, Option, Some, Bool, true, false, refl, sym, ap, ◌∙◌, subst}
 use Rattle.std.{proofs.Common.{append-nil, rules}, proofs.lemmas.Bool.{false≢true, not-true, and_parts}, specs.Str.IsUtf8}
 use Rattle.yq_core.{specs.Keys.depth, specs.Piece.deeper, specs.PlainText.begins_marker, specs.Plain.holds_break}
