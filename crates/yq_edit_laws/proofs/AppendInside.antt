@@ -8,18 +8,17 @@ use Rattle.yq_row_table.{specs.Rows.{Row, rows_text, Part, Cut, cut_text}, specs
 use Rattle.yq_row_table.{specs.Splices.{first_gap, after_first}, proofs.seams.SeamLaws.rows_text-append}
 use Rattle.yq_row_table.{proofs.splices.SpliceTexts.{own_gap, own_end, first_text}, specs.Items.rows_items}
 use Rattle.yq_places.{specs.CollectionEnds.{CollectionEnd, is_broken}, specs.RowPaths.IsReadable, specs.Placements.{Held, LinesIn}}
-use Rattle.yq_places.proofs.RemovalLines.{front_some}
+use Rattle.yq_places.{proofs.RemovalLines.front_some, proofs.RunSpans.rows_then}
 use Rattle.yq_documents.{specs.Documents.lead_of, specs.Ready.begins_no_node, specs.Reading.{read_at, documents}}
 use Rattle.yq_outline.{specs.Lines.lines_of_rows, specs.Outline.label, specs.Places.content_under}
 use Rattle.yq_edit_rules.{proofs.UnbrokenLaws.{begins_same, gap_same}, specs.declared.layout.Layout.Layout, specs.Alone.singleton}
 use Rattle.yq_edit_rules.{specs.BlockRows.node_rows, proofs.BlockEndLaws.line_ends, proofs.TextLaws.value_spelled}
 use Rattle.yq_edit_rules.{specs.Appends.{TakesRows, inserted}, specs.Changed.{IsChanged, put_document}}
 use Rattle.yq_edit_rules.{specs.CollectionPlaces.IsCollectionEnd, specs.DocumentRows.after_document, specs.Rooms.is_block_root}
-use Rattle.yq_edit_rules.{proofs.AppendLaws.block_appended, proofs.EndedRowLaws.rows_then, proofs.TextPieceLaws.pieces_joined}
-use Rattle.yq_edit_rules.{proofs.BlockLineLaws.break_uncommented, specs.Local.{IsLocal, IsLocalTo}}
-use Rattle.yq_edit_rules.{proofs.ItemsLocal.{first_nothing, last_nothing}, proofs.LocalLaws.{cut_known, rows_local}}
-use Rattle.yq_edit_rules.{specs.Layouts.layout_of, specs.EntryEdits.{entry_lines, after_held}, specs.ReadsAfter.ReadsAfter}
-use Rattle.yq_edit_rules.{proofs.CommentPieceLaws.break_piece, proofs.SegmentLaws.segments_readable}
+use Rattle.yq_edit_rules.{proofs.AppendLaws.block_appended, proofs.TextPieceLaws.pieces_joined, proofs.BlockLineLaws.break_uncommented}
+use Rattle.yq_edit_rules.{specs.Local.{IsLocal, IsLocalTo}, proofs.ItemsLocal.{first_nothing, last_nothing}}
+use Rattle.yq_edit_rules.{proofs.LocalLaws.{cut_known, rows_local}, specs.Layouts.layout_of, specs.EntryEdits.{entry_lines, after_held}}
+use Rattle.yq_edit_rules.{specs.ReadsAfter.ReadsAfter, proofs.CommentPieceLaws.break_piece, proofs.SegmentLaws.segments_readable}
 use Rattle.yq_edit_rules.proofs.AppendPlaces.{IsAppendPlace, put_segments, old_is, p, there, e, allows_there, kept_pieces, IsAsked, entry}
 use Rattle.yq_edit_rules.{proofs.AppendPlaces.{written, new_rows_are, entry_piece, filled, finished}, specs.ClosedTexts.closed_lines_put}
 use Rattle.yq_edit_rules.{specs.EditLaws.IsEdit, specs.Operands.HasOperand, specs.PiecePuts.after_lines, proofs.AppendAtEnd.end_both}

@@ -10,8 +10,8 @@ use Rattle.yq_documents.proofs.ReadLaws.{parts_read, read_takes}
 use Rattle.yq_semantics.{specs.After.after_op, specs.Fits.Fits, specs.Operations.Operation, specs.Rooms.room_of}
 use Rattle.yq_semantics.{specs.RoomsKept.LeavesRooms, specs.declared.refusal.Refusal.TheVariants.TooLarge, specs.Judgement.ExprError}
 use Rattle.yq_edit_rules.{specs.Operands.HasOperand, specs.EditLaws.IsEdit, specs.Edits.{op_edits, or_stay}, specs.ReadsAfter.ReadsAfter}
-use Rattle.yq_edit_laws.{proofs.CutLaws.{cut_read, cut_same, text_read}, specs.Answers.{Edits, EditFails}}
-use Rattle.yq_edit_laws.specs.Carried.{carry_one, carried}
+use Rattle.yq_edit_rules.proofs.DoneLaws.{read_cut}
+use Rattle.yq_edit_laws.{proofs.CutLaws.{cut_read, text_read}, specs.Answers.{Edits, EditFails}, specs.Carried.{carry_one, carried}}
 use Rattle.yq_edit_laws.specs.Edit.{Edit, unreadable, refuses, gives, by_reading, edit_of_segments, exchange_edit}
 use Rattle.yq_edit_laws.{specs.Theorems.{IsFitting, IsApplied, IsLarge, OpRefused}, specs.Valid.segments_by}
 use Rattle.yq_edit_laws.proofs.EditsHold.{edit_is, edit_there}
@@ -68,7 +68,7 @@ module _ (op : Operation) (t : List ℕ) (operand : HasOperand op) (k : IsFittin
         new_is = refl;
         splices = refl;
         reads = subst (ReadsDocuments new_bytes) after (read_takes new_bytes r.cut r.read);
-        room = subst (LeavesRooms op (room_of t) (room_of new_bytes)) (ap documents (cut_same new_bytes r.cut r.read) ∙ after)
+        room = subst (LeavesRooms op (room_of t) (room_of new_bytes)) (ap documents (read_cut new_bytes r.cut r.read) ∙ after)
             (subst (λ (x : List ℕ). LeavesRooms op (room_of x) (room_of new_bytes) (documents_of new_bytes)) text r.room);
       }
 

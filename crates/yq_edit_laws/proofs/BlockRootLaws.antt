@@ -10,14 +10,13 @@ use Rattle.yq_row_table.{proofs.splices.PartPlaces.part_ends, proofs.PlaceLaws.c
 use Rattle.yq_documents.{specs.Reading.read_at, specs.Ready.begins_no_node, specs.PartNumbers.part_number}
 use Rattle.yq_places.{specs.PlacedRows.{PlacedPart, placed_document}, specs.PrintedLines.{last_break, less_break}}
 use Rattle.yq_places.{specs.Placements.{LinesIn, is_alone}, proofs.CommentPieceLaws.{Ended, gap_end}, proofs.PrintedTexts.less_is}
-use Rattle.yq_places.{proofs.RemovalLines.{LineSeam, LiesIn, lies_in, seam_join}, proofs.LastBreakLaws.lf_last}
+use Rattle.yq_places.{proofs.RemovalLines.{LineSeam, LiesIn, lies_in, seam_join}, proofs.LastBreakLaws.lf_last, proofs.RunSpans.rows_then}
 use Rattle.yq_edit_rules.{proofs.HeldCuts.break_is_piece, specs.DocumentRows.IsDocumentPart, specs.PlacedParts.IsDocumentAt}
-use Rattle.yq_edit_rules.{specs.TextPieces.IsPiece, proofs.FirstReplaceLaws.rows_after, proofs.EndedRowLaws.{rows_ended, rows_then}}
+use Rattle.yq_edit_rules.{specs.TextPieces.IsPiece, proofs.FirstReplaceLaws.rows_after, proofs.EndedRowLaws.rows_ended}
 use Rattle.yq_edit_rules.{proofs.FirstBreakLaws.{IsOneBreak, break_tail, break_apart, break_bare}, proofs.PartLaws.document_known}
-use Rattle.yq_edit_rules.{proofs.PlacedPartLaws.document_is_there_at, proofs.TextPieceLaws.{pieces_joined, text_is_piece}}
+use Rattle.yq_edit_rules.{proofs.PlacedPartLaws.document_is_there_at, proofs.TextPieceLaws.{pieces_joined, text_is_piece, nothing}}
 use Rattle.yq_edit_rules.{proofs.RemovalPieceLaws.{spaces_piece, seam_pieces}, proofs.AppendAtEnd.nothing_tail}
-use Rattle.yq_edit_rules.{proofs.AppendEntryLaws.none_uncommented, proofs.CommentPieceLaws.nothing, proofs.LastRows.lf_end}
-use Rattle.yq_edit_rules.proofs.BreakLaws.{last_is}
+use Rattle.yq_edit_rules.{proofs.AppendEntryLaws.none_uncommented, proofs.LastRows.lf_end, proofs.BreakLaws.last_is}
 use Rattle.yq_edit_laws.{proofs.RootReadLaws.TakesValue, proofs.RootRows.HasRoom, proofs.PlacementRoots.HasRoot, proofs.HeldRows.no_line}
 
 -- ---- the first row of a block collection, the line that it begins, and the break that ends a text

@@ -9,7 +9,7 @@ use Rattle.yq_core.{specs.Paths.Step, specs.Text.is_empty, specs.Tree.Node}
 use Rattle.yq_outline.{specs.Comments.head_comment, specs.Outline.{Line, Outline, flatten}}
 use Rattle.yq_outline.{specs.Places.{FoundLine, here, lines_after, lines_before}, specs.Positions.has_no_mark, proofs.Decides.flatten-group}
 use Rattle.yq_outline.specs.Lines.{lines_from, lines_of_rows, line_mark, row_lines}
-use Rattle.yq_outline.{proofs.WalkLevels.{RowsAgree, IsLineOf, RowAgrees, line_in}, proofs.WalkRows.rows_agree}
+use Rattle.yq_outline.{proofs.WalkLevels.{RowsAgree, IsLineOf, RowAgrees, line_in}, proofs.WalkRows.rows_agree, proofs.KnownLaws.get_front}
 use Rattle.yq_row_table.specs.Grammar.{AreDashes, AreRows, IsRow, Limit, is_entry, unlimited}
 use Rattle.yq_row_table.{specs.Rows.{Row, Part, Cut, after_columns, cut_text, part_text, print_row, rows_text}, specs.View.slices}
 use Rattle.yq_documents.{specs.Documents.document_parts, specs.Reading.part_outline}
@@ -19,7 +19,7 @@ use Rattle.yq_edit_rules.{specs.Changed.put_document, specs.CollectionPlaces.{Be
 use Rattle.yq_edit_rules.specs.Siblings.{HasEntries, IsEntry, NodeLines, lines_at, lines_below, under_line}
 use Rattle.yq_edit_rules.{specs.PlacementLaws.HasItsRows, proofs.EndedRowLaws.row_there, proofs.LineLaws.row_count}
 use Rattle.yq_edit_rules.{proofs.PartLaws.{document_known, part_rows}, proofs.CommentRowLaws.rows_front, proofs.SamePlaceLaws.put_own}
-use Rattle.yq_edit_laws.proofs.CollectionRows.{get_after, get_front, past_front, row_agrees_in, columns_are, no_bare}
+use Rattle.yq_edit_laws.proofs.CollectionRows.{get_after, past_front, row_agrees_in, columns_are, no_bare}
 use Rattle.yq_row_table.specs.Rows as rows
 
 -- rows in two parts in two ways, of which the first ones have as many lines

@@ -1,24 +1,19 @@
 -- Rows that end in one, lists of lines, and what a text of rows ends in.
-use Rattle.std.proofs.Common.{rules, ◌≡◌, ℕ, zero, suc, ◌+◌, false, not, List, [], ◌∷◌, ◌++◌, length, Some, refl, sym, ap, ◌∙◌, subst}
-use Rattle.std.{proofs.Common.{arith, append_assoc, length-append}, proofs.lemmas.Bool.false≢true, proofs.lemmas.List.length-replicate}
+use Rattle.std.proofs.Common.{rules, ◌≡◌, ℕ, suc, ◌+◌, false, not, List, [], ◌∷◌, ◌++◌, length, refl, sym, ap, ◌∙◌, subst, arith}
+use Rattle.std.{proofs.Common.{append_assoc, length-append}, proofs.lemmas.Bool.false≢true, proofs.lemmas.List.length-replicate}
 use Rattle.std.specs.List.{slice_get}
 use Rattle.yq_core.specs.Text.{is_empty}
 use Rattle.yq_outline.{specs.Outline.Line, specs.Positions.has_no_mark, proofs.WalkLevels.{RowsAgree, RowAgrees}}
 use Rattle.yq_row_table.{specs.Grammar.{AreRows, unlimited}, specs.Rows.{Row, after_columns, dashes_text, print_row, rows_text}}
 use Rattle.yq_row_table.proofs.seams.SeamLaws.{rows_text-append}
-use Rattle.yq_places.{specs.CollectionEnds.is_broken, specs.PrintedLines.last_break}
-use Rattle.yq_edit_rules.{specs.Siblings.IsEntry, proofs.EndedRowLaws.{row_there, rows_then}}
+use Rattle.yq_places.{specs.CollectionEnds.is_broken, specs.PrintedLines.last_break, proofs.RunSpans.rows_then}
+use Rattle.yq_edit_rules.{specs.Siblings.IsEntry, proofs.EndedRowLaws.row_there}
 use Rattle.yq_edit_laws.proofs.FinalBreaks.{broken_is}
 use Rattle.yq_outline.specs.Outline as outlines
 
 pub get_after : (a b : List Line) (j : ℕ) → slice_get (a ++ b) (length a + j) ≡ slice_get b j
 get_after [] b j = let same : 0 + j ≡ j = omega arith in ap (slice_get b) same
 get_after (x ∷ a) b j = let same : suc (length a) + j ≡ suc (length a + j) = omega arith in ap (slice_get (x ∷ (a ++ b))) same ∙ get_after a b j
-
-pub get_front : (xs more : List Line) (i : ℕ) (l : Line) → slice_get xs i ≡ Some l → slice_get (xs ++ more) i ≡ Some l
-get_front [] more i l e = absurd (cc)
-get_front (x ∷ xs) more zero l e = e
-get_front (x ∷ xs) more (suc i) l e = get_front xs more i l e
 
 -- rows that are not none end in one
 pub record EndIn (rs : List Row) : Type 0 where

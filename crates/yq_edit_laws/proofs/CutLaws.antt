@@ -2,7 +2,7 @@
 use Rattle.std.{proofs.Common.{◌≡◌, ◌<◌, ◌^◌, ℕ, List, [], ◌∷◌, length, Some, arith, sym, ap, ◌∙◌}, specs.Str.is_utf8}
 use Rattle.yq_core.proofs.Bools.{guard_then}
 use Rattle.yq_row_table.{specs.Grammar.IsCut, specs.Rows.{Cut, cut_text}}
-use Rattle.yq_documents.{specs.Reading.{read_at, cut_of}, proofs.ReadLaws.{text_takes, cut_is}}
+use Rattle.yq_documents.{specs.Reading.{read_at, cut_of}, proofs.ReadLaws.text_takes}
 use Rattle.yq_text.specs.Script.{keep}
 
 -- what is read is cut so
@@ -12,9 +12,6 @@ cut_read t c h = (text_takes t c (guard_then (is_utf8 t) h).1).0
 
 pub text_read : (t : List ℕ) (c : Cut) → read_at t ≡ Some c → cut_text c ≡ t
 text_read t c h = sym (cut_read t c h).text
-
-pub cut_same : (t : List ℕ) (c : Cut) → read_at t ≡ Some c → cut_of t ≡ c
-cut_same t c h = cut_is t c (cut_read t c h)
 
 pub text_small : (t : List ℕ) (c : Cut) → read_at t ≡ Some c → length t < 2 ^ 64
 text_small t c h = omega (arith, (cut_read t c h).size)

@@ -12,9 +12,9 @@ use Rattle.yq_places.{specs.RowPieces.{past_dash, upto_dash}, specs.PrintedLines
 use Rattle.yq_places.{specs.Placements.{RowsOfEntry, before_entry, after_entry, dash_text, rows_of_entry}, proofs.CommentPieceLaws.Ended}
 use Rattle.yq_places.{proofs.DashLaws.{front_is, row_cut}, proofs.RunSpans.rows_then}
 use Rattle.yq_edit_rules.{specs.Siblings.HasEntries, specs.PlacementLaws.HasItsRows, specs.TextPieces.IsPiece}
-use Rattle.yq_edit_rules.{proofs.PlacementMarks.{after_there, row_there, rows_ended_there}, proofs.TextPieceLaws.{line_cut, text_is_piece}}
-use Rattle.yq_edit_rules.{specs.BlockPlaces.{IsUpto, at_dash}, proofs.CommentPieceLaws.nothing, proofs.HeldCuts.last_cut}
-use Rattle.yq_edit_rules.{proofs.CommentRowLaws.cut_spelled, proofs.HeldPieces.suffix_lf}
+use Rattle.yq_edit_rules.proofs.PlacementMarks.{after_there, row_there, rows_ended_there}
+use Rattle.yq_edit_rules.{proofs.TextPieceLaws.{line_cut, text_is_piece, nothing}, specs.BlockPlaces.{IsUpto, at_dash}}
+use Rattle.yq_edit_rules.{proofs.HeldCuts.last_cut, proofs.CommentRowLaws.cut_spelled, proofs.HeldPieces.suffix_lf}
 use Rattle.yq_edit_laws.proofs.HeldRows.{last_ends, value_unnamed}
 use Rattle.yq_edit_laws.proofs.NodeRowLaws.{NodeRows, line_is, parts, rest, node_upto, entries_under}
 use Rattle.yq_row_table.specs.Rows as rows

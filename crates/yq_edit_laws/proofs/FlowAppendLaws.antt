@@ -13,7 +13,7 @@ use Rattle.yq_row_table.specs.Rows.{Cut, cut_text}
 use Rattle.yq_documents.specs.Documents.{Document, EachHasFitKeys, HasFitKey, HasFitKeys, document_parts}
 use Rattle.yq_documents.specs.Reading.{documents, read_at, root_of}
 use Rattle.yq_places.{specs.FlowNodes.flow_collection, specs.FlowViews.LeadsToHead}
-use Rattle.yq_edit_rules.{proofs.CommentPieceLaws.{byte_then, nothing}, specs.FlowRows.FlowAt}
+use Rattle.yq_edit_rules.{proofs.CommentPieceLaws.byte_then, proofs.TextPieceLaws.nothing, specs.FlowRows.FlowAt}
 use Rattle.yq_edit_rules.{specs.SoundRoots.{IsNewKey, IsNewValue, IsSoundRoot}, specs.TextPieces.IsPiece, proofs.FlowKeptLaws.flow_keys}
 use Rattle.yq_edit_rules.{proofs.PartLaws.document_known, proofs.SoundRootLaws.append_keeps}
 use Rattle.yq_edit_rules.{specs.EditLaws.{CarriedOut, FlowMoreIsPut, IsEdit}, specs.FlowParts.{flow_segments, takes_key}}

@@ -1,7 +1,7 @@
 -- What the code finds in the head of a row, and what of that the text has.
 use Rattle.std.proofs.lemmas.Grind.{common_steps}
 use Rattle.std.proofs.Common.{rules, ◌≡◌, ℕ, ◌+◌, ◌≤◌, true, List, [], ◌++◌, length, Option, Some, None, option_map, refl, sym, ap, ◌∙◌}
-use Rattle.std.{proofs.Common.{arith, cond, false, ◌∷◌, append_assoc, length-append}, proofs.lemmas.Option.{none-some, same_Some}}
+use Rattle.std.{proofs.Common.{arith, ◌∷◌, append_assoc, length-append}, proofs.lemmas.Option.{none-some, same_Some}}
 use Rattle.yq_core.{proofs.NodeLaws.after, specs.Paths.{Step, further}, specs.Collections.{CollAt, CollPieces, IsCollAt}}
 use Rattle.yq_core.specs.Entries.{EntryPieces, item_at}
 use Rattle.yq_core.specs.Nodes.{Key, FlowNode, coll, node_text, flow_items_text, IsFlowNode, Items, Sep, item, none}

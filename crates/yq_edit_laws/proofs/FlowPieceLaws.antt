@@ -7,7 +7,7 @@ use Rattle.std.specs.Str.{IsUtf8, IsCharBoundary}
 use Rattle.yq_core.specs.Characters.{pairs_returns}
 use Rattle.yq_flow_edits.{specs.FlowEdits.FlowEdit, proofs.ReturnLaws.Whole}
 use Rattle.yq_row_table.proofs.CharacterLaws.{all_text, all_join, pairs_back}
-use Rattle.yq_edit_rules.{proofs.CommentPieceLaws.{byte_then, nothing}, specs.TextPieces.IsPiece}
+use Rattle.yq_edit_rules.{proofs.CommentPieceLaws.byte_then, proofs.TextPieceLaws.nothing, specs.TextPieces.IsPiece}
 
 -- ---- a text cut in two
 

@@ -16,7 +16,7 @@ use Rattle.yq_documents.{specs.Documents.{EachHasFitKeys, HasFitKey, HasFitKeys,
 use Rattle.yq_documents.specs.Reading.{documents, read_at, root_of}
 use Rattle.yq_places.{specs.FlowNodes.flow_collection, specs.FlowViews.LeadsToHead, proofs.FlowPieces.{named_is, none_anchored}}
 use Rattle.yq_places.specs.Placements.{FlowPart, last_step}
-use Rattle.yq_edit_rules.{proofs.CommentPieceLaws.{byte_then, nothing}, specs.FlowRows.FlowAt, specs.Rooms.is_block_root}
+use Rattle.yq_edit_rules.{proofs.CommentPieceLaws.byte_then, proofs.TextPieceLaws.nothing, specs.FlowRows.FlowAt, specs.Rooms.is_block_root}
 use Rattle.yq_edit_rules.{specs.SoundRoots.IsSoundRoot, specs.TextPieces.IsPiece, proofs.FlowKeptLaws.flow_keys}
 use Rattle.yq_edit_rules.{proofs.PartLaws.document_known, proofs.SoundRootLaws.replace_keeps}
 use Rattle.yq_edit_rules.specs.EditLaws.{CarriedOut, FlowValuesArePut, IsEdit}

@@ -10,7 +10,7 @@ use Rattle.yq_flow_edits.{proofs.RemovePlaces.remove_placed, proofs.RemoveTexts.
 use Rattle.yq_flow_edits.proofs.ReturnLaws.{pairs_after}
 use Rattle.yq_row_table.specs.Rows.{Cut, cut_text}
 use Rattle.yq_documents.{specs.Documents.{Document, document_parts}, specs.Reading.{documents, read_at, root_of}}
-use Rattle.yq_edit_rules.{proofs.CommentPieceLaws.nothing, specs.Changed.put_document}
+use Rattle.yq_edit_rules.{proofs.TextPieceLaws.nothing, specs.Changed.put_document}
 use Rattle.yq_edit_rules.{specs.FlowRows.{text_after_node, with_node, FlowAt, NodeIsThere}, specs.SoundRoots.IsSoundRoot}
 use Rattle.yq_edit_rules.{specs.TextPieces.IsPiece, proofs.FlowKeptLaws.{flow_keys, left_keys}, proofs.PartLaws.document_known}
 use Rattle.yq_edit_rules.{specs.EditLaws.{CarriedOut, FlowPartIsRemoved, IsEdit}, specs.FlowParts.flow_segments, proofs.DoneLaws.nth_map}

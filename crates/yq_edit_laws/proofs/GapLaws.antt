@@ -5,11 +5,11 @@ use Rattle.yq_row_table.{proofs.ItemLaws.rows_items_text, specs.Items.{Item, end
 use Rattle.yq_row_table.specs.ItemSplices.{first_item}
 use Rattle.yq_row_table.specs.Rows.{Row, print_row, following_gap, rows_text, Part, part_text, Cut, cut_text}
 use Rattle.yq_row_table.{specs.Splices.{with_row_gap, first_gap, with_first_gap, end_gap, after_first}, specs.Touched.item_text}
-use Rattle.yq_row_table.{proofs.KeptLaws.items_apart, proofs.PlaceLaws.row_then}
+use Rattle.yq_row_table.{proofs.KeptLaws.items_apart, proofs.PlaceLaws.row_then, proofs.FrontLaws.front_le}
 use Rattle.yq_edit_rules.{specs.Changed.put_document, specs.DocumentRows.{after_document, put_rows}, proofs.DocumentItemLaws.rows_before}
 use Rattle.yq_edit_rules.specs.Local.{IsLocal}
 use Rattle.yq_edit_rules.proofs.ItemsLocal.{rows_last, ItemsGiveWay, come_inside, items_local, one_first, one_last, first_within}
-use Rattle.yq_edit_rules.{proofs.ItemsLocal.last_within, proofs.LocalLaws.{h, front_items, around, front_text}}
+use Rattle.yq_edit_rules.proofs.LocalLaws.{h, front_items, around, front_text}
 use Rattle.yq_text.specs.Script.{Segment, old_text, new_text, are_kept, kept_front, kept_back}
 use Rattle.yq_documents.specs.Documents.{document_parts}
 use Rattle.yq_edit_laws.specs.TouchedRanges.{LiesInOne}
@@ -118,4 +118,4 @@ module _ (ss : List Segment) (c : Cut) (k : ℕ) (p : Part) (e : RowsGoOut ss c 
 
   -- The item that begins with the gap holds all that is written.
   pub out_in_one : LiesInOne ss (put_document k (put_rows e.front [] e.back e.gap p) c)
-  out_in_one = search (rules, front_items, e.there, e.put, way.new_are, first_within, e.lead, way.before_is, items_apart, last_within, way.following_is)
+  out_in_one = search (rules, front_items, e.there, e.put, way.new_are, first_within, e.lead, way.before_is, items_apart, front_le, way.following_is)

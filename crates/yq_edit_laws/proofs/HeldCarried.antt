@@ -14,10 +14,9 @@ use Rattle.yq_edit_rules.{specs.TextPieces.IsPiece, specs.PlacementLaws.{HoldsPi
 use Rattle.yq_edit_rules.{specs.DocumentRows.after_document, proofs.CoreLaws.put_core, proofs.PlacementMarks.entry_there}
 use Rattle.yq_edit_rules.{specs.Appends.inserted, specs.Changed.put_document, specs.SoundRoots.MayReplace, specs.Done.ArePieces}
 use Rattle.yq_edit_rules.{specs.EditLaws.CarriedOut, specs.Local.InFirst, specs.ReplaceEdits.{spaced_text, held_put}}
-use Rattle.yq_edit_rules.specs.WrittenValues.{Written, inline, compact_text, lines}
-use Rattle.yq_edit_rules.{proofs.CommentPieceLaws.{nothing, byte_then, break_piece}, proofs.EditsFitLaws.FitsReplace}
+use Rattle.yq_edit_rules.{specs.WrittenValues.{Written, inline, compact_text, lines}, proofs.TextPieceLaws.{nothing, pieces_joined}}
+use Rattle.yq_edit_rules.{proofs.CommentPieceLaws.{byte_then, break_piece}, proofs.EditsFitLaws.FitsReplace}
 use Rattle.yq_edit_rules.{proofs.OneLines.{break_line, is_one_line}, proofs.SegmentLaws.segments_readable}
-use Rattle.yq_edit_rules.proofs.TextPieceLaws.{pieces_joined}
 use Rattle.yq_documents.{proofs.RowLineLaws.tail_is, specs.Reading.{part_outline, read_at, root_of}}
 use Rattle.yq_text.{specs.Limit.text_limit, specs.Script.{Segment, old_text, new_text, are_kept, kept_front, kept_back}}
 use Rattle.yq_semantics.specs.Operations.{replace}

@@ -15,8 +15,8 @@ use Rattle.yq_documents.specs.TreeEdits.{with_line_comment}
 use Rattle.yq_edit_rules.{specs.Done.ArePieces, specs.PathTails.{IsLineTail, tailed}}
 use Rattle.yq_edit_rules.{specs.PlacementLaws.{HoldsPieces, HasItsRows, held_text}, specs.CommentEdits.{comment_put, comment_written}}
 use Rattle.yq_edit_rules.{specs.EditLaws.{CarriedOut, IsEdit, LineCommentIsPut}, specs.RowChanges.{ChangesRow, LineCommentsChangeRows}}
-use Rattle.yq_edit_rules.{specs.TextPieces.IsPiece, proofs.PathTailLaws.path_tail_put}
-use Rattle.yq_edit_rules.proofs.CommentPieceLaws.{nothing, byte_then, line_text_is}
+use Rattle.yq_edit_rules.{specs.TextPieces.IsPiece, proofs.PathTailLaws.path_tail_put, proofs.TextPieceLaws.nothing}
+use Rattle.yq_edit_rules.proofs.CommentPieceLaws.{byte_then, line_text_is}
 use Rattle.yq_edit_rules.proofs.CommentRowLaws.{IsEntryRow, entry_found, row_line_is_block, some_steps}
 use Rattle.yq_edit_rules.{proofs.HeldLaws.{below_is, held_spelled, held_there}, proofs.HeldPieces.{end_agrees, held_spells}}
 use Rattle.yq_edit_rules.{proofs.PlacementMarks.{row_there, under_there}, proofs.PlacementRows.rows_located, proofs.TailPieces.white_piece}

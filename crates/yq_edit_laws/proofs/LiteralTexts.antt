@@ -11,8 +11,9 @@ use Rattle.yq_core.{specs.declared.block_types.LineBefore.LineBefore, specs.decl
 use Rattle.yq_core.{specs.declared.block_lines.TextIndent.TextIndent, specs.declared.block_types.Break.Break}
 use Rattle.yq_core.{proofs.BlockWrittenLines.{Good, IsText, NoCr, indented_some, lines_good}, proofs.Bytes.Each}
 use Rattle.yq_core.{proofs.LineLaws.{AreLines, joined_lines, lines_are}, proofs.LiteralText.literal_can}
-use Rattle.yq_edit_rules.{specs.TextPieces.IsPiece, proofs.TextPieceLaws.{line_cut, pieces_joined}, proofs.RemovalPieceLaws.spaces_piece}
-use Rattle.yq_edit_rules.proofs.CommentPieceLaws.{break_piece, byte_then, front_piece, no_return, nothing, text_piece}
+use Rattle.yq_edit_rules.{specs.TextPieces.IsPiece, proofs.TextPieceLaws.{line_cut, pieces_joined, nothing}}
+use Rattle.yq_edit_rules.proofs.RemovalPieceLaws.{spaces_piece}
+use Rattle.yq_edit_rules.proofs.CommentPieceLaws.{break_piece, byte_then, front_piece, no_return, text_piece}
 use Rattle.yq_core.specs.declared.block_header.Chomping.TheVariants as chompings
 use Rattle.yq_core.specs.declared.style.Place.TheVariants as places
 use Rattle.yq_core.specs.declared.style.Style.TheVariants as styles

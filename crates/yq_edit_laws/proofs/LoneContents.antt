@@ -19,7 +19,7 @@ use Rattle.yq_places.{specs.RowPaths.IsReadable, proofs.RemovalLines.front_some,
 use Rattle.yq_places.{proofs.RunSpans.rows_then, proofs.HeadSpanLaws.may_follow}
 use Rattle.yq_edit_rules.{specs.Changed.{IsChanged, put_document}, specs.Contents.{TakesContent, recontent}}
 use Rattle.yq_edit_rules.{specs.DocumentRows.{IsDocumentPart, after_document}, specs.InlineRows.{IsValueNode, LeadsToLone}}
-use Rattle.yq_edit_rules.{specs.Moved.dash_lines, specs.Rooms.is_block_root, specs.SoundRoots.MayReplace}
+use Rattle.yq_edit_rules.{specs.Rooms.is_block_root, specs.SoundRoots.MayReplace}
 use Rattle.yq_edit_rules.{proofs.ContentLaws.{lower_content_replaced, root_content_replaced}, proofs.CoreLaws.{put_core, recore}}
 use Rattle.yq_edit_rules.{proofs.InlineReplaceLaws.{next_is_there, own_rows, tail_ends_plain}, proofs.LineLaws.above_mark}
 use Rattle.yq_edit_rules.{proofs.MarkFirst.no_node_first, proofs.PartLaws.document_known, proofs.CommentPutLaws.last_lines}
@@ -120,9 +120,6 @@ module _ (c : Cut) (n : ℕ) (p : Part) (old : IsDocumentPart (cut_text c) c n p
 
   pub some_rows : no_rows q.rows ≡ false
   some_rows = ap no_rows there ∙ front_some front (with_content new r) back
-
-  abbrev above : List Line
-  above = lines_of_rows front ++ dash_lines (head_comment r.gap) r.column r.dashes
 
   abbrev line : Content → Line
   line x = mark_line (above_mark (head_comment r.gap) r.dashes) (mark_column r) r.mark x

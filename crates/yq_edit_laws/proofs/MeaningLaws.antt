@@ -6,14 +6,14 @@ use Rattle.yq_outline.proofs.ShapeLaws.{shaped_by_lines, shaped_is_tree}
 use Rattle.yq_semantics.{proofs.RoomLaws.rooms_are_ready, proofs.updates.PlanMeans.{plan_means, plan_refused}}
 use Rattle.yq_semantics.{proofs.updates.RoomsLast.plan_follows, specs.After.all_after, specs.Meaning.AreReady, specs.Operations.Operation}
 use Rattle.yq_semantics.{specs.declared.refusal.Refusal.Refusal, specs.Plans.plan, specs.Program.{Update, UpdatesHold}, specs.Rooms.room_of}
-use Rattle.yq_edit_laws.{proofs.CutLaws.cut_same, specs.Carried.carry_all, specs.Edit.{Edit, unreadable, refuses, gives}}
-use Rattle.yq_edit_laws.{specs.Theorems.{IsUpdated, UpdateRefused}, specs.Valid.{HaveOperands, Serves}}
-use Rattle.yq_edit_laws.proofs.ServeLaws.{OperationsCome, all_come}
+use Rattle.yq_edit_rules.proofs.DoneLaws.{read_cut}
+use Rattle.yq_edit_laws.{specs.Carried.carry_all, specs.Edit.{Edit, unreadable, refuses, gives}, specs.Theorems.{IsUpdated, UpdateRefused}}
+use Rattle.yq_edit_laws.{specs.Valid.{HaveOperands, Serves}, proofs.ServeLaws.{OperationsCome, all_come}}
 use Rattle.yq_semantics.specs.Judgement as judgement
 
 -- the documents of a text that reads are ready for updates
 ready : (t : List ℕ) (c : Cut) → read_at t ≡ Some c → AreReady (room_of t) 0 (documents c)
-ready t c read = subst (AreReady (room_of t) 0) (ap documents (cut_same t c read)) (rooms_are_ready t (read_ready shaped_by_lines shaped_is_tree t (documents c) (read_takes t c read)))
+ready t c read = subst (AreReady (room_of t) 0) (ap documents (read_cut t c read)) (rooms_are_ready t (read_ready shaped_by_lines shaped_is_tree t (documents c) (read_takes t c read)))
 
 -- what an update comes to on a text that reads: it is carried out or refused
 abbrev pub UpdateComes : Update → List ℕ → Edit → Type 0

@@ -1,23 +1,13 @@
 -- Collections to which steps lead in a node, each item or entry found on its own.
 use Rattle.std.proofs.lemmas.Grind.{common_steps}
-use Rattle.std.proofs.Common.{rules, ◌≡◌, ◌-◌, ◌<◌, ◌≤◌, List, [], ◌∷◌, Option, Some, None, true, false, drop, length, map, slice_index_or}
-use Rattle.std.{proofs.Common.{take, arith, sym, ap, ◌∙◌, take_all}, proofs.lemmas.Option.{none-some, same_Some}}
-use Rattle.std.proofs.lemmas.Bool.{false≢true}
+use Rattle.std.proofs.Common.{rules, ◌≡◌, ◌<◌, ◌≤◌, List, [], ◌∷◌, Option, Some, None, true, false, length, map, slice_index_or, arith, sym}
+use Rattle.std.{proofs.Common.{ap, ◌∙◌}, proofs.lemmas.Option.{none-some, same_Some}, proofs.lemmas.Bool.false≢true}
 use Rattle.yq_core.{specs.Answers.◌>>=◌, specs.Entries.{PlacedEntry, flow_part_at, parts_of, placed_entry_at, tree_step}}
 use Rattle.yq_core.{specs.Keys.{EachHasUniqueKeys, HasUniqueKeys}, specs.Paths.{Step, further}, specs.Places.{Parts, Placed, end, part}}
 use Rattle.yq_core.specs.Trees.{parts_tree, placed_tree}
 use Rattle.yq_places.specs.FlowViews.{following_anchor, collection_along, collection_of}
-use Rattle.yq_edit_laws.specs.NearParts.{IsUniqueNode, is_collection}
+use Rattle.yq_edit_laws.{specs.NearParts.{IsUniqueNode, is_collection}, proofs.OperationsLaws.{first_apart, later}}
 use Rattle.yq_core.specs.declared.path.Step as declared
-
--- ---- the first step, and others
-
-abbrev later : List declared.Step → List declared.Step
-later ss = take (length ss - 1) (drop 1 ss)
-
-apart : (ss : List declared.Step) (s : declared.Step) → 1 ≤ length ss → s ≡ slice_index_or ss 0 s → ss ≡ s ∷ later ss
-apart [] s some at = absurd (omega (arith, some))
-apart (x ∷ ss) s some at = (λ i. sym at i ∷ sym (take_all (length (x ∷ ss) - 1) ss (omega arith)) i)
 
 -- ---- one step
 
@@ -35,12 +25,12 @@ part_unique p s e h at is = parts_unique p h s e (sym at)
 -- the steps after it lead on from there
 pub goes_on : (ss : List declared.Step) (s : declared.Step) (slot e : PlacedEntry) (o : Option PlacedEntry) → 1 ≤ length ss → s ≡ slice_index_or ss 0 s → Some e ≡ flow_part_at (tree_step s) (parts_of slot.1) →
     placed_entry_at (map tree_step ss) slot ≡ o → placed_entry_at (map tree_step (later ss)) e ≡ o
-goes_on ss s slot e o some first at leads = search (rules, apart, first, leads)
+goes_on ss s slot e o some first at leads = search (rules, first_apart, first, leads)
 
 -- or it leads nowhere
 pub stops : (ss : List declared.Step) (s : declared.Step) (slot : PlacedEntry) (o : Option PlacedEntry) → 1 ≤ length ss → s ≡ slice_index_or ss 0 s → None ≡ flow_part_at (tree_step s) (parts_of slot.1) →
     placed_entry_at (map tree_step ss) slot ≡ o → None ≡ o
-stops ss s slot o some first at leads = search (rules, apart, first, leads)
+stops ss s slot o some first at leads = search (rules, first_apart, first, leads)
 
 pub ended : (ss : List declared.Step) (slot : PlacedEntry) (o : Option PlacedEntry) → length ss < 1 → placed_entry_at (map tree_step ss) slot ≡ o → Some slot ≡ o
 ended [] slot o none leads = leads

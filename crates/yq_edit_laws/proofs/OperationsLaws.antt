@@ -8,12 +8,12 @@ use Rattle.yq_edit_laws.{specs.Theorems.{IsApplied, IsFitting}, specs.Valid.{Are
 use Rattle.yq_edit_laws.{proofs.OrderLaws.{after_both, fails_after, fails_on}, proofs.ServeLaws.{fits, others_serve}}
 use Rattle.yq_edit_rules.specs.Operands.{HasOperand}
 
-abbrev later : List Op → List Op
-later os = take (length os - 1) (drop 1 os)
+abbrev pub later : {A : Type 0} → List A → List A
+later xs = take (length xs - 1) (drop 1 xs)
 
-first_apart : (os : List Op) (op : Op) → 1 ≤ length os → op ≡ slice_index_or os 0 op → os ≡ op ∷ later os
-first_apart [] op some at = absurd (omega (arith, some))
-first_apart (x ∷ os) op some at = (λ i. sym at i ∷ sym (take_all (length (x ∷ os) - 1) os (omega arith)) i)
+pub first_apart : {A : Type 0} (xs : List A) (x : A) → 1 ≤ length xs → x ≡ slice_index_or xs 0 x → xs ≡ x ∷ later xs
+first_apart [] x some at = absurd (omega (arith, some))
+first_apart (y ∷ xs) x some at = (λ i. sym at i ∷ sym (take_all (length (y ∷ xs) - 1) xs (omega arith)) i)
 
 -- one that is the last one
 pub last_comes : (os : List Op) (op : Op) (t : List ℕ) → 1 ≤ length os → op ≡ slice_index_or os 0 op → length (later os) ≡ 0 → carried (operation_of op) t ≡ carry_all (operations_of os) t

@@ -2,11 +2,11 @@
 use Rattle.std.proofs.Common.{◌≡◌, ℕ, List, [], ◌∷◌, ◌++◌, Some, Bool, true, false, refl, sym, ap, ◌∙◌, rules}
 use Rattle.std.proofs.lemmas.Bool.{cond_both, false≢true}
 use Rattle.yq_core.specs.Paths.{Step}
-use Rattle.yq_row_table.specs.Rows.{Row, rows_text, Cut}
+use Rattle.yq_row_table.specs.Rows.{Row, Cut}
 use Rattle.yq_documents.specs.Pieces.{TextPiece}
 use Rattle.yq_places.specs.PlacedRows.{PlacedPart, placed_document}
 use Rattle.yq_places.specs.Placements.{LinesIn, RowsOfEntry, Placement, alone, beside, under, compact, block, root, no_rows}
-use Rattle.yq_places.specs.Placements.{entry_placement, is_alone, lone, rows_of_entry, root_lines, root_placement, placement_at}
+use Rattle.yq_places.specs.Placements.{entry_placement, is_alone, rows_of_entry, root_lines, root_placement, placement_at}
 use Rattle.yq_places.proofs.PlacedPartLaws.{map_some}
 
 -- whether what is somewhere is a root that is a block collection, or no rows
@@ -48,9 +48,6 @@ pub record IsUnwrittenRoot (n : ℕ) (c : Cut) (w : TextPiece) : Type 0 where
   pub following_is : w.after ≡ d.after
 
 module _ (n : ℕ) (c : Cut) (d : PlacedPart) (placed : placed_document n c ≡ Some d) where
-  abbrev first : List Row → Row → Placement
-  first rs r = alone (lone d.before r (rows_text rs (d.part.end ++ d.after)))
-
   rooted_there : (column : ℕ) (w : LinesIn) (rs : List Row) → d.part.rows ≡ rs → root_placement d rs ≡ root column w → HasRoot n c column w
   rooted_there column w rs h1 h2 = search rules
 

@@ -6,15 +6,15 @@ use Rattle.yq_core.{specs.Block.RawLines, specs.BlockRepair.{is_short, is_outden
 use Rattle.yq_core.{specs.Paths.Step, specs.Text.{cut, no_white, past_white, upto, joined, text_lines}, proofs.LineLaws.joined_lines}
 use Rattle.yq_text.{specs.Limit.text_limit, specs.Script.{Segment, keep, put, old_text, new_text, kept_back}}
 use Rattle.yq_text.proofs.KeptSegments.{IsAfter, after, back_last}
-use Rattle.yq_row_table.{specs.Rows.{Row, print_row, Part, Cut, cut_text}, specs.Splices.first_gap}
+use Rattle.yq_row_table.{specs.Rows.{Row, print_row, Part, Cut, cut_text}, specs.Splices.first_gap, proofs.FrontLaws.front_le}
 use Rattle.yq_documents.{specs.Reading.{documents, read_at}, proofs.RunLaws.run_split}
 use Rattle.yq_places.specs.RemovalPlaces.{kept_gap, Seam, Removal, removal_place, has_others_at}
 use Rattle.yq_edit_rules.{specs.RemovalChanges.{mended, MayTakeOut, IsTakenOut}, proofs.LeadLaws.block_lead_goes}
 use Rattle.yq_edit_rules.{proofs.RemovalChangeLaws.{AreRowsTaken, removal_is_there, entry_taken}, specs.Changed.put_document}
 use Rattle.yq_edit_rules.{specs.Removes.left_gap, specs.EditLaws.IsEdit}
 use Rattle.yq_edit_rules.{specs.Removing.{put_indent, lines_mended, gap_mended, rows_removed}, specs.Local.IsLocalTo}
-use Rattle.yq_edit_rules.{specs.ReadsAfter.ReadsAfter, proofs.ItemsLocal.last_within, proofs.LocalLaws.{at_row, cut_known}}
-use Rattle.yq_edit_rules.{proofs.DoneLaws.{document_done, part_of}, proofs.EditsFitLaws.not_used}
+use Rattle.yq_edit_rules.{specs.ReadsAfter.ReadsAfter, proofs.LocalLaws.{at_row, cut_known}, proofs.DoneLaws.{document_done, part_of}}
+use Rattle.yq_edit_rules.proofs.EditsFitLaws.{not_used}
 use Rattle.yq_semantics.{specs.Fits.Fits, specs.Operations.remove, specs.Rooms.room_of}
 use Rattle.yq_edit_laws.{specs.TouchedRanges.LiesInOne, proofs.GapLaws.{RowsGoOut, out_in_one, out_local}}
 
@@ -114,7 +114,7 @@ module _ (doc : ℕ) (steps : List Step) (c : Cut) (x : Removal) (old : old_text
         before_is = append-nil x.before ∙ (a.before_is ∙ at_row a.start a.front kept);
         following_is = back_last (gap_mended x.seam x.gap) x.after ∙ ap (λ t. u ++ t) a.following_is;
         begins = gap_no_longer (a.first ∷ a.others) p.end a.first a.others refl;
-        ends = last_within (first_gap a.back p.end) m.old u (sym a.gap_is ∙ (sym (gap_old x.seam x.gap) ∙ m.old_is));
+        ends = front_le (first_gap a.back p.end) m.old u (sym a.gap_is ∙ (sym (gap_old x.seam x.gap) ∙ m.old_is));
         puts = refl;
         old_is = old;
         new_is = sym (ap (λ (q : Part). cut_text (put_document doc q c)) (sym a.new_is) ∙ (out.text ∙ sym (removed_new x)));

@@ -21,8 +21,8 @@ use Rattle.yq_edit_rules.specs.ReplaceEdits.{block_put, has_text, held_put, lite
 use Rattle.yq_edit_rules.specs.ReplaceEdits.{holds_text}
 use Rattle.yq_edit_rules.specs.WrittenValues.{Written, inline, compact_text, lines, collection_at, column_under, lines_in, takes_compact}
 use Rattle.yq_edit_rules.{specs.WrittenValues.{value_text, written_at}, proofs.EditsFitLaws.{FitsReplace, fits_replace}}
-use Rattle.yq_edit_rules.{proofs.ValueTexts.{scalar_for, value_for}, proofs.TextPieceLaws.pieces_joined, specs.Done.ArePieces}
-use Rattle.yq_edit_rules.{proofs.CommentPieceLaws.{nothing, break_piece}, proofs.CommentReadLaws.break_is, proofs.PathTailLaws.anchor_other}
+use Rattle.yq_edit_rules.{proofs.ValueTexts.{scalar_for, value_for}, proofs.TextPieceLaws.{pieces_joined, nothing}, specs.Done.ArePieces}
+use Rattle.yq_edit_rules.{proofs.CommentPieceLaws.break_piece, proofs.CommentReadLaws.break_is, proofs.PathTailLaws.anchor_other}
 use Rattle.yq_semantics.specs.Operations.{replace}
 use Rattle.yq_outline.{specs.Comments.line_comment, specs.Outline.{Line, anchored, head_or, value}, specs.Lines.{head_of, tail_of}}
 use Rattle.yq_edit_laws.proofs.HeldCarried.{held_old, put_carried, KnowsHeld, Spells, node_is, regroup}

@@ -1,7 +1,7 @@
 -- What is known of a flow collection with one item or entry, by what is next to that and by the step that leads to it.
-use Rattle.std.proofs.Common.{arith, rules, ◌≡◌, ℕ, zero, suc, Bool, true, false, cond, eqb, List, Some, None, option_map, refl, sym, ap}
-use Rattle.std.{proofs.Common.◌∙◌, proofs.lemmas.Bool.false≢true, proofs.lemmas.Grind.common_steps}
-use Rattle.std.{proofs.lemmas.Option.{none-some, same_Some}, specs.Prelude.nat_lt}
+use Rattle.std.proofs.Common.{arith, rules, ◌≡◌, ℕ, zero, suc, Bool, true, false, cond, eqb, List, Some, None, refl, sym, ap, ◌∙◌}
+use Rattle.std.{proofs.lemmas.Bool.false≢true, proofs.lemmas.Grind.common_steps, proofs.lemmas.Option.{none-some, same_Some}}
+use Rattle.std.specs.Prelude.{nat_lt}
 use Rattle.yq_edit_rules.proofs.FlowLocationLaws.{coll_entry}
 use Rattle.yq_core.{specs.Answers.◌>>=◌, specs.Collections.{CollPieces, coll_along, coll_in}, specs.Paths.{Nth, Step, To, further, is_here}}
 use Rattle.yq_core.specs.Entries.{EntryPieces, entry_pieces_at}

@@ -2,10 +2,10 @@
 use Rattle.std.proofs.lemmas.Grind.{common_steps}
 use Rattle.std.proofs.Common.{rules, ◌≡◌, ℕ, ◌+◌, false, List, [], ◌∷◌, ◌++◌, length, Option, Some, None, option_map, refl, sym, ap, ◌∙◌}
 use Rattle.std.{proofs.Common.{subst, arith}, proofs.lemmas.Bool.ltb-false, proofs.lemmas.Option.{none-some, same_Some}}
-use Rattle.std.{specs.Option.option_or, specs.Prelude.{nat_lt, option_and_then}}
+use Rattle.std.specs.Prelude.{nat_lt, option_and_then}
 use Rattle.yq_core.{specs.Answers.◌>>=◌, specs.Collections.{CollPieces, coll_along, coll_in}, specs.Entries.{EntryPieces, item_at}}
-use Rattle.yq_core.{specs.Nodes.{FlowNode, Items, none, item, coll, anchored}, specs.Paths.{Step, further, is_here}}
-use Rattle.yq_core.{specs.Tree.{Children, Node, children_of, key_label}, specs.Trees.{items_tree, tree_of, with_name}}
+use Rattle.yq_core.{specs.Nodes.{FlowNode, Items, none, item, coll, anchored}, specs.Paths.Step, specs.Tree.{Children, Node, children_of}}
+use Rattle.yq_core.specs.Trees.{items_tree, tree_of, with_name}
 use Rattle.yq_flow_edits.specs.Removals.{removing, removing_from}
 use Rattle.yq_outline.{specs.Counts.count, specs.Outline.Outline, specs.Places.{FoundLine, lines_before}}
 use Rattle.yq_row_table.{specs.Exchange.after_row, specs.Rows.{Content, Inline, Cut, cut_text}}

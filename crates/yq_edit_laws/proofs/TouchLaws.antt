@@ -34,7 +34,8 @@ front_only (f ∷ front) is lead n e h =
     let rest : n - length (item_text f) ≡ length (items_text front []) + length lead = omega (arith, e, size_one f front) in
     ap (λ (xs : List Item). cond (ltb (length (item_text f)) n) (f ∷ xs) []) (front_only front is lead (n - length (item_text f)) rest h)
 
-front_left : (n : ℕ) (is : List Item) → (more : List Item) × (is ≡ before_offset n is ++ more)
+-- the items before an offset are the first ones
+pub front_left : (n : ℕ) (is : List Item) → (more : List Item) × (is ≡ before_offset n is ++ more)
 front_left n [] = ([], refl)
 front_left n (i ∷ is) = go (front_left (n - length (item_text i)) is) (ltb (length (item_text i)) n)
   where

@@ -1,11 +1,11 @@
 -- An update that is planned on the documents of a text and carried out.
-use Rattle.std.proofs.Common.{rules, ◌≡◌, ℕ, zero, suc, ◌<◌, List, [], ◌∷◌, ◌++◌, slice_get, Some, None, Result, Ok, Err, IfOk, IfErr}
-use Rattle.std.{proofs.Common.{string_bytes, sym, ap, ◌∙◌, subst, arith}, proofs.lemmas.Option.{none-some, same_Some}}
+use Rattle.std.proofs.Common.{rules, ◌≡◌, ℕ, ◌<◌, List, [], ◌∷◌, ◌++◌, Some, None, Result, Ok, Err, IfOk, IfErr, string_bytes, sym, ap, ◌∙◌}
+use Rattle.std.{proofs.Common.{subst, arith}, proofs.lemmas.Option.none-some}
 use Rattle.yq_row_table.specs.Rows.{Cut}
 use Rattle.yq_documents.{specs.Reading.{documents, documents_of, cut_of, read_at}, proofs.ReadLaws.parts_read}
 use Rattle.yq_semantics.{specs.Judgement.{Judges, ExprError}, specs.Operations.Operation, specs.Plans.plan}
-use Rattle.yq_semantics.specs.Program.{Program, Update, read, updates, update_at, update_count, UpdatesHold, LiteralsHold}
-use Rattle.yq_semantics.{specs.Rooms.room_of, specs.declared.refusal.Refusal.Refusal}
+use Rattle.yq_semantics.{specs.Program.{Program, Update, read, updates, update_at, update_count, UpdatesHold}, specs.Rooms.room_of}
+use Rattle.yq_semantics.specs.declared.refusal.Refusal.{Refusal}
 use Rattle.yq_text.{specs.Splice.Splice, proofs.PlaceInList.get_some, specs.declared.edited.Edited.Edited}
 use Rattle.yq_edit_laws.{specs.Answers.{Edits, EditFails}, specs.Carried.{carry_all, carry_out, updated}}
 use Rattle.yq_edit_laws.{specs.Edit.{Edit, gives, edit_after, by_reading}, specs.Theorems.HasReading}
@@ -65,25 +65,6 @@ update_unplanned view u t d failure.Memory is same h = memory_fails u t
 pub update_planned : (u : Update) (t d : List ℕ) (ops : List Operation) → d ≡ t → plan u (room_of d) (documents_of d) ≡ judgement.gives ops →
     plan u (room_of t) (documents (cut_of d)) ≡ judgement.gives ops
 update_planned u t d ops same h = ap (λ (x : List ℕ). plan u (room_of x) (documents_of d)) (sym same) ∙ h
-
--- ---- literals
-
--- those of the first of updates, and of the others
-first_holds : (u : Update) (us : List Update) → UpdatesHold (u ∷ us) → UpdatesHold (u ∷ [])
-first_holds u us h = search rules
-
-others_hold : (u : Update) (us : List Update) → UpdatesHold (u ∷ us) → UpdatesHold us
-others_hold u us h = search rules
-
-nth_holds : (us : List Update) (n : ℕ) (u : Update) → UpdatesHold us → slice_get us n ≡ Some u → UpdatesHold (u ∷ [])
-nth_holds [] n u h at = absurd (none-some _ at)
-nth_holds (x ∷ us) zero u h at = subst (λ y. UpdatesHold (y ∷ [])) (same_Some _ _ at) (first_holds x us h)
-nth_holds (x ∷ us) (suc n) u h at = nth_holds us n u (others_hold x us h) at
-
--- those of an update of a program
-pub update_holds : (p : Program) (n : ℕ) (u : Update) → LiteralsHold p → update_at n p ≡ Some u → UpdatesHold (u ∷ [])
-update_holds (read stages) n u h at = absurd (none-some _ at)
-update_holds (updates us) n u h at = nth_holds us n u h at
 
 -- an update of that number
 pub update_there : (p : Program) (n : ℕ) → n < update_count p → (u : Update) × (update_at n p ≡ Some u)
