@@ -10,6 +10,9 @@ from harness import ROOT, SECONDS, equal
 
 COMMANDS = ("eval", "undo", "redo", "history", "squash")
 
+# What a line advises as an expression: it begins with a path, a parenthesis before one, or a function.
+ADVISED = re.compile(r": (\(?(?:\.|del\(|select\().*)$")
+
 
 def table():
     with open(os.path.join(ROOT, "tests", "data", "mistakes.json"), encoding="utf-8") as text:
@@ -52,6 +55,22 @@ def check_each_mistake_is_explained_on_a_terminal_and_with_the_option(folder):
         else:
             is_explained(row, words, plain)
     equal(folder.files(), before)
+
+
+def check_each_advised_expression_is_one(folder):
+    """No expression that the lines about an expression advise is refused as one (E1, E2, E3)."""
+    told, count = table(), 0
+    for name, text in {**told["files"], "empty": ""}.items():
+        folder.write(name, text.encode())
+    for row in told["rows"]:
+        _, _, err = folder.run(*explained(row["words"]))
+        for line in err.decode().splitlines()[3:]:
+            advised = ADVISED.search(line)
+            if advised and row["refused"].startswith("E"):
+                err = folder.run(advised[1], "empty")[2]
+                equal(re.match(rb"Error: [EU]", err), None, (row["words"], line))
+                count += 1
+    equal(count > 30, True, count)
 
 
 def check_the_place_of_a_fault_of_a_text_is_reported(folder):

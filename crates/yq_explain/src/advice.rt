@@ -79,6 +79,10 @@ fn of_word(
 ) -> Result<Option<Advice>, AllocError> {
     match p.token {
         "env" | "strenv" | "envsubst" => return advise(alloc, FROM_SHELL),
+        "as" if first_char(p.after) == Some('$') => {
+            let what = "there are no variables: a path is written where its value is wanted";
+            return advise(alloc, what);
+        }
         "and" => {
             let parts = [p.before.trim_end(), ") | select(", p.after.trim_start()];
             return rewrite(alloc, "one 'select' for each condition", &parts);
@@ -88,6 +92,10 @@ fn of_word(
     }
     match last_char(p.before) {
         None | Some('(') | Some('|') => of_first(alloc, p),
+        Some('.') => {
+            let parts = [p.before.trim_end(), p.token, p.after];
+            rewrite(alloc, "no space comes after a dot", &parts)
+        }
         Some('[') if is_in_path(p.before) => advise(alloc, BY_SELECT),
         Some('{') | Some(',') if first_char(p.after) == Some(':') => {
             let parts = [p.before, "\"", p.token, "\"", p.after];

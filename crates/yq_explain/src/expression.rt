@@ -1,11 +1,35 @@
 //! Where an expression is at fault, in lines.
 
-use crate::advice::advice_on;
+use crate::advice::{Advice, advice_on};
 use crate::caret::{push_caret, push_name};
 use crate::expected::push_expected;
 use crate::rows::push_rows;
 use std::alloc::{AllocError, Global};
+use yq_expr_parser::{ParseError, parse_expr};
 use yq_semantics::{Expected, ParseFault};
+
+/// How many faults of an expression are mended one after the other.
+const MOST: usize = 8;
+
+/// What is advised in place of an expression, its other faults mended in the same way; nothing where that is none.
+fn mended(alloc: Global, advice: Advice) -> Result<Option<String>, AllocError> {
+    let mut text = advice.instead;
+    'faults: for _ in 0..MOST {
+        if text.is_empty() {
+            return Ok(None);
+        }
+        let fault = match parse_expr(alloc, &text) {
+            Ok(_) => return Ok(Some(text)),
+            Err(ParseError::Memory) => return Ok(None),
+            Err(ParseError::Fault(fault)) => fault,
+        };
+        let Some(next) = advice_on(alloc, &text, fault)? else {
+            return Ok(None);
+        };
+        text = next.instead;
+    }
+    Ok(None)
+}
 
 /// Adds what can be done about an expression that is refused; where neither that nor what was expected
 /// is known, what the code means.
@@ -19,9 +43,9 @@ fn push_advice(
     match advice_on(alloc, expr, fault)? {
         Some(advice) => {
             out.push_str(advice.what)?;
-            if !advice.instead.is_empty() {
+            if let Some(text) = mended(alloc, advice)? {
                 out.push_str(": ")?;
-                push_name(out, advice.instead.as_str())?;
+                push_name(out, &text)?;
             }
             out.push('\n')
         }

@@ -3,6 +3,7 @@
 use crate::advice::{Advice, advise, rewrite};
 use crate::parts::{Parts, first_char};
 use std::alloc::{AllocError, Global};
+use yq_args::is_command_word;
 
 /// Functions that other programs have, and that are often written.
 const FUNCTIONS: [&str; 44] = [
@@ -81,6 +82,10 @@ pub fn of_first(alloc: Global, p: Parts<'_>) -> Result<Option<Advice>, AllocErro
     }
     if p.before.is_empty() && is_file_end(p.after) {
         return advise(alloc, "EXPR comes first, and FILE after it");
+    }
+    if p.before.is_empty() && p.after.is_empty() && is_command_word(p.token) {
+        let what = "the name of a command comes first, before options and '--'";
+        return advise(alloc, what);
     }
     if p.before.is_empty() && p.after.trim().is_empty() {
         let what = "no command has this name: --help lists them; as a path it begins with a dot";

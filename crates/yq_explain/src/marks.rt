@@ -47,6 +47,7 @@ pub fn of_mark(alloc: Global, p: Parts<'_>) -> Result<Option<Advice>, AllocError
             alloc,
             "there is no default for what is missing; with -e the status says whether it is there",
         ),
+        ".." => advise(alloc, "each step of a path is named: there is no '..'"),
         "/" => of_slash(alloc, p),
         "<" | ">" => advise(alloc, "values are compared by '==' and '!=' alone"),
         "?" => {

@@ -1,7 +1,7 @@
 //! What is no expression.
 
 use crate::advice::{Advice, BY_SELECT, advise, of_value, rewrite};
-use crate::parts::{Parts, first_char, in_two, last_char, parted_at_value};
+use crate::parts::{Parts, first_char, in_two, is_word_char, last_char, parted_at_value};
 use crate::updates::{of_comma, of_equals, of_step};
 use std::alloc::{AllocError, Global};
 use yq_semantics::Expected;
@@ -75,7 +75,7 @@ fn of_unread(
     }
 }
 
-/// About a token after an opening bracket, or where a key or value is missing.
+/// About a token after an opening bracket, or where a key, value or comparison is missing.
 fn of_bracket(
     alloc: Global,
     p: Parts<'_>,
@@ -91,9 +91,18 @@ fn of_bracket(
             let parts = [before.strip_suffix(',').unwrap_or(before), p.token, p.after];
             rewrite(alloc, "no comma comes before a closing bracket", &parts)
         }
+        (Some(')'), Expected::Comparison) => {
+            let parts = [p.before, " == true", p.token, p.after];
+            rewrite(alloc, "a condition compares a value", &parts)
+        }
         (_, Expected::Step) => advise(alloc, BY_SELECT),
         _ => Ok(None),
     }
+}
+
+/// Whether a step goes on after its dot.
+fn is_step_begun(after: &str) -> bool {
+    after.starts_with(|c: char| is_word_char(c) || matches!(c, '"' | '['))
 }
 
 /// About a dot at which a path or value was cut.
@@ -112,6 +121,10 @@ fn of_late_dot(
     }
     if matches!(first_char(p.after), Some('0'..='9')) {
         return of_dot(alloc, p);
+    }
+    if !is_step_begun(p.after) {
+        let parts = [p.before, p.after];
+        return rewrite(alloc, "a path doesn't end in a dot", &parts);
     }
     if expected == Expected::End {
         let parts = [p.before.trim_end(), " | ", p.token, p.after];
@@ -136,12 +149,17 @@ pub fn of_misread(
             let parts = [p.before.trim_end(), "(", p.token, p.after.trim_end(), ")"];
             rewrite(alloc, "parentheses come after it", &parts)
         }
-        Some('=' | '|' | '+') => of_equals(alloc, p, expected),
+        Some('=' | '!' | '|' | '+') => of_equals(alloc, p, expected),
         Some(':') if expected == Expected::Operator => {
-            let parts = [p.before.trim_end(), " =", p.after];
+            let value = p.after.strip_prefix('=').unwrap_or(p.after);
+            let parts = [p.before.trim_end(), " =", value];
             rewrite(alloc, "a value is set by '='", &parts)
         }
         Some(',') => of_comma(alloc, p),
+        Some('[') if expected == Expected::Path && first_char(p.after) == Some('.') => {
+            let what = "values aren't put into a list: a path with '[]' prints each of them";
+            advise(alloc, what)
+        }
         Some('[') if expected == Expected::Path => {
             let parts = [p.before, ".", p.token, p.after];
             rewrite(alloc, "a path begins with a dot", &parts)

@@ -8,6 +8,23 @@ use yq_semantics::Expected;
 /// How selected places are updated.
 const IN_PARENTHESES: &str = "selected places are written in parentheses";
 
+/// About a comparison that is in no 'select'.
+fn of_comparison(alloc: Global, p: Parts<'_>) -> Result<Option<Advice>, AllocError> {
+    let (front, bar, path) = match p.before.rsplit_once('|') {
+        Some((front, path)) => (front, "| ", path),
+        None => ("", "", p.before),
+    };
+    let (value, bar_after, rest) = match p.after.split_once('|') {
+        Some((value, rest)) => (value, " |", rest),
+        None => (p.after, "", ""),
+    };
+    let (left, right) = (path.trim_start(), value.trim_end());
+    let open = "select(";
+    let parts = [front, bar, open, left, p.token, right, ")", bar_after, rest];
+    let what = "values are compared in 'select' alone, and set by '='";
+    rewrite(alloc, what, &parts)
+}
+
 /// About an operator, where a comparison or nothing was expected.
 pub fn of_equals(
     alloc: Global,
@@ -17,6 +34,9 @@ pub fn of_equals(
     let before = p.before.trim_end();
     if before.ends_with("==") {
         return rewrite(alloc, "values are compared by '=='", &[before, p.after]);
+    }
+    if matches!(p.token, "==" | "!") && expected != Expected::Comparison {
+        return of_comparison(alloc, p);
     }
     match expected {
         Expected::Comparison => rewrite(

@@ -23,15 +23,13 @@ fn first_alias<'d, 't>(
     if depth == 0 {
         return Ok(None);
     }
-    let mut children = node.children();
-    'children: for before in 0..node.count() {
-        let Some(child) = children.next() else {
-            return Ok(None);
-        };
+    let mut before = 0usize;
+    'children: for child in node.children() {
         if let Some(mut steps) = first_alias(alloc, &child, depth - 1)? {
             steps.insert(0, owned(alloc, step_to(&child, before))?)?;
             return Ok(Some(steps));
         }
+        before = before.saturating_add(1);
     }
     Ok(None)
 }

@@ -4,4 +4,4 @@ abbrev pub decreases-first_alias : goal.decreases-first_alias
 decreases-first_alias l = l.depth
 
 abbrev pub invariant-children : goal.invariant-children
-invariant-children l = (goal.iterator-children).can_next l.children × (goal.iterator-children).is_finite l.children
+invariant-children l = (goal.iterator-children).can_next l.child-iterator × (goal.iterator-children).is_finite l.child-iterator
