@@ -4,11 +4,12 @@ use Rattle.std.{proofs.Common.{is_ok, sym, ap, ◌∙◌, subst, refl, true≢fa
 use Rattle.yq_journal.{specs.declared.moves.Move.Move, specs.Good.journal_beside, specs.Json.journal_text}
 use Rattle.yq_journal.specs.Refusals.{no_way, squash_fault, way_fault}
 use Rattle.yq_journal.specs.State.{State, journal_after, moved_text, settled_beside, squashed, with_move}
+use Rattle.yq_journal.proofs.GoodLaws.{bytes_same, bytes_differ}
 use Rattle.yq_store.specs.Calls.{Call, writes}
 use Rattle.yq_history.specs.PairAnswers.{IsReadFrom}
 use Rattle.yq_history.specs.Calls.{AfterFile, AfterJournal, CallsOnPair, IsOpened, Makes, Puts, PutsJournal, ReadsJournal, ReadsPair}
 use Rattle.yq_history.{specs.Calls.writes_of, specs.Effects.{Effect, from_pair, move_effect, squash_effect}, proofs.EffectLaws.settles}
-use Rattle.yq_history.proofs.MoveLaws.{bytes_differ, bytes_same, no_way_free}
+use Rattle.yq_history.proofs.MoveLaws.{no_way_free}
 use Rattle.yq_fault.specs.declared.fault.Fault.{Fault}
 use Rattle.yq_fault.specs.declared.fault.Fault.TheVariants as fault
 

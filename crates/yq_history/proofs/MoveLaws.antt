@@ -1,12 +1,11 @@
 -- What each write of a move leaves, and how a move ends.
 use Rattle.std.proofs.Common.{rules, ◌≡◌, ◌≢◌, ◌⊎◌, ℕ, true, false, List, Option, Some, None, Result, Err, OnOk, OnErr, IfErr, IsTrue}
-use Rattle.std.{proofs.Common.{IsNone, option_map, sym, ap, ◌∙◌, subst, refl}, specs.FinMap.{get, insert}, specs.Str.bytes_eq}
-use Rattle.std.{proofs.lemmas.Option.same_Some, proofs.lemmas.Slice.Eq.bytes_eq-Decides}
+use Rattle.std.{proofs.Common.{IsNone, option_map, sym, ap, ◌∙◌, subst}, specs.FinMap.{get, insert}, proofs.lemmas.Option.same_Some}
 use Rattle.yq_journal.{specs.Refusals.{JournalError, ErrorIs, no_way, way_fault}, specs.declared.fault.JournalFault.JournalFault}
 use Rattle.yq_journal.{specs.declared.moves.Move.Move, specs.Good.{AtRest, Describes, after_move, journal_beside, step_fault}}
 use Rattle.yq_journal.{specs.Json.journal_text, specs.Record.Record, specs.History.History}
 use Rattle.yq_journal.specs.State.{State, journal_after, moved_text, with_move, settled_beside}
-use Rattle.yq_journal.proofs.GoodLaws.{describes, open_before, open_after, settled_rests, undo_fault, redo_fault}
+use Rattle.yq_journal.proofs.GoodLaws.{describes, open_before, open_after, settled_rests, undo_fault, redo_fault, moved_closed}
 use Rattle.yq_journal.proofs.HistoryLaws.{move_moves}
 use Rattle.yq_history.{specs.Causes.{Cause, IsFor}, specs.Effects.IsCutShort}
 use Rattle.yq_history.{specs.Pair.{Arrives, GoodIn, IsJournal, PairAtRest, PairIsThere, Writes}, specs.Steps.{move_cause, move_next}}
@@ -14,9 +13,6 @@ use Rattle.yq_history.{specs.Directions.walk_move, specs.declared.direction.Dire
 use Rattle.yq_fault.{specs.declared.fault.Fault.Fault, specs.Faults.{is_outer_fault, of_journal}}
 use Rattle.yq_store.specs.FileMap.{FileMap, get_written, get_other}
 use Rattle.yq_fault.specs.declared.fault.Fault.TheVariants as faults
-
-moved_closed : (s : State) (step : Move) → (journal_after s step).pending ≡ None
-moved_closed s step = search rules
 
 pub none_of : {A : Type 0} (o : Option A) → IsNone o → o ≡ None
 none_of o h = search rules
@@ -75,12 +71,6 @@ module _ (f j : List ℕ) (apart : f ≢ j) where
 
 pub on_err : {T E P : Type 0} (r : Result T E) → P → OnErr r P
 on_err r p = search rules
-
-pub on_ok_map : {T E P Q : Type 0} (r : Result T E) → OnOk r P → (P → Q) → OnOk r Q
-on_ok_map r p f = search rules
-
-pub on_err_map : {T E P Q : Type 0} (r : Result T E) → OnErr r P → (P → Q) → OnErr r Q
-on_err_map r p f = search rules
 
 pub either : {A B C : Type 0} → A ⊎ B → (A → C) → (B → C) → C
 either a f h = search rules
@@ -157,12 +147,6 @@ module _ (f j : List ℕ) (h : History) (w : Direction) where
 
     pub other_move : {T : Type 0} (r : Result T Fault) (u : List ℕ) (again : Move) → again ≡ walk_move w → way_fault s.records s.at step t ≡ None → IsMove c d f j s t u again r → MoveDone d r
     other_move r u again same free m = search (rules, move_ends, free_move, fault_outside, no_way_free, m.ok, m.err)
-
-pub bytes_same : (t : List ℕ) → bytes_eq t t ≡ true
-bytes_same t = (bytes_eq-Decides t t).1 refl
-
-pub bytes_differ : (t u : List ℕ) → t ≢ u → bytes_eq t u ≡ false
-bytes_differ t u d = search rules
 
 -- an open move is done next to the text to which it leads
 settles_moved : (s : State) (t u : List ℕ) (step : Move) → moved_text s.records s.at step t ≡ Some u → u ≢ t → settled_beside (with_move s step t) u ≡ Some (journal_after s step)

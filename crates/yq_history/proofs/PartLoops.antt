@@ -1,12 +1,8 @@
 -- Steps of the loop over parts.
-use Rattle.std.proofs.Common.{rules, ◌≡◌, ℕ, ◌+◌, ◌≤◌, ◌<◌, ◌^◌, Result, OnOk, List, ◌∷◌, ◌++◌, length, drop, get_or, drop-cons, ap, arith}
-use Rattle.std.{proofs.Common.append_assoc, proofs.lemmas.List.length-append}
+use Rattle.std.proofs.Common.{rules, ◌≡◌, ℕ, ◌+◌, ◌≤◌, ◌<◌, ◌^◌, List, ◌∷◌, ◌++◌, length, drop, get_or, drop-cons, ap, arith, append_assoc}
+use Rattle.std.proofs.lemmas.List.{length-append}
 use Rattle.yq_history.specs.DiffParts.{new_part, new_parts, old_part, old_parts}
 use Rattle.yq_history.{specs.DiffPrinting.{Open, open_after, print_ended, print_parts}, specs.declared.diff.part.Part.Part}
-
--- what follows where a call was carried out
-pub on_ok : {T E P Q : Type 0} (r : Result T E) → OnOk r P → (P → Q) → OnOk r Q
-on_ok r p f = search rules
 
 -- the next part of several
 pub next_part : (ps : List Part) (i : ℕ) (p : Part) → i < length ps → drop i ps ≡ get_or ps i p ∷ drop (i + 1) ps

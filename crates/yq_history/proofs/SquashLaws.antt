@@ -1,12 +1,13 @@
 -- How a squash of a pair ends.
 use Rattle.std.proofs.Common.{rules, ◌≡◌, ◌≢◌, ◌⊎◌, ℕ, ◌≤◌, List, Option, Some, None, Result, Ok, Err, OnOk, OnErr, IfErr, IsTrue, Vec}
 use Rattle.std.{proofs.Common.{option_map, sym, ap, ◌∙◌, subst, refl}, specs.declared.alloc.Global.Global}
+use Rattle.std.proofs.lemmas.Result.{on_ok_weaker, on_err_weaker}
 use Rattle.yq_journal.{specs.Refusals.{JournalError, Reports, squash_fault}, specs.Good.squash_refusal}
 use Rattle.yq_journal.{specs.History.{History, after_squash}, specs.State.{State, squashed}, proofs.GoodLaws.describes}
 use Rattle.yq_journal.proofs.SquashLaws.{squash_fault_of, squash_one, squash_rests}
 use Rattle.yq_history.{specs.Causes.named, specs.Pair.{Arrives, Opens, PairAtRest, PairIsThere, Writes}}
 use Rattle.yq_history.specs.Steps.{squash_cause, squash_next, unless_fault}
-use Rattle.yq_history.proofs.MoveLaws.{cut, is_refused, ends, either, on_ok_map, on_err_map, same_content, wrote_journal}
+use Rattle.yq_history.proofs.MoveLaws.{cut, is_refused, ends, either, same_content, wrote_journal}
 use Rattle.yq_fault.{specs.declared.fault.Fault.Fault, specs.Faults.{is_outer_fault, of_journal}}
 use Rattle.yq_store.specs.FileMap.{FileMap}
 use Rattle.yq_fault.specs.declared.fault.Fault.TheVariants as fault
@@ -46,7 +47,7 @@ module _ (c : FileMap) (f j : List ℕ) (h : History) (n : ℕ) (s : State) (t :
     -- the journal was written, or not
     pub squash_ends : {T : Type 0} (r : Result T Fault) →
         OnOk r (Writes c d j z) → OnErr r ((d ≡ c) ⊎ Writes c d j z) → IfErr r (λ e. IsTrue (is_outer_fault e)) → Arrives d f j (squash_cause n (Some h)) (Some h) (squash_next n (Some h)) r
-    squash_ends r ok err out = search (rules, next_is, ends, no_cause, on_ok_map, wrote, on_err_map, either, same_content)
+    squash_ends r ok err out = search (rules, next_is, ends, no_cause, on_ok_weaker, wrote, on_err_weaker, either, same_content)
 
 -- a pair that was read and settled, and then squashed
 pub squash_opened : (c d : FileMap) (f j : List ℕ) (n : ℕ) (h : Option History) (v : Vec ℕ Global) (s : State) {T : Type 0} (r : Result T Fault) →

@@ -1,10 +1,10 @@
 use Rattle.std.{proofs.Common.{rules, inl, inr, refl, ap, ◌∙◌, sym, Err, [], ◌∷◌}, specs.FinMap.get, proofs.lemmas.Option.none-some}
-use Rattle.std.proofs.lemmas.Result.{err_from_is_err_and}
+use Rattle.std.proofs.lemmas.Result.{err_from_is_err_and, on_ok_weaker, on_err_weaker}
 use Rattle.yq_journal.{specs.Json.journal_text, specs.State.journal_after}
-use Rattle.yq_history.proofs.MoveLaws.{first_write, second_write, third_write, same_content, moved_journal, on_err, on_ok_map, on_err_map}
-use Rattle.yq_history.{proofs.MoveLaws.{either, settled_is}, proofs.CutLaws.{cut_unwritten, cut_opened, cut_changed, cut_settled}}
-use Rattle.yq_history.{proofs.EffectLaws.on_ok, proofs.FaultLaws.{all_outside, failed_write, way_there}}
-use Rattle.yq_history.proofs.CallLaws.{fails, makes_none, puts_as, three_writes, was_last, was_put_as}
+use Rattle.yq_history.proofs.MoveLaws.{first_write, second_write, third_write, same_content, moved_journal, on_err, either, settled_is}
+use Rattle.yq_history.proofs.CutLaws.{cut_unwritten, cut_opened, cut_changed, cut_settled}
+use Rattle.yq_history.proofs.FaultLaws.{all_outside, failed_write, way_there}
+use Rattle.yq_history.{proofs.CallLaws.{fails, makes_none, puts_as, three_writes, was_last, was_put_as}, proofs.EffectLaws.on_ok}
 use Rattle.yq_store.{specs.Count.failures_after, specs.FileMap.get_written}
 use Rattle.yq_history.proofs.moves.carry_out.Goals as goal
 
@@ -13,27 +13,31 @@ returns g c =
     let free = way_there c.args.open.state c.args.step c.args.open.text.items _ c.args.open.at_rest c.requires.moves c.in_ok-start_known.ensures.free in
     record {
       ok = λ keeps apart h k.
-          on_ok_map _ (c.write_journal-2.ensures.ok keeps)
-          (third_write _ _ apart _ _ _ _ _ _ _ k c.requires.moves _ _ _ _ c.requires.changes c.in_ok-start_known.ensures.ok (c.in_ok-replace.ensures.written keeps) c.in_ok-finish.ensures.ok);
+          on_ok_weaker _
+          (third_write _ _ apart _ _ _ _ _ _ _ k c.requires.moves _ _ _ _ c.requires.changes c.in_ok-start_known.ensures.ok (c.in_ok-replace.ensures.written keeps) c.in_ok-finish.ensures.ok)
+          (c.write_journal-2.ensures.ok keeps);
       err = λ keeps apart h k.
           let put = c.in_ok-replace.ensures.written keeps in
-          on_err_map _ (c.write_journal-2.ensures.err keeps)
+          on_err_weaker _
           (λ x. inr (either x
           (λ same. same_content _ _ _ _ _ same (second_write _ _ apart _ _ _ _ _ _ _ k c.requires.moves _ _ c.requires.changes c.in_ok-start_known.ensures.ok (c.in_ok-write_journal.ensures.ok keeps) put))
-          (third_write _ _ apart _ _ _ _ _ _ _ k c.requires.moves _ _ _ _ c.requires.changes c.in_ok-start_known.ensures.ok put c.in_ok-finish.ensures.ok)));
+          (third_write _ _ apart _ _ _ _ _ _ _ k c.requires.moves _ _ _ _ c.requires.changes c.in_ok-start_known.ensures.ok put c.in_ok-finish.ensures.ok)))
+          (c.write_journal-2.ensures.err keeps);
       text = λ keeps apart.
           on_ok c.write_journal-2.result
           ((c.write_journal-2.ensures.leaves.names keeps).others c.args.open.pair.file.now apart ∙ ap (λ m. get m c.args.open.pair.file.now) (c.in_ok-replace.ensures.written keeps) ∙ get_written _ c.args.open.pair.file.now _);
-      moved = λ keeps. on_ok_map _ (c.write_journal-2.ensures.ok keeps)
-          (moved_journal _ c.args.open.state _ _ c.args.step _ _ _ _ c.requires.moves c.requires.changes c.in_ok-start_known.ensures.ok c.in_ok-finish.ensures.ok);
+      moved = λ keeps.
+          on_ok_weaker _ (moved_journal _ c.args.open.state _ _ c.args.step _ _ _ _ c.requires.moves c.requires.changes c.in_ok-start_known.ensures.ok c.in_ok-finish.ensures.ok)
+          (c.write_journal-2.ensures.ok keeps);
       cut = λ keeps apart.
           let put = c.in_ok-replace.ensures.written keeps in
           let file = (c.write_journal-2.ensures.leaves.names keeps).others c.args.open.pair.file.now apart ∙ ap (λ m. get m c.args.open.pair.file.now) put ∙ get_written _ c.args.open.pair.file.now _ in
-          on_err_map _ (c.write_journal-2.ensures.err keeps)
+          on_err_weaker _
           (λ x. either x
           (λ same. cut_changed _ _ _ _ _ _ apart _ _ c.in_ok-start_known.ensures.ok (c.in_ok-write_journal.ensures.ok keeps) _ (same ∙ put))
           (λ w. cut_settled _ _ _ _ _ _ _ file
-          (moved_journal _ c.args.open.state _ _ c.args.step _ _ _ _ c.requires.moves c.requires.changes c.in_ok-start_known.ensures.ok c.in_ok-finish.ensures.ok w)));
+          (moved_journal _ c.args.open.state _ _ c.args.step _ _ _ _ c.requires.moves c.requires.changes c.in_ok-start_known.ensures.ok c.in_ok-finish.ensures.ok w)))
+          (c.write_journal-2.ensures.err keeps);
       fault = all_outside _ c.write_journal-2.result c.write_journal-2.ensures.outside;
       refused = λ f why.
           absurd (none-some f (sym free ∙ why));

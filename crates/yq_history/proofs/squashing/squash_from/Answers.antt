@@ -1,8 +1,7 @@
-use Rattle.std.{proofs.Common.{rules, inl, inr, ℕ, refl, subst}, proofs.lemmas.Result.err_from_is_err_and}
+use Rattle.std.{proofs.Common.{rules, inl, inr, ℕ, refl, subst}, proofs.lemmas.Result.{err_from_is_err_and, on_ok_weaker, on_err_weaker}}
 use Rattle.std.proofs.lemmas.Bool.{eq-eqb, ne_eqb}
-use Rattle.yq_history.proofs.MoveLaws.{none_of, either, journal_written, on_err_map, on_ok_map}
-use Rattle.yq_history.{proofs.SquashLaws.{squash_refused, squash_of_one, squash_ends}, specs.Pair.IsJournal}
-use Rattle.yq_history.proofs.EffectLaws.{squash_not_done, squash_one_works, squash_works}
+use Rattle.yq_history.{proofs.MoveLaws.{none_of, either, journal_written}, proofs.SquashLaws.{squash_refused, squash_of_one, squash_ends}}
+use Rattle.yq_history.{specs.Pair.IsJournal, proofs.EffectLaws.{squash_not_done, squash_one_works, squash_works}}
 use Rattle.yq_history.proofs.CallLaws.{fails, makes_none, puts_as, squashed_one, squash_write}
 use Rattle.yq_history.proofs.squashing.squash_from.Goals as goal
 
@@ -31,8 +30,8 @@ returns-clause-effect g c = λ keeps apart there.
     squash_works c.args.open.pair.file.now c.args.open.pair.journal.now (g.D.Store.content c.args.store.now) c.args.open.state c.args.open.text.items
     c.args.n _ c.write_journal.result (ne_eqb c.args.n 1 c.if-n-eq1.false) c.in_ok-squash.ensures.free there
     ((c.write_journal.ensures.leaves.names keeps).others _ apart)
-    (on_ok_map _ (c.write_journal.ensures.ok keeps) (λ w. subst (IsJournal _) c.in_ok-squash.ensures.ok (journal_written _ _ _ _ w)))
-    (on_err_map _ (c.write_journal.ensures.err keeps) (λ x. either x inl (λ w. inr (subst (IsJournal _) c.in_ok-squash.ensures.ok (journal_written _ _ _ _ w)))))
+    (on_ok_weaker _ (λ w. subst (IsJournal _) c.in_ok-squash.ensures.ok (journal_written _ _ _ _ w)) (c.write_journal.ensures.ok keeps))
+    (on_err_weaker _ (λ x. either x inl (λ w. inr (subst (IsJournal _) c.in_ok-squash.ensures.ok (journal_written _ _ _ _ w)))) (c.write_journal.ensures.err keeps))
     c.write_journal.ensures.outside
 
 pub returns-in_err-squash-clause-calls : goal.returns-in_err-squash-clause-calls

@@ -1,5 +1,5 @@
-use Rattle.std.{proofs.Common.{rules, inl, inr, refl}, proofs.lemmas.Result.err_from_is_err_and}
-use Rattle.yq_history.proofs.MoveLaws.{journal_written, turned, same_content, on_ok_map, on_err_map, either, equal_move, refused_move}
+use Rattle.std.{proofs.Common.{rules, inl, inr, refl}, proofs.lemmas.Result.{err_from_is_err_and, on_ok_weaker, on_err_weaker}}
+use Rattle.yq_history.proofs.MoveLaws.{journal_written, turned, same_content, either, equal_move, refused_move}
 use Rattle.yq_history.{proofs.EffectLaws.{move_equal, move_refused, way_free}, proofs.CallLaws.{fails, makes_none, one_write, puts_as}}
 use Rattle.yq_history.{proofs.FaultLaws.way_of, specs.Directions.walk_move}
 use Rattle.yq_history.proofs.undoing.move_only.Goals as goal
@@ -11,14 +11,14 @@ pub returns-clause-arrives : goal.returns-clause-arrives
 returns-clause-arrives g c = λ keeps apart h k.
     let e = c.write_journal.ensures in
     let moves = turned _ _ apart _ _ _ _ _ _ _ k c.requires.equal _ refl c.in_ok-make.ensures.moved in
-    equal_move _ _ _ _ _ _ _ _ _ refl k c.write_journal.result c.requires.way (on_ok_map _ (e.ok keeps) moves)
-    (on_err_map _ (e.err keeps) (λ x. either x (λ same. inl (same_content _ _ _ _ _ same k.is_located)) (λ w. inr (moves w)))) e.outside
+    equal_move _ _ _ _ _ _ _ _ _ refl k c.write_journal.result c.requires.way (on_ok_weaker _ moves (e.ok keeps))
+    (on_err_weaker _ (λ x. either x (λ same. inl (same_content _ _ _ _ _ same k.is_located)) (λ w. inr (moves w))) (e.err keeps)) e.outside
 
 pub returns-in_err-make-clause-effect : goal.returns-in_err-make-clause-effect
 returns-in_err-make-clause-effect g c = search (rules, err_from_is_err_and, way_of, move_refused, g.D.Store.content)
 
 pub returns-clause-effect : goal.returns-clause-effect
-returns-clause-effect g c = search (rules, move_equal, way_free, on_ok_map, journal_written, on_err_map, either, g.D.Store.content)
+returns-clause-effect g c = search (rules, move_equal, way_free, on_ok_weaker, journal_written, on_err_weaker, either, g.D.Store.content)
 
 pub returns-in_err-make-clause-calls : goal.returns-in_err-make-clause-calls
 returns-in_err-make-clause-calls g c = search (rules, err_from_is_err_and, makes_none, fails)

@@ -1,6 +1,6 @@
-use Rattle.std.{proofs.Common.{◌≤◌, subst, sym, rules}, proofs.lemmas.List.drop_all}
+use Rattle.std.{proofs.Common.{◌≤◌, subst, sym, rules}, proofs.lemmas.List.drop_all, proofs.lemmas.Result.on_ok_weaker}
 use Rattle.yq_history.specs.DiffPrinting.{Open, open_of}
-use Rattle.yq_history.proofs.PartLoops.{new_room, new_sum, next_part, old_after, old_room, old_sum, on_ok, printed_step}
+use Rattle.yq_history.proofs.PartLoops.{new_room, new_sum, next_part, old_after, old_room, old_sum, printed_step}
 use Rattle.yq_history.proofs.diff.open.push_hunks.Goals as goal
 
 pub take-requires-clause-old : goal.take-requires-clause-old
@@ -21,5 +21,4 @@ parts-preserved c =
 
 pub returns : goal.returns
 returns c =
-    on_ok c.push_closed.result c.push_closed.ensures
-    (λ closed. search (rules, drop_all))
+    on_ok_weaker c.push_closed.result (λ closed. search (rules, drop_all)) c.push_closed.ensures
