@@ -1,19 +1,18 @@
 -- Values that operations put after keys and dashes that hold nothing, wherever their items and entries are still.
-use Rattle.std.proofs.Common.{◌≡◌, ℕ, ◌≤◌, Bool, true, false, cond, eqb, eqb-true, eq-eqb, List, [], ◌∷◌, ◌++◌, length, Option, Some, None}
+use Rattle.std.proofs.Common.{◌≡◌, ℕ, ◌≤◌, Bool, true, false, cond, eqb, eqb-true, List, [], ◌∷◌, ◌++◌, length, Option, Some, None}
 use Rattle.std.proofs.Common.{option_map, refl, sym, ap, ◌∙◌, subst, arith, rules, append_assoc, string_bytes, length-append}
 use Rattle.std.{proofs.lemmas.Bool.false≢true, proofs.lemmas.Option.same_Some, proofs.lemmas.Str.IsCharBoundary-at_seam}
 use Rattle.std.{specs.Option.option_or, specs.Str.IsCharBoundary}
 use Rattle.yq_text.{specs.Limit.text_limit, specs.Script.{Segment, keep, new_text}}
 use Rattle.yq_core.{specs.Paths.Step, specs.Text.is_empty, specs.Tree.Node, specs.declared.style.Place.TheVariants.Block as InBlock}
 use Rattle.yq_core.proofs.LineLaws.{is_empty_is}
-use Rattle.yq_row_table.{specs.Rows.{Block, Content, Cut, Inline, Nothing, Row, cut_text, rows_text, print_row}, specs.Seams.is_block}
-use Rattle.yq_row_table.specs.View.{slices}
+use Rattle.yq_row_table.{specs.Rows.{Cut, Row, cut_text, rows_text}, specs.View.slices}
 use Rattle.yq_documents.specs.Reading.{cut_of, documents, read_at}
 use Rattle.yq_semantics.{specs.Fits.Fits, specs.Operations.replace, specs.Rooms.room_of}
 use Rattle.yq_places.{specs.CommentPlaces.end_in_line, specs.PlacementViews.IsHeldRow, specs.declared.places.held_row.HeldRow.HeldRow}
 use Rattle.yq_places.{specs.NodesAt.node_in, specs.PrintedLines.less_break, proofs.HeldRowLaws.no_root_rows}
-use Rattle.yq_places.specs.Placements.{Held, RowsOfEntry, after_entry, alone, before_entry, below, beside, compact_in, entry_placement}
-use Rattle.yq_places.specs.Placements.{flow_placement, held, is_alone, last_step, lone, past_mark, placement_at, rows_of_entry, under}
+use Rattle.yq_places.specs.Placements.{Held, RowsOfEntry, below, beside, entry_placement, flow_placement, held, last_step, placement_at}
+use Rattle.yq_places.specs.Placements.{rows_of_entry, under, Placement}
 use Rattle.yq_edit_rules.{specs.RowStays.StaysInRows, specs.PlacementLaws.{HoldsPieces, HasItsRows}, specs.TextPieces.IsPiece}
 use Rattle.yq_edit_rules.{proofs.PlacementRows.rows_located, proofs.TextPieceLaws.pieces_joined, proofs.HeldPieces.held_spells}
 use Rattle.yq_edit_rules.{specs.BlockReading.is_filled, specs.Edits.op_edits, specs.FlowParts.flow_put, specs.Operands.HasOperand}
@@ -23,17 +22,11 @@ use Rattle.yq_edit_rules.proofs.ValueTexts.{value_for}
 use Rattle.yq_edit_laws.{proofs.CutLaws.text_read, proofs.EntryNodeLaws.entry_node, proofs.HeldRows.held_known}
 use Rattle.yq_edit_laws.{proofs.HeldCarried.{KnowsHeld, first_alone}, proofs.HeldInline.{RowMade, nothing_made}, proofs.MarkHeads.no_raw}
 use Rattle.yq_edit_laws.{proofs.EditsHold.edit_is, proofs.OnePutLaws.value_put_one}
-use Rattle.yq_batch.specs.RowEnds.{HasNoHead}
+use Rattle.yq_batch.{specs.RowEnds.HasNoHead, proofs.EntryShapes.{entry_bare, entry_by}}
 use Rattle.yq_batch.specs.RowRuns.{ExchangesRow, IsSpacedSo, PutsInRow, PutsSo, PutsText, bytes_in, of_entry, rows_still}
 use Rattle.yq_batch.specs.declared.row_put.RowPut.{RowPut}
 
 -- ---- where nothing is
-
--- a key or dash after which nothing is, and nothing under it
-mark_beside : (e : RowsOfEntry) (x : Content) → is_block x ≡ false → is_empty (slices e.row).head ≡ true → e.under ≡ [] → past_mark e x ≡ beside (held e)
-mark_beside e (Nothing tail) plain none bare = ap (below e) bare
-mark_beside e (Inline space node tail) plain none bare = ap (λ (b : Bool). cond b (below e e.under) (beside (held e))) none ∙ ap (below e) bare
-mark_beside e (Block space anchor b) plain none bare = absurd (false≢true (sym plain))
 
 module _ (m : ℕ) (s : Step) (ss : List Step) (d : Cut) (e : RowsOfEntry) (read : read_at (cut_text d) ≡ Some d) (at : rows_of_entry m (s ∷ ss) d ≡ Some e) (h : HasNoHead e) (bare : e.under ≡ []) where
   there : HasItsRows m s ss d e
@@ -55,8 +48,7 @@ module _ (m : ℕ) (s : Step) (ss : List Step) (d : Cut) (e : RowsOfEntry) (read
   module _ (v : Node) (plain : is_filled v ≡ false) where
     edits_there : op_edits (replace m (s ∷ ss) v) d ≡ cond (keeps_scalar (node_in m (s ∷ ss) d) v) (Some (keep (cut_text d) ∷ [])) (Some (inline_put v (held e)))
     edits_there =
-        let is : entry_placement e ≡ beside (held e) =
-        ap (λ (b : Bool). cond b (past_mark e e.row.content) (compact_in e)) (eq-eqb e.line (length e.row.dashes) h.last) ∙ mark_beside e e.row.content h.plain h.none bare in
+        let is : entry_placement e ≡ beside (held e) = entry_bare e h ∙ ap (below e) bare in
         let is_located : placement_at m (s ∷ ss) d ≡ Some (beside (held e)) = ap (option_map entry_placement) at ∙ ap Some is in
         let put : value_put_at m (s ∷ ss) v d ≡ Some (inline_put v (held e)) = search (rules, is_located) in
         ap (λ (o : Option (List Segment)). cond (keeps_scalar (node_in m (s ∷ ss) d) v) (Some (keep (cut_text d) ∷ [])) (option_or o (option_map (flow_put (cut_text d) v) (flow_placement m d (last_step (s ∷ ss)))))) put
@@ -146,23 +138,10 @@ module _ (m : ℕ) (s : Step) (ss : List Step) (v : Node) (c : Cut) (e : RowsOfE
 -- ---- what the code tells
 
 -- Nothing is written on the line of a key or dash, and what is at it is what it holds there: so nothing is under it.
-module _ (e : RowsOfEntry) (h : Held) (none : is_empty (slices e.row).head ≡ true) where
-  by_under : (us : List Row) → e.under ≡ us → below e us ≡ beside h → e.under ≡ []
-  by_under [] are is = are
-  by_under (r ∷ rs) are is = absurd (go (is_alone r) is)
-    where
-      go : (b : Bool) → cond b (alone (lone (before_entry e ++ print_row e.row []) r (rows_text rs (after_entry e)))) (under (held e) r.column) ≡ beside h → ⊥
-      go true same = absurd (cc)
-      go false same = absurd (cc)
-
-  nothing_there : (x : Content) → past_mark e x ≡ beside h → (is_block x ≡ false) × (e.under ≡ [])
-  nothing_there (Nothing tail) is = (refl, by_under e.under refl is)
-  nothing_there (Inline space node tail) is = (refl, by_under e.under refl (ap (λ (b : Bool). cond b (below e e.under) (beside (held e))) (sym none) ∙ is))
-  nothing_there (Block space anchor b) is = absurd (cc)
-
-  at_line : (b : Bool) → cond b (past_mark e e.row.content) (compact_in e) ≡ beside h → (is_block e.row.content ≡ false) × (e.under ≡ [])
-  at_line true is = nothing_there e.row.content is
-  at_line false is = absurd (cc)
+nothing_there : (e : RowsOfEntry) (h : Held) → is_empty (slices e.row).head ≡ true → entry_placement e ≡ beside h → HasNoHead e × (e.under ≡ [])
+nothing_there e h none =
+    entry_by e (λ (x : Placement). x ≡ beside h → HasNoHead e × (e.under ≡ [])) (λ bare is same. (bare, is)) (λ bare r rs is one same. absurd (cc)) (λ bare r rs is one same. absurd (cc))
+    (λ head same. absurd (false≢true (sym head ∙ none))) (λ indent same. absurd (cc)) (λ dash same. absurd (cc))
 
 -- a text without bytes is empty
 pub no_bytes : (l : List ℕ) → eqb (length l) 0 ≡ true → is_empty l ≡ true
@@ -181,8 +160,8 @@ spaced_puts_there t n (s ∷ ss) v x w made read is placed empty plain operand d
     let e : RowsOfEntry = is.entry in
     let here : entry_placement e ≡ beside w = same_Some _ _ (sym (ap (option_map entry_placement) is.found) ∙ placed) in
     let none : is_empty (slices e.row).head ≡ true = ap is_empty (sym is.head) ∙ empty in
-    let known = at_line e w none (eqb e.line (length e.row.dashes)) here in
-    let h : HasNoHead e = record { last = is.last; plain = known.0; none = none } in
+    let known = nothing_there e w none here in
+    let h : HasNoHead e = known.0 in
     let text = spaced_text_is n s ss v c e again is.found h known.1 plain in
     let edge = spaced_edge n s ss v c e again is.found h known.1 plain in
     let there : x.start ≡ length ((held e).before ++ (held e).space) = is.start ∙ sym (length-append (held e).before (held e).space) in

@@ -27,6 +27,7 @@ pub mod RemovalAnswers
 pub mod EmptiedHeads
 pub mod HeadRemovalLaws
 pub mod RowPutLaws
+pub mod EntryShapes
 pub mod EmptyHeadLaws
 pub mod LonePlaces
 pub mod LonePutLaws

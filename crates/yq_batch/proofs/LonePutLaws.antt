@@ -1,6 +1,6 @@
 -- Values that operations put in the place of nodes that are alone on their lines, wherever their rows are still.
-use Rattle.std.proofs.Common.{◌≡◌, ℕ, suc, ◌+◌, ◌≤◌, ◌<◌, Bool, true, false, cond, eqb, eqb-true, List, [], ◌∷◌, ◌++◌, length, map, eq-eqb}
-use Rattle.std.proofs.Common.{Option, Some, None, option_map, refl, sym, ap, ◌∙◌, subst, arith, append_assoc, length-append, string_bytes}
+use Rattle.std.proofs.Common.{◌≡◌, ℕ, suc, ◌+◌, ◌≤◌, ◌<◌, Bool, true, false, cond, eqb, eqb-true, List, [], ◌∷◌, ◌++◌, length, map, Option}
+use Rattle.std.proofs.Common.{Some, None, option_map, refl, sym, ap, ◌∙◌, subst, arith, append_assoc, length-append, string_bytes}
 use Rattle.std.{proofs.lemmas.Str.{IsCharBoundary-at_seam, IsUtf8-append}, specs.Str.{IsCharBoundary, IsUtf8}, specs.List.slice_get}
 use Rattle.yq_text.{specs.Limit.text_limit, specs.Script.keep}
 use Rattle.yq_core.{specs.Paths.Step, specs.Tree.Node, specs.declared.style.Place.TheVariants.Block as InBlock}
@@ -84,7 +84,7 @@ lone_place n [] v c w read is =
 lone_place n (s ∷ ss) v c w read is =
     let h : IsLoneUnder c n (s ∷ ss) w = lone_under c n s ss w is in
     let e : RowsOfEntry = h.entry in
-    let own = lone_puts_under n s ss v c e h.row h.back read h.found h.last h.are h.one in
+    let own = lone_puts_under n s ss v c e h.row h.back read h.found h.bare.last h.are h.one in
     record {
       place = of_lone (s ∷ ss) e h.row h.back;
       found = (h.found, h.are);
@@ -96,11 +96,11 @@ lone_place n (s ∷ ss) v c w read is =
           let now : RowsOfEntry = record e { start = k.start; front = k.front } in
           record {
             piece = _;
-            is_located = under_is_there d n s ss now h.row h.back k.found (eq-eqb e.line (length e.row.dashes) h.last) h.none h.are h.one;
-            node = entry_node n s ss d now (rows_located n s ss d now read_d k.found) h.last ∙ sym (entry_node n s ss c e (rows_located n s ss c e read h.found) h.last);
+            is_located = under_is_there d n s ss now h.row h.back k.found (record { last = h.bare.last; plain = h.bare.plain; none = h.bare.none }) h.are h.one;
+            node = entry_node n s ss d now (rows_located n s ss d now read_d k.found) h.bare.last ∙ sym (entry_node n s ss c e (rows_located n s ss c e read h.found) h.bare.last);
             text = ap (λ (x : TextPiece). x.text) h.same;
             after = ap (λ (x : TextPiece). x.after) h.same;
-            puts = lone_puts_under n s ss v d now h.row h.back read_d k.found h.last h.are h.one;
+            puts = lone_puts_under n s ss v d now h.row h.back read_d k.found h.bare.last h.are h.one;
           };
     }
 

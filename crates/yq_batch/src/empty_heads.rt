@@ -8,6 +8,7 @@ ghost use Rattle.yq_edit_rules.specs.Operands.{HasOperand};
 ghost use Rattle.yq_batch.specs.RowRuns as spec;
 
 use crate::row_put::{RowPut, lone_written};
+use crate::run::text_reads;
 use std::alloc::{AllocError, Global};
 use yq_core::Value;
 use yq_documents::Path;
@@ -49,7 +50,7 @@ pub(crate) fn value_in_nothing(
     if !at.head.is_empty() || is_filled(value) {
         return Ok(None);
     }
-    let _text = cut.text();
+    text_reads(cut);
     let written = spaced_written(alloc, cut, path, value)?;
     Ok(Some(RowPut {
         doc: path.doc,

@@ -11,6 +11,7 @@ ghost use Rattle.yq_batch.{specs.RowEnds.IsPlacedSo, specs.Under.op_meant};
 ghost use Rattle.yq_batch.specs.RowRuns as spec;
 
 use crate::empty_heads::value_in_nothing;
+use crate::run::text_reads;
 use crate::under::OpAt;
 use std::alloc::{AllocError, Global};
 use yq_block_edits::{comment_written, head_comment_written, is_kept, is_kept_in_row};
@@ -94,7 +95,7 @@ fn value_in_row(
     if !at.inline || is_filled(value) {
         return Ok(None);
     }
-    let _text = cut.text();
+    text_reads(cut);
     let written = value_written(alloc, cut, path, at, value)?;
     Ok(Some(RowPut {
         doc: path.doc,
@@ -136,7 +137,7 @@ fn value_in_piece(
     let Some((first, row)) = lone_row(cut, path) else {
         return Ok(None);
     };
-    let _text = cut.text();
+    text_reads(cut);
     let run = Halves::of(lone.text);
     is_text(run);
     is_text(lone.after);
@@ -152,41 +153,28 @@ fn value_in_piece(
     }))
 }
 
-/// The same, if a node is there that is alone on its line.
-fn value_alone(
-    alloc: Global,
-    cut: &CutText<'_, '_>,
-    path: &Path,
-    value: &Value,
-) -> Result<Option<RowPut>, AllocError>
-    requires { HasOperand (replace path.now.doc (steps_of path.now) (value_node value.now)) }
-    ensures { IfOk result (λ o. IfSome o (spec.PutsValue path.now value.now cut.now)) }
-{
-    match cut.placement(path) {
-        Some(Placement::Alone(lone)) => value_in_piece(alloc, cut, path, &lone, value),
-        _ => Ok(None),
-    }
-}
-
-/// A value in the place of an inline node after a key or dash, or alone under that, or of nothing.
+/// A value in the place of a node that is alone on its line, or of an inline node after a key or dash, or of nothing after
+/// that, if the row of the key or dash is there.
 fn value_there(
     alloc: Global,
     cut: &CutText<'_, '_>,
     path: &Path,
-    at: &HeldRow<'_>,
+    held: &Option<HeldRow<'_>>,
     value: &Value,
 ) -> Result<Option<RowPut>, AllocError>
     requires operand { HasOperand (replace path.now.doc (steps_of path.now)
         (value_node value.now)) }
-    requires row { IsHeldRow path.now.doc (steps_of path.now) (cut_of cut.now) at.now }
+    requires row { IfSome held.now (IsHeldRow path.now.doc (steps_of path.now) (cut_of cut.now)) }
     ensures { IfOk result (λ o. IfSome o (spec.PutsValue path.now value.now cut.now)) }
 {
-    if !at.head.is_empty() {
-        return value_in_row(alloc, cut, path, at, value);
+    if let Some(at) = held {
+        if !at.head.is_empty() {
+            return value_in_row(alloc, cut, path, at, value);
+        }
     }
-    match cut.placement(path) {
-        Some(Placement::Alone(lone)) => value_in_piece(alloc, cut, path, &lone, value),
-        Some(Placement::Beside(_)) => value_in_nothing(alloc, cut, path, at, value),
+    match (cut.placement(path), held) {
+        (Some(Placement::Alone(lone)), _) => value_in_piece(alloc, cut, path, &lone, value),
+        (Some(Placement::Beside(_)), Some(at)) => value_in_nothing(alloc, cut, path, at, value),
         _ => Ok(None),
     }
 }
@@ -220,7 +208,7 @@ fn comment_in_row(
     ensures { IfOk result (λ o. IfSome o (spec.PutsInRow
         (line_comment path.now.doc (steps_of path.now) text.now) (cut_of cut.now))) }
 {
-    let _text = cut.text();
+    text_reads(cut);
     let (white, comment, _) = line_end(at.tail);
     let (start, end) = comment_place(text, at.start + at.head.len(), white, comment);
     let written = comment_written(alloc, text, comment)?;
@@ -252,7 +240,7 @@ fn comment_above_row(
     let Some((column, above)) = cut.lines_above_from(path, Some(at)) else {
         return Ok(None);
     };
-    let _text = cut.text();
+    text_reads(cut);
     let run = Halves::of(above.text);
     is_text(run);
     is_text(above.after);
@@ -282,10 +270,10 @@ pub(crate) fn row_put<'d>(
 {
     let path = at.path;
     match at.op {
-        Op::Replace(_, value) => match cut.to_held_row(alloc, path) {
-            Some(row) => value_there(alloc, cut, path, &row, value),
-            None => value_alone(alloc, cut, path, value),
-        },
+        Op::Replace(_, value) => {
+            let held = cut.to_held_row(alloc, path);
+            value_there(alloc, cut, path, &held, value)
+        }
         Op::LineComment(_, text) => match cut.to_held_row(alloc, path) {
             Some(row) => comment_in_row(alloc, cut, path, &row, text),
             None => Ok(None),

@@ -1,11 +1,14 @@
 //! Runs: the text and the splices that values make which are put one after the other.
-ghost use Rattle.std.{specs.Prelude.{◌≡◌, ◌≤◌, ◌<◌, ◌++◌, [], true, IfErr, IfOk, OnOk, drop, take, string_bytes}, specs.Str.IsCharBoundary};
+ghost use Rattle.std.specs.Prelude.{◌≡◌, ◌≤◌, ◌<◌, ◌++◌, [], true, IfErr, IfOk, OnOk, Some, drop, take, string_bytes};
+ghost use Rattle.std.specs.Str.{IsCharBoundary};
 ghost use Rattle.yq_text.{specs.Halves.whole, specs.Script.splice_at};
+ghost use Rattle.yq_documents.specs.Reading.{cut_of, read_at};
 ghost use Rattle.yq_batch.specs.Runs as spec;
 
 use crate::slots::SlotPlace;
 use std::alloc::{AllocError, Global};
 use std::ops::Range;
+use yq_lookup::CutText;
 use yq_semantics::{ExprError, Refusal};
 use yq_text::{Edited, Halves, Splice, TEXT_LIMIT};
 
@@ -17,6 +20,13 @@ pub(crate) struct PutRun {
     /// How many bytes of the old text that takes the place of.
     pub(crate) done: usize,
     pub(crate) splices: Vec<Splice>,
+}
+
+/// The text of a cut reads as that cut: a law.
+pub(crate) fn text_reads(cut: &CutText<'_, '_>)
+    ensures { read_at cut.now ≡ Some (cut_of cut.now) }
+{
+    let _text = cut.text();
 }
 
 /// What is between two places of a text.
