@@ -1,22 +1,19 @@
 -- Where the entries of a mapping end, as the code finds it.
-use Rattle.std.proofs.Common.{◌≡◌, ◌⊎◌, inl, inr, ℕ, zero, suc, ◌+◌, ◌*◌, ◌<◌, ◌≤◌, nat_lt, Bool, true, false, cond, eqb, eq-eqb, List, []}
-use Rattle.std.proofs.Common.{◌∷◌, ◌++◌, drop, take, take_all, replicate, length, Some, option_map, refl, sym, ap, ◌∙◌, subst, arith}
-use Rattle.std.{proofs.Common.{append_assoc, append-nil, length-append}, proofs.lemmas.Bool.{cases_lt, eqb-false, eqb-true}}
-use Rattle.std.{proofs.Math.Seq.drop-append_seam, proofs.lemmas.Option.same_Some, proofs.lemmas.Str.IsCharBoundary-at_seam}
-use Rattle.std.specs.Str.{IsCharBoundary, IsUtf8}
+use Rattle.std.proofs.Common.{◌≡◌, ◌⊎◌, inl, inr, ℕ, zero, suc, ◌+◌, ◌*◌, ◌<◌, ◌≤◌, nat_lt, Bool, true, false, cond, List, [], ◌∷◌, ◌++◌}
+use Rattle.std.proofs.Common.{drop, take, take_all, replicate, length, Some, option_map, refl, sym, ap, ◌∙◌, subst, arith, append_assoc}
+use Rattle.std.{proofs.Common.{append-nil, length-append}, proofs.lemmas.Bool.cases_lt, proofs.Math.Seq.drop-append_seam}
+use Rattle.std.{proofs.lemmas.Option.same_Some, proofs.lemmas.Str.IsCharBoundary-at_seam, specs.Str.{IsCharBoundary, IsUtf8}}
 use Rattle.yq_core.{specs.Paths.Step, specs.Text.is_empty, proofs.Bools.bind_some}
 use Rattle.yq_outline.{specs.declared.line_position.Position.Position, specs.Extents.dash_at, specs.Outline.null_node}
 use Rattle.yq_outline.{specs.RowWalk.{line_level, line_rank}, proofs.WalkLevels.to_dash}
-use Rattle.yq_row_table.specs.Rows.{Block, Content, Cut, Inline, Nothing, Part, Row, RowMark, after_columns, cut_text, dashes_text}
-use Rattle.yq_row_table.{specs.Rows.{mark_column, print_row, rows_text}, specs.Seams.is_block}
-use Rattle.yq_row_table.specs.View.{Slices, content_cut, last_dash, slices}
+use Rattle.yq_row_table.specs.Rows.{Cut, Part, Row, RowMark, after_columns, cut_text, dashes_text, mark_column, print_row, rows_text}
+use Rattle.yq_row_table.specs.View.{Slices, last_dash, slices}
 use Rattle.yq_documents.{specs.LinesInRows.{document_row, row_line_at}, specs.Located.steps_of, specs.Reading.{cut_of, read_at}}
 use Rattle.yq_documents.specs.declared.path.Path.{Path}
 use Rattle.yq_places.{specs.PlacedRows.{PlacedPart, placed_document}, specs.RowLineReading.position_in}
-use Rattle.yq_places.specs.Placements.{Held, LinesIn, MarkPieces, RowsOfEntry, alone, before_entry, after_entry, past_mark, below, beside}
-use Rattle.yq_places.specs.Placements.{compact, compact_in, compact_lines, entry_placement, held, is_alone, lone, root, root_lines}
-use Rattle.yq_places.{specs.Placements.{root_placement, rows_of_entry, placement_at, under}, proofs.DashLaws.line_within}
-use Rattle.yq_places.proofs.PlacedPartLaws.{map_some}
+use Rattle.yq_places.specs.Placements.{Held, LinesIn, MarkPieces, RowsOfEntry, before_entry, after_entry, compact, compact_lines}
+use Rattle.yq_places.specs.Placements.{entry_placement, held, is_alone, root, root_lines, root_placement, rows_of_entry, placement_at}
+use Rattle.yq_places.{specs.Placements.{under, Placement}, proofs.DashLaws.line_within, proofs.PlacedPartLaws.map_some}
 use Rattle.yq_edit_rules.{specs.PlacementLaws.HasItsRows, proofs.AppendPlaces.kept_pieces}
 use Rattle.yq_edit_rules.{proofs.CommentRowLaws.{entry_is_row, entry_row, rows_front}, proofs.PlacedPartLaws.document_is_there_at}
 use Rattle.yq_edit_rules.proofs.PlacementRows.{rows_located}
@@ -25,35 +22,15 @@ use Rattle.yq_edit_laws.{proofs.LinesAppends.{compact_text_ended, root_text_ende
 use Rattle.yq_batch.specs.RowEnds.{AreMappingRows, EndOfEntries, EndsAfterRows, EndsHere, EndsLineAt, HasNoHead, IsAfterDash, IsEndAt}
 use Rattle.yq_batch.{specs.RowEnds.{IsEndIn, IsUnderMark}, specs.declared.row_ends.EntriesEnd.EntriesEnd, proofs.RowEndLaws.adds}
 use Rattle.yq_batch.{proofs.RowOrder.entry_placed, proofs.RowHeadLaws.row_number, proofs.RowsUnder.rows_split}
+use Rattle.yq_batch.proofs.EntryShapes.{entry_by, root_by}
 use Rattle.yq_row_table.specs.Rows as rows
 
 -- ---- what is under a key or dash, by what is at it
 
-module _ (e : RowsOfEntry) (h : Held) (column : ℕ) (last : e.line ≡ length e.row.dashes) (at : entry_placement e ≡ under h column) where
-  abbrev HoldsUnder : Type 0
-  HoldsUnder = HasNoHead e × AreMappingRows e.under column × (held e ≡ h)
-
-  rows_by : (rs : List Row) → e.under ≡ rs → below e rs ≡ under h column → AreMappingRows e.under column × (held e ≡ h)
-  rows_by [] is found = absurd (cc)
-  rows_by (r ∷ rs) is found = by (is_alone r) refl found
-    where
-      by : (b : Bool) → is_alone r ≡ b → cond b (alone (lone (before_entry e ++ print_row e.row []) r (rows_text rs (after_entry e)))) (under (held e) r.column) ≡ under h column → AreMappingRows e.under column × (held e ≡ h)
-      by true single same = absurd (cc)
-      by false single same = (record { first = r; others = rs; are = is; marked = single; column_is = cc }, cc)
-
-  mark_by : (x : Content) → e.row.content ≡ x → past_mark e x ≡ under h column → HoldsUnder
-  mark_by (Nothing tail) is found =
-      let x = rows_by e.under refl found in (record { last = last; plain = ap is_block is; none = ap (λ (y : Content). is_empty (content_cut y).3) is }, x.0, x.1)
-  mark_by (Inline space node tail) is found = by (is_empty (slices e.row).head) refl found
-    where
-      by : (b : Bool) → is_empty (slices e.row).head ≡ b → cond b (below e e.under) (beside (held e)) ≡ under h column → HoldsUnder
-      by true none same = let x = rows_by e.under refl same in (record { last = last; plain = ap is_block is; none = none }, x.0, x.1)
-      by false none same = absurd (cc)
-  mark_by (Block space anchor b) is found = absurd (cc)
-
-  pub is_under : HoldsUnder
-  is_under =
-      mark_by e.row.content refl (sym (ap (λ (b : Bool). cond b (past_mark e e.row.content) (compact_in e)) (eq-eqb e.line (length e.row.dashes) last)) ∙ at)
+is_under : (e : RowsOfEntry) (h : Held) (column : ℕ) → entry_placement e ≡ under h column → HasNoHead e × AreMappingRows e.under column × (held e ≡ h)
+is_under e h column =
+    entry_by e (λ (x : Placement). x ≡ under h column → HasNoHead e × AreMappingRows e.under column × (held e ≡ h)) (λ bare is same. absurd (cc)) (λ bare r rs is one same. absurd (cc))
+    (λ bare r rs is more same. (bare, record { first = r; others = rs; are = is; marked = more; column_is = cc }, cc)) (λ head same. absurd (cc)) (λ indent same. absurd (cc)) (λ dash same. absurd (cc))
 
 -- ---- how deep it is
 
@@ -174,30 +151,12 @@ module _ (t : List ℕ) (p : Path) (s : Step) (ss : List Step) (steps : steps_of
         },
       )
 
--- what is at an item or entry is in its last mark, if no collection begins after that of a dash before
-last_mark : (e : RowsOfEntry) (h : Held) (column : ℕ) → entry_placement e ≡ under h column → e.line ≡ length e.row.dashes
-last_mark e h column at = go (eqb e.line (length e.row.dashes)) refl at
-  where
-    go : (b : Bool) → eqb e.line (length e.row.dashes) ≡ b → cond b (past_mark e e.row.content) (compact_in e) ≡ under h column → e.line ≡ length e.row.dashes
-    go true is same = eqb-true e.line (length e.row.dashes) is
-    go false is same = absurd (cc)
-
 -- a root is nothing that an item or entry holds
 no_entry_root : (q : PlacedPart) (rs : List Row) (h : Held) (column : ℕ) → root_placement q rs ≡ under h column → ⊥
-no_entry_root q [] h column is = absurd (cc)
-no_entry_root q (r ∷ us) h column is = go (is_alone r) is
-  where
-    go : (b : Bool) → cond b (alone (lone q.before r (rows_text us (q.part.end ++ q.after)))) (root r.column (root_lines q r us)) ≡ under h column → ⊥
-    go true same = absurd (cc)
-    go false same = absurd (cc)
+no_entry_root q rs h column = root_by q (λ (x : Placement). x ≡ under h column → ⊥) rs (λ w same. cc) (λ r us are one same. cc) (λ r us are more same. cc)
 
 no_dash_root : (q : PlacedPart) (rs : List Row) (k : MarkPieces) (column : ℕ) (l : LinesIn) → root_placement q rs ≡ compact k column l → ⊥
-no_dash_root q [] k column l is = absurd (cc)
-no_dash_root q (r ∷ us) k column l is = go (is_alone r) is
-  where
-    go : (b : Bool) → cond b (alone (lone q.before r (rows_text us (q.part.end ++ q.after)))) (root r.column (root_lines q r us)) ≡ compact k column l → ⊥
-    go true same = absurd (cc)
-    go false same = absurd (cc)
+no_dash_root q rs k column l = root_by q (λ (x : Placement). x ≡ compact k column l → ⊥) rs (λ w same. cc) (λ r us are one same. cc) (λ r us are more same. cc)
 
 -- what the code tells of the end of a mapping under a key or dash
 pub under_there : (t : List ℕ) (p : Path) (steps : List Step) (x : Position) (h : Held) (w : EntriesEnd) → steps_of p ≡ steps → read_at t ≡ Some (cut_of t) → placement_at p.doc steps (cut_of t) ≡ Some (under h w.column) →
@@ -209,41 +168,20 @@ under_there t p (s ∷ ss) x h w steps read at line less path first ends =
     let c : Cut = cut_of t in
     let again : read_at (cut_text c) ≡ Some c = ap read_at (text_read t c read) ∙ read in
     let e = map_some entry_placement (rows_of_entry p.doc (s ∷ ss) c) (under h w.column) at in
-    let last = last_mark e.0 h w.column e.2 in
-    let found = is_under e.0 h w.column last e.2 in
+    let found = is_under e.0 h w.column e.2 in
     let same : held e.0 ≡ h = found.2 in
     let ended = text_ended p.doc s ss c e.0 found.1.first found.1.others again e.1 found.1.are found.1.marked (ap (λ (y : Held). is_empty y.last) same ∙ ends.0) in
     let row = row_number c p e.0 x (ap (λ (us : List Step). rows_of_entry p.doc us c) steps ∙ e.1) line in
     end_known t p s ss steps read e.0 e.1 w path (suc (length e.0.front)) (inl (record { first = refl; bare = found.0; entries = found.1 }))
-    (mark_deep e.0 w.column last (omega (arith, less, ap (λ (y : Held). y.mark.column) same))) ended.0 ended.1 (omega (arith, ends.1, ap (λ (y : Held). length y.after) same))
+    (mark_deep e.0 w.column found.0.last (omega (arith, less, ap (λ (y : Held). y.mark.column) same))) ended.0 ended.1 (omega (arith, ends.1, ap (λ (y : Held). length y.after) same))
     (λ k later. omega (arith, later, first, row))
 
 -- a collection begins after the dash of an item
 dash_by : (e : RowsOfEntry) (k : MarkPieces) (column : ℕ) (l : LinesIn) → entry_placement e ≡ compact k column l → (e.line ≡ length e.row.dashes → ⊥)
     × (after_columns e.row.column (take (suc e.line) e.row.dashes) ≡ column) × (compact_lines e ≡ l)
-dash_by e k column l is = go (eqb e.line (length e.row.dashes)) refl is
-  where
-    rows : (rs : List Row) → below e rs ≡ compact k column l → ⊥
-    rows [] same = absurd (cc)
-    rows (r ∷ rs) same = by (is_alone r) same
-      where
-        by : (b : Bool) → cond b (alone (lone (before_entry e ++ print_row e.row []) r (rows_text rs (after_entry e)))) (under (held e) r.column) ≡ compact k column l → ⊥
-        by true same = absurd (cc)
-        by false same = absurd (cc)
-
-    mark : (x : Content) → past_mark e x ≡ compact k column l → ⊥
-    mark (Nothing tail) same = rows e.under same
-    mark (Inline space node tail) same = by (is_empty (slices e.row).head) same
-      where
-        by : (b : Bool) → cond b (below e e.under) (beside (held e)) ≡ compact k column l → ⊥
-        by true same = rows e.under same
-        by false same = absurd (cc)
-    mark (Block space anchor b) same = absurd (cc)
-
-    go : (b : Bool) → eqb e.line (length e.row.dashes) ≡ b → cond b (past_mark e e.row.content) (compact_in e) ≡ compact k column l →
-        (e.line ≡ length e.row.dashes → ⊥) × (after_columns e.row.column (take (suc e.line) e.row.dashes) ≡ column) × (compact_lines e ≡ l)
-    go true at same = absurd (mark e.row.content same)
-    go false at same = (eqb-false e.line (length e.row.dashes) at, cc, cc)
+dash_by e k column l =
+    entry_by e (λ (x : Placement). x ≡ compact k column l → (e.line ≡ length e.row.dashes → ⊥) × (after_columns e.row.column (take (suc e.line) e.row.dashes) ≡ column) × (compact_lines e ≡ l))
+    (λ bare is same. absurd (cc)) (λ bare r rs is one same. absurd (cc)) (λ bare r rs is more same. absurd (cc)) (λ head same. absurd (cc)) (λ indent same. absurd (cc)) (λ dash same. (dash, cc, cc))
 
 -- what the code tells of the end of one
 pub dash_there : (t : List ℕ) (p : Path) (steps : List Step) (x : Position) (k : MarkPieces) (l : LinesIn) (w : EntriesEnd) → steps_of p ≡ steps →
@@ -268,39 +206,15 @@ dash_there t p (s ∷ ss) x k l w steps read at line path first ends =
     less_than a b most other = elim (cases_lt a b) [ inl is ↦ is | inr least ↦ absurd (other (omega (arith, most, least))) ]
 
 -- a root that is a mapping, by its rows
-root_by : (q : PlacedPart) (rs : List Row) (l : LinesIn) (column : ℕ) → root_placement q rs ≡ root column l → (r : Row) × (us : List Row) × (rs ≡ r ∷ us) × (is_alone r ≡ false) × (r.column ≡ column) × (root_lines q r us ≡ l)
-root_by q [] l column is = absurd (cc)
-root_by q (r ∷ us) l column is = go (is_alone r) refl is
-  where
-    go : (b : Bool) → is_alone r ≡ b → cond b (alone (lone q.before r (rows_text us (q.part.end ++ q.after)))) (root r.column (root_lines q r us)) ≡ root column l →
-        (x : Row) × (xs : List Row) × (r ∷ us ≡ x ∷ xs) × (is_alone x ≡ false) × (x.column ≡ column) × (root_lines q x xs ≡ l)
-    go true single same = absurd (cc)
-    go false single same = (r, us, refl, single, cc, cc)
+mapping_root : (q : PlacedPart) (rs : List Row) (l : LinesIn) (column : ℕ) → root_placement q rs ≡ root column l → (r : Row) × (us : List Row) × (rs ≡ r ∷ us) × (is_alone r ≡ false) × (r.column ≡ column) × (root_lines q r us ≡ l)
+mapping_root q rs l column =
+    root_by q (λ (x : Placement). x ≡ root column l → (r : Row) × (us : List Row) × (rs ≡ r ∷ us) × (is_alone r ≡ false) × (r.column ≡ column) × (root_lines q r us ≡ l)) rs
+    (λ w same. absurd (cc)) (λ r us are one same. absurd (cc)) (λ r us are more same. (r, us, are, more, cc, cc))
 
 -- what is at an item or entry is no root
 no_root : (e : RowsOfEntry) (column : ℕ) (l : LinesIn) → entry_placement e ≡ root column l → ⊥
-no_root e column l is = go (eqb e.line (length e.row.dashes)) is
-  where
-    rows : (rs : List Row) → below e rs ≡ root column l → ⊥
-    rows [] same = absurd (cc)
-    rows (r ∷ rs) same = by (is_alone r) same
-      where
-        by : (b : Bool) → cond b (alone (lone (before_entry e ++ print_row e.row []) r (rows_text rs (after_entry e)))) (under (held e) r.column) ≡ root column l → ⊥
-        by true same = absurd (cc)
-        by false same = absurd (cc)
-
-    mark : (x : Content) → past_mark e x ≡ root column l → ⊥
-    mark (Nothing tail) same = rows e.under same
-    mark (Inline space node tail) same = by (is_empty (slices e.row).head) same
-      where
-        by : (b : Bool) → cond b (below e e.under) (beside (held e)) ≡ root column l → ⊥
-        by true same = rows e.under same
-        by false same = absurd (cc)
-    mark (Block space anchor b) same = absurd (cc)
-
-    go : (b : Bool) → cond b (past_mark e e.row.content) (compact_in e) ≡ root column l → ⊥
-    go true same = mark e.row.content same
-    go false same = absurd (cc)
+no_root e column l =
+    entry_by e (λ (x : Placement). x ≡ root column l → ⊥) (λ bare is same. cc) (λ bare r rs is one same. cc) (λ bare r rs is more same. cc) (λ head same. cc) (λ indent same. cc) (λ dash same. cc)
 
 -- what the code tells of the end of a root
 pub root_there : (t : List ℕ) (p : Path) (steps : List Step) (l : LinesIn) (w : EntriesEnd) → steps_of p ≡ steps → read_at t ≡ Some (cut_of t) → placement_at p.doc steps (cut_of t) ≡ Some (root w.column l) →
@@ -311,7 +225,7 @@ root_there t p [] l w steps read at path ends =
     let c : Cut = cut_of t in
     let again : read_at (cut_text c) ≡ Some c = ap read_at (text_read t c read) ∙ read in
     let q = map_some (λ (y : PlacedPart). root_placement y y.part.rows) (placed_document p.doc c) (root w.column l) at in
-    let r = root_by q.0 q.0.part.rows l w.column q.2 in
+    let r = mapping_root q.0 q.0.part.rows l w.column q.2 in
     let ended = root_text_ended p.doc c q.0 again q.1 r.0 r.1 r.2 r.3 (ap (λ (y : LinesIn). is_empty y.last) r.5 ∙ ends.0) in
     let z : EndOfEntries = record { steps = []; first = 0; column = w.column; at = w.at } in
     subst (λ (o : Path). (x : EndOfEntries) × IsEndAt c o.doc w x) (sym path) (
