@@ -7,61 +7,44 @@ use Rattle.yq_core.{proofs.PathLoops.Field, specs.PlainText.begins_marker, specs
 use Rattle.yq_batch.{specs.LeftItems.{GoesUpTo, count_parts, place_of_part}, specs.LeftPlaces.{GoesWith, IsLeftPlace}}
 use Rattle.yq_batch.specs.declared.left.LeftPlace.{LeftPlace}
 
--- ---- items
+-- The items or entries of a list of the code are parts: each in its place (own).
+pub record AreParts (A : Type 0) (parts : List A → Parts) (place : A → ℕ × ℕ) : Type 0 where
+  none : (i : ℕ) → place_of_part i (parts []) ≡ None
+  first : (x : A) (xs : List A) → place_of_part zero (parts (x ∷ xs)) ≡ Some (place x)
+  later : (x : A) (xs : List A) (i : ℕ) → place_of_part (suc i) (parts (x ∷ xs)) ≡ place_of_part i (parts xs)
+  count : count_parts (parts []) ≡ 0
+  more : (x : A) (xs : List A) → count_parts (parts (x ∷ xs)) ≡ suc (count_parts (parts xs))
 
-one_item : (is : List Inline) (i : ℕ) (d : Inline) → i < length is → place_of_part i (items_end is) ≡ Some (start_of (inline_view (get_or is i d)), end_of (inline_view (get_or is i d)))
-one_item [] i d lt = absurd (omega (arith, lt))
-one_item (x ∷ is) zero d lt = refl
-one_item (x ∷ is) (suc i) d lt = one_item is i d (omega (arith, lt))
+pub items_are : AreParts Inline items_end (λ (x : Inline). (start_of (inline_view x), end_of (inline_view x)))
+items_are = record { none = λ i. refl; first = λ x xs. refl; later = λ x xs i. refl; count = refl; more = λ x xs. refl }
 
-no_item : (is : List Inline) (i : ℕ) → length is ≤ i → place_of_part i (items_end is) ≡ None
-no_item [] i h = refl
-no_item (x ∷ is) zero h = absurd (omega (arith, h))
-no_item (x ∷ is) (suc i) h = no_item is i (omega (arith, h))
+pub entries_are : AreParts Field entries_end (λ (x : Field). (x.1.start, end_of (inline_view x.2)))
+entries_are = record { none = λ i. refl; first = λ x xs. refl; later = λ x xs i. refl; count = refl; more = λ x xs. refl }
 
-pub item_there : (is all : List Inline) (i : ℕ) (x : Inline) (a b : ℕ) → is ≡ all → true ≡ ltb i (length is) → x ≡ get_or is i x → a ≡ start_of (inline_view x) → b ≡ end_of (inline_view x) → Some (a, b) ≡ place_of_part i (items_end all)
-item_there is all i x a b same lt at start end =
-    (λ j. Some (start j, end j))
-    ∙ (ap (λ (y : Inline). Some (start_of (inline_view y), end_of (inline_view y))) at
-    ∙ (sym (one_item is i x (ltb-true i (length is) (sym lt))) ∙ ap (λ (l : List Inline). place_of_part i (items_end l)) same))
+module _ (A : Type 0) (parts : List A → Parts) (place : A → ℕ × ℕ) (are : AreParts A parts place) where
+  part_at : (xs : List A) (i : ℕ) (d : A) → i < length xs → place_of_part i (parts xs) ≡ Some (place (get_or xs i d))
+  part_at [] i d lt = absurd (omega (arith, lt))
+  part_at (x ∷ xs) zero d lt = are.first x xs
+  part_at (x ∷ xs) (suc i) d lt = are.later x xs i ∙ part_at xs i d (omega (arith, lt))
 
-pub item_missing : (is all : List Inline) (i : ℕ) → is ≡ all → false ≡ ltb i (length is) → None ≡ place_of_part i (items_end all)
-item_missing is all i same ge = elim (cases_lt i (length is)) [
-  | inl lt ↦ absurd (false≢true (ge ∙ lt-ltb i (length is) lt))
-  | inr le ↦ sym (no_item is i le) ∙ ap (λ (l : List Inline). place_of_part i (items_end l)) same
-]
+  no_part : (xs : List A) (i : ℕ) → length xs ≤ i → place_of_part i (parts xs) ≡ None
+  no_part [] i h = are.none i
+  no_part (x ∷ xs) zero h = absurd (omega (arith, h))
+  no_part (x ∷ xs) (suc i) h = are.later x xs i ∙ no_part xs i (omega (arith, h))
 
-pub items_counted : (is : List Inline) → length is ≡ count_parts (items_end is)
-items_counted [] = refl
-items_counted (x ∷ is) = ap suc (items_counted is)
+  pub part_there : (xs all : List A) (i : ℕ) (x : A) (p : ℕ × ℕ) → xs ≡ all → true ≡ ltb i (length xs) → x ≡ get_or xs i x → p ≡ place x → Some p ≡ place_of_part i (parts all)
+  part_there xs all i x p same lt at is =
+      ap (λ (q : ℕ × ℕ). Some q) (is ∙ ap place at) ∙ (sym (part_at xs i x (ltb-true i (length xs) (sym lt))) ∙ ap (λ (l : List A). place_of_part i (parts l)) same)
 
--- ---- entries
+  pub part_missing : (xs all : List A) (i : ℕ) → xs ≡ all → false ≡ ltb i (length xs) → None ≡ place_of_part i (parts all)
+  part_missing xs all i same ge = elim (cases_lt i (length xs)) [
+    | inl lt ↦ absurd (false≢true (ge ∙ lt-ltb i (length xs) lt))
+    | inr le ↦ sym (no_part xs i le) ∙ ap (λ (l : List A). place_of_part i (parts l)) same
+  ]
 
-one_entry : (es : List Field) (i : ℕ) (d : Field) → i < length es → place_of_part i (entries_end es) ≡ Some ((get_or es i d).1.start, end_of (inline_view (get_or es i d).2))
-one_entry [] i d lt = absurd (omega (arith, lt))
-one_entry (x ∷ es) zero d lt = refl
-one_entry (x ∷ es) (suc i) d lt = one_entry es i d (omega (arith, lt))
-
-no_entry : (es : List Field) (i : ℕ) → length es ≤ i → place_of_part i (entries_end es) ≡ None
-no_entry [] i h = refl
-no_entry (x ∷ es) zero h = absurd (omega (arith, h))
-no_entry (x ∷ es) (suc i) h = no_entry es i (omega (arith, h))
-
-pub entry_there : (es all : List Field) (i : ℕ) (x : Field) (b : ℕ) → es ≡ all → true ≡ ltb i (length es) → x ≡ get_or es i x → b ≡ end_of (inline_view x.2) → Some (x.1.start, b) ≡ place_of_part i (entries_end all)
-entry_there es all i x b same lt at end =
-    ap (λ (n : ℕ). Some (x.1.start, n)) end
-    ∙ (ap (λ (y : Field). Some (y.1.start, end_of (inline_view y.2))) at
-    ∙ (sym (one_entry es i x (ltb-true i (length es) (sym lt))) ∙ ap (λ (l : List Field). place_of_part i (entries_end l)) same))
-
-pub entry_missing : (es all : List Field) (i : ℕ) → es ≡ all → false ≡ ltb i (length es) → None ≡ place_of_part i (entries_end all)
-entry_missing es all i same ge = elim (cases_lt i (length es)) [
-  | inl lt ↦ absurd (false≢true (ge ∙ lt-ltb i (length es) lt))
-  | inr le ↦ sym (no_entry es i le) ∙ ap (λ (l : List Field). place_of_part i (entries_end l)) same
-]
-
-pub entries_counted : (es : List Field) → length es ≡ count_parts (entries_end es)
-entries_counted [] = refl
-entries_counted (x ∷ es) = ap suc (entries_counted es)
+  pub parts_counted : (xs : List A) → length xs ≡ count_parts (parts xs)
+  parts_counted [] = sym are.count
+  parts_counted (x ∷ xs) = ap suc (parts_counted xs) ∙ sym (are.more x xs)
 
 -- ---- what goes
 
