@@ -14,9 +14,9 @@ use Rattle.yq_documents.{specs.Documents.{Document, ReadsDocuments}, specs.Readi
 use Rattle.yq_lookup.{specs.Knowledge.{IsKnowledge, KnowledgeStays}, specs.declared.knowledge.Knowledge.Knowledge}
 use Rattle.yq_semantics.{specs.Fits.Fits, specs.Judgement.ExprError, specs.Operations.Operation, specs.Rooms.room_of}
 use Rattle.yq_rows.{specs.Following.{ArePlacesOf, CountsWritten, Follows, exchanged, read_text}, specs.declared.kept.Kept.Kept}
-use Rattle.yq_edit_rules.{specs.Edits.{op_edits, or_stay}, specs.Local.IsLocalTo, specs.Operands.HasOperand}
+use Rattle.yq_edit_rules.{specs.Edits.{op_edits, or_stay}, specs.Local.IsLocalTo, specs.Operands.HasOperand, proofs.DoneLaws.read_cut}
 use Rattle.yq_edit_laws.{specs.TouchedRanges.IsLocalEdit, proofs.NearLaws.edits_are_near, proofs.TouchLaws.local_touches}
-use Rattle.yq_edit_laws.{proofs.TouchedLaws.near_touched, proofs.CutLaws.{cut_read, cut_same, text_read}, specs.Carried.carried}
+use Rattle.yq_edit_laws.{proofs.TouchedLaws.near_touched, proofs.CutLaws.{cut_read, text_read}, specs.Carried.carried}
 use Rattle.yq_edit_laws.{specs.Answers.EditFails, specs.Edit.gives, specs.Theorems.{IsFitting, IsApplied, OpRefused}}
 use Rattle.yq_edit_laws.{specs.Valid.segments_by, proofs.ApplyLaws.{fits, applied_by, refused_by}, proofs.EditsHold.edit_is}
 use Rattle.yq_edit_laws.proofs.TextFaults.{text_utf8}
@@ -94,7 +94,7 @@ module _ (op : Operation) (t : List ℕ) (operand : HasOperand op) (fitting : Is
     exchanged_there = subst (λ (x : Cut). op_edits op x ≡ Some ss) (cut_known a.before a.read) a.exchanged
 
     own_is : own ≡ ss
-    own_is = ap (segments_by op) (cut_same t c h.read) ∙ ap (or_stay c) exchanged_there
+    own_is = ap (segments_by op) (read_cut t c h.read) ∙ ap (or_stay c) exchanged_there
 
     fit : Fits (room_of (cut_text c)) op (documents c)
     fit = subst (λ (x : Cut). Fits (room_of (cut_text x)) op (documents x)) (cut_known fitting.before fitting.read) (fits op t operand fitting)
@@ -175,8 +175,8 @@ module _ (op : Operation) (t : List ℕ) (operand : HasOperand op) (fitting : Is
 
       known_by : (k : Knowledge) → KnowledgeStays kept.front (cut_of t) k → Knows new k
       known_by k stay =
-          subst (λ (d : Cut). IsKnowledge (rows_view d) k) (sym (cut_same new new_cut read_after))
-          (stay new_cut kept.back (subst (λ (d : Cut). TouchesOnly kept.front kept.back d new_cut) (sym (cut_same t c h.read)) agrees))
+          subst (λ (d : Cut). IsKnowledge (rows_view d) k) (sym (read_cut new new_cut read_after))
+          (stay new_cut kept.back (subst (λ (d : Cut). TouchesOnly kept.front kept.back d new_cut) (sym (read_cut t c h.read)) agrees))
 
       pub kept_after : (q : Places) (k : Knowledge) → ArePlacesOf new q → KnowledgeStays kept.front (cut_of t) k → HasPlaces new q × Knows new k
       kept_after q k placed stay = (record { cut = new_cut; read = read_after; placed = placed new_cut is_cut }, known_by k stay)

@@ -17,8 +17,9 @@ use Rattle.yq_edit_laws.{specs.Answers.EditFails, specs.Carried.{carried, carry_
 use Rattle.yq_edit_laws.specs.Edit.{Edit, by_reading, edit_after, edit_then, in_order, unreadable}
 use Rattle.yq_edit_laws.specs.Theorems.{IsApplied, IsFitting, IsLarge, Leading, StopsInOrder}
 use Rattle.yq_edit_laws.{specs.Valid.{AreServed, FailsAt, HaveOperands, IsStep, UpdateFails}, proofs.ApplyLaws.applied_by}
-use Rattle.yq_edit_laws.{proofs.CutLaws.cut_same, proofs.MeaningLaws.{UpdateComes, plan_comes}, proofs.ServeLaws.{OperationsCome, all_come}}
+use Rattle.yq_edit_laws.{proofs.MeaningLaws.{UpdateComes, plan_comes}, proofs.ServeLaws.{OperationsCome, all_come}}
 use Rattle.yq_edit_laws.{proofs.OrderLaws.{after_both, following_none, fails_after, fails_itself, fails_on}, proofs.UpdateLaws.memory_fails}
+use Rattle.yq_edit_rules.proofs.DoneLaws.{read_cut}
 use Rattle.yq_splice.specs.Parts.{Awaits, IsJudged}
 use Rattle.yq_failure.specs.declared.failure.Failure.TheVariants as failure
 use Rattle.yq_edit_laws.specs.Edit as edits
@@ -163,7 +164,7 @@ pub record IsUnderWay (u : Update) (t : List ℕ) (before : List Splice) (doc pl
 
 module _ (u : Update) (t : List ℕ) (before : List Splice) (is : read_at t ≡ Some (cut_of t)) (holds : UpdatesHold (u ∷ [])) where
   ready : AreReady (room_of t) 0 (documents_of t)
-  ready = subst (AreReady (room_of t) 0) (ap documents (cut_same t (cut_of t) is)) (rooms_are_ready t (read_ready shaped_by_lines shaped_is_tree t (documents_of t) (read_takes t (cut_of t) is)))
+  ready = subst (AreReady (room_of t) 0) (ap documents (read_cut t (cut_of t) is)) (rooms_are_ready t (read_ready shaped_by_lines shaped_is_tree t (documents_of t) (read_takes t (cut_of t) is)))
 
   all_await : (ops : List Operation) → plan u (room_of t) (documents_of t) ≡ gives ops → Awaits ops t
   all_await ops planned = record {

@@ -13,9 +13,10 @@ use Rattle.yq_documents.{specs.Reading.{all_documents, documents, cut_of, read_a
 use Rattle.yq_places.specs.RowWalk.{HasCut}
 use Rattle.yq_lookup.{specs.Knowledge.{IsKnowledge, KnowledgeStays}, specs.declared.knowledge.Knowledge.Knowledge}
 use Rattle.yq_semantics.{specs.Judgement.ExprError, specs.Operations.Operation}
-use Rattle.yq_edit_laws.{specs.Answers.Edits, proofs.CutLaws.{cut_read, cut_same}, specs.Carried.{carry_one, carried}}
+use Rattle.yq_edit_laws.{specs.Answers.Edits, proofs.CutLaws.cut_read, specs.Carried.{carry_one, carried}}
 use Rattle.yq_edit_laws.{specs.Edit.{gives, by_reading, exchange_edit}, specs.Theorems.HasReading, specs.Valid.segments_by}
 use Rattle.yq_edit_laws.{proofs.TextFaults.{FailsToRead, text_unread}, proofs.UpdateLaws.no_reading}
+use Rattle.yq_edit_rules.proofs.DoneLaws.{read_cut}
 use Rattle.yq_rows.specs.Following.{ArePlacesOf}
 use Rattle.yq_splice.specs.Session.{HasPlaces, Knows, NotOpened}
 use Rattle.yq_failure.specs.declared.failure.Failure.TheVariants as reading
@@ -39,14 +40,14 @@ documents_sound t c is = (text_takes t c (guard_then (is_utf8 t) is).1).1
 
 pub has_cut : (t : List ℕ) (c : Cut) (s : RowsView) → read_at t ≡ Some c → s ≡ rows_view c → HasCut t s
 has_cut t c s is shows =
-    let same : c ≡ cut_of t = sym (cut_same t c is) in
+    let same : c ≡ cut_of t = sym (read_cut t c is) in
     record { cut = subst (IsCut t) same (cut_read t c is); rows = shows ∙ ap rows_view same; sound = ap all_documents (sym same) ∙ documents_sound t c is }
 
 -- ---- a text that has a reading
 
 -- it is read as its cut
 pub reading_cut : (t : List ℕ) → HasReading t → read_at t ≡ Some (cut_of t)
-reading_cut t h = let read = (parts_read t h.0 h.1).0 in read ∙ ap Some (sym (cut_same t h.1.parts read))
+reading_cut t h = let read = (parts_read t h.0 h.1).0 in read ∙ ap Some (sym (read_cut t h.1.parts read))
 
 -- ---- opened
 
@@ -98,7 +99,7 @@ module _ (t : List ℕ) (p : Places) (h : HasPlaces t p) where
 
       -- what is known of it
       pub known_borrowed : (k : Knowledge) → Knows t k → IsKnowledge r k
-      known_borrowed k is = subst (λ (x : RowsView). IsKnowledge x k) (sym (own ∙ ap rows_view (sym (cut_same t h.cut h.read)))) is
+      known_borrowed k is = subst (λ (x : RowsView). IsKnowledge x k) (sym (own ∙ ap rows_view (sym (read_cut t h.cut h.read)))) is
 
       -- and given back
       pub places_back : (q : Places) → IsPlaced q r → HasPlaces t q
@@ -135,7 +136,7 @@ known_here n t k stay = stay (cut_of t) 0 (touches_itself n (cut_of t))
 
 -- what it comes to, by the cut of the text and by what it changes there
 pub carried_on : (op : Operation) (t x : List ℕ) (p : Places) → HasPlaces t p → x ≡ t → carry_one op (cut_of x) ≡ carried op t
-carried_on op t x p h same = ap (λ (y : List ℕ). carry_one op (cut_of y)) same ∙ (ap (carry_one op) (cut_same t h.cut h.read) ∙ sym (ap (by_reading (carry_one op)) h.read))
+carried_on op t x p h same = ap (λ (y : List ℕ). carry_one op (cut_of y)) same ∙ (ap (carry_one op) (read_cut t h.cut h.read) ∙ sym (ap (by_reading (carry_one op)) h.read))
 
 pub carried_again : (op : Operation) (t x : List ℕ) (r : Result Edited ExprError) → HasReading t → x ≡ t → Edits r (carry_one op (cut_of x)) → Edits r (carried op t)
 carried_again op t x r h same e =

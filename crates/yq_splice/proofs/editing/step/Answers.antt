@@ -2,11 +2,12 @@ use Rattle.std.{proofs.Common.{◌≡◌, ℕ, List, Ok, Some, IfErr, IfOk, sym,
 use Rattle.std.{specs.Prelude.Vec, specs.declared.alloc.Global.Global}
 use Rattle.yq_documents.specs.Reading.{cut_of, documents, read_at}
 use Rattle.yq_semantics.{specs.Operations.Operation, specs.Under.all_under, specs.View.program_of, specs.declared.under.OpsUnder.OpsUnder}
+use Rattle.yq_semantics.proofs.updates.PlanAnswers.{literals_hold}
 use Rattle.yq_planner.specs.ValidChanges.{HaveValidValues}
 use Rattle.yq_expr.specs.PlannedUpdates.{JudgesParts}
 use Rattle.yq_edit_laws.{specs.Answers.Edits, specs.Carried.carry_all, specs.Edit.edit_after, specs.Valid.HaveOperands}
 use Rattle.yq_edit_laws.proofs.MeaningLaws.{plan_serves}
-use Rattle.yq_edit_laws.proofs.UpdateLaws.{update_unplanned, update_planned, update_holds, update_there, update_ok, update_err}
+use Rattle.yq_edit_laws.proofs.UpdateLaws.{update_unplanned, update_planned, update_there, update_ok, update_err}
 use Rattle.yq_splice.{proofs.PartLaws.weighing_fails, proofs.ValidOperands.parts_valid}
 use Rattle.yq_failure.specs.declared.failure.Failure.TheVariants as failure
 use Rattle.yq_splice.proofs.editing.step.Goals as goal
@@ -34,7 +35,7 @@ carry_plan-requires-clause-serves c =
       plan_serves u.0 t (cut_of d) is ops
           (update_planned u.0 t d ops text
           (subst (λ r. JudgesParts r u.0 c.args.documents) (sym c.in_ok-plan.ensures) (c.plan_under-planned.ensures.exact u.0 u.1))) valid
-          (update_holds (program_of c.args.program.now) c.args.nth u.0 c.requires.literals u.1),
+          (literals_hold (program_of c.args.program.now) c.args.nth u.0 c.requires.literals u.1),
     )
 
 pub returns-clause-ok : goal.returns-clause-ok
@@ -48,7 +49,7 @@ returns-clause-ok c =
     (subst (λ r. IfOk r (λ v. HaveValidValues (all_under v.items))) (sym c.in_ok-plan.ensures) c.plan_under-planned.ensures.valid) in
     let new_bytes : Edits c.carry_plan.result (edit_after c.args.splices.items (carry_all ops t)) = c.carry_plan.ensures in
     rw c.unnamed-2.ensures (λ u at. update_ok u t (cut_of d) ops is (update_planned u t d ops text (subst (λ r. JudgesParts r u c.args.documents) (sym c.in_ok-plan.ensures) (c.plan_under-planned.ensures.exact u at)))
-    (update_holds (program_of c.args.program.now) c.args.nth u c.requires.literals at) valid c.carry_plan.result c.args.splices.items new_bytes)
+    (literals_hold (program_of c.args.program.now) c.args.nth u c.requires.literals at) valid c.carry_plan.result c.args.splices.items new_bytes)
 
 pub returns-clause-err : goal.returns-clause-err
 returns-clause-err c =
@@ -61,7 +62,7 @@ returns-clause-err c =
     (subst (λ r. IfOk r (λ v. HaveValidValues (all_under v.items))) (sym c.in_ok-plan.ensures) c.plan_under-planned.ensures.valid) in
     let new_bytes : Edits c.carry_plan.result (edit_after c.args.splices.items (carry_all ops t)) = c.carry_plan.ensures in
     rw c.unnamed-2.ensures (λ u at. update_err u t (cut_of d) ops is (update_planned u t d ops text (subst (λ r. JudgesParts r u c.args.documents) (sym c.in_ok-plan.ensures) (c.plan_under-planned.ensures.exact u at)))
-    (update_holds (program_of c.args.program.now) c.args.nth u c.requires.literals at) valid c.carry_plan.result c.args.splices.items new_bytes)
+    (literals_hold (program_of c.args.program.now) c.args.nth u c.requires.literals at) valid c.carry_plan.result c.args.splices.items new_bytes)
 
 pub returns-in_err-heavy-clause-err : goal.returns-in_err-heavy-clause-err
 returns-in_err-heavy-clause-err c =

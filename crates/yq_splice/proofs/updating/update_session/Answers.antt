@@ -1,8 +1,9 @@
 use Rattle.std.{proofs.Common.{◌≡◌, ◌+◌, ◌<◌, ℕ, List, IfSome, sym, ap, ◌∙◌, subst, arith}, proofs.lemmas.Result.err_from_is_err_and}
 use Rattle.yq_documents.specs.Reading.{documents_of}
 use Rattle.yq_semantics.{specs.Operations.operation_of, specs.Program.update_count, specs.View.program_of}
+use Rattle.yq_semantics.proofs.updates.PlanAnswers.{literals_hold}
 use Rattle.yq_expr.specs.FixedPaths.{IsSole, PlansAlone}
-use Rattle.yq_edit_laws.{specs.Theorems.HasReading, proofs.UpdateLaws.{update_holds, update_there}}
+use Rattle.yq_edit_laws.{specs.Theorems.HasReading, proofs.UpdateLaws.update_there}
 use Rattle.yq_splice.{specs.Session.SessionState, specs.Updates.HaveLed}
 use Rattle.yq_splice.{proofs.UpdateSteps.{led_fails, led_more, one_done, one_fails, one_fits, sole_on}, proofs.ValidOperands.operand_valid}
 use Rattle.yq_splice.proofs.updating.update_session.Goals as goal
@@ -21,7 +22,7 @@ updates-init c = record {
 pub apply_valid-requires-clause-fits : goal.apply_valid-requires-clause-fits
 apply_valid-requires-clause-fits c =
     let u = update_there (program_of c.args.program.now) c.updates.done c.updates.invariant.within in
-    one_fits u.0 c.updates.session.text (operation_of c.updates.op) c.updates.invariant.reads (c.updates.invariant.plans.plans u.0 u.1) (update_holds (program_of c.args.program.now) c.updates.done u.0 c.requires.literals u.1)
+    one_fits u.0 c.updates.session.text (operation_of c.updates.op) c.updates.invariant.reads (c.updates.invariant.plans.plans u.0 u.1) (literals_hold (program_of c.args.program.now) c.updates.done u.0 c.requires.literals u.1)
 
 pub apply_valid-requires-clause-operand : goal.apply_valid-requires-clause-operand
 apply_valid-requires-clause-operand c = operand_valid c.updates.op c.updates.invariant.plans.valid
@@ -32,12 +33,12 @@ returns-in_err-added-clause-err c =
     rw (p.1, p.2)
     (λ t led. led_fails (program_of c.args.program.now) c.updates.done t c.updates.session.text c.updates.splices.items _ c.updates.invariant.within (c.updates.invariant.leads t led)
     (λ u at. one_fails u c.updates.session.text (operation_of c.updates.op) c.updates.invariant.reads (c.updates.invariant.plans.plans u at)
-    (update_holds (program_of c.args.program.now) c.updates.done u c.requires.literals at) (operand_valid c.updates.op c.updates.invariant.plans.valid) _ c.in_err-added.ensures.err))
+    (literals_hold (program_of c.args.program.now) c.updates.done u c.requires.literals at) (operand_valid c.updates.op c.updates.invariant.plans.valid) _ c.in_err-added.ensures.err))
 
 pub plan-requires : goal.plan-requires
 plan-requires c =
     let u = update_there (program_of c.args.program.now) c.updates.done c.updates.invariant.within in
-    let holds = update_holds (program_of c.args.program.now) c.updates.done u.0 c.requires.literals u.1 in
+    let holds = literals_hold (program_of c.args.program.now) c.updates.done u.0 c.requires.literals u.1 in
     let step = one_done u.0 c.updates.session.text (operation_of c.updates.op) c.updates.invariant.reads (c.updates.invariant.plans.plans u.0 u.1) holds
     (operand_valid c.updates.op c.updates.invariant.plans.valid) c.apply_valid.new.self.text c.in_ok-added.added.items c.in_ok-added.ensures.ok in
     sole_on u.0 c.updates.session.text c.apply_valid.new.self.text c.in_ok-added.added.items holds step.is c.updates.invariant.sole
@@ -45,7 +46,7 @@ plan-requires c =
 pub updates-preserved : goal.updates-preserved
 updates-preserved c =
     let u = update_there (program_of c.args.program.now) c.updates.done c.updates.invariant.within in
-    let holds = update_holds (program_of c.args.program.now) c.updates.done u.0 c.requires.literals u.1 in
+    let holds = literals_hold (program_of c.args.program.now) c.updates.done u.0 c.requires.literals u.1 in
     let step = one_done u.0 c.updates.session.text (operation_of c.updates.op) c.updates.invariant.reads (c.updates.invariant.plans.plans u.0 u.1) holds
     (operand_valid c.updates.op c.updates.invariant.plans.valid) c.apply_valid.new.self.text c.in_ok-added.added.items c.in_ok-added.ensures.ok in
     let same : c.plan.new.self.text ≡ c.apply_valid.new.self.text = ap (λ (s : SessionState). s.text) c.in_ok-next.ensures.same in
@@ -64,7 +65,7 @@ updates-preserved c =
           (λ v at. (
             c.in_ok-added.added.items,
             one_done v c.updates.session.text (operation_of c.updates.op) c.updates.invariant.reads (c.updates.invariant.plans.plans v at)
-                (update_holds (program_of c.args.program.now) c.updates.done v c.requires.literals at) (operand_valid c.updates.op c.updates.invariant.plans.valid) c.apply_valid.new.self.text
+                (literals_hold (program_of c.args.program.now) c.updates.done v c.requires.literals at) (operand_valid c.updates.op c.updates.invariant.plans.valid) c.apply_valid.new.self.text
                 c.in_ok-added.added.items c.in_ok-added.ensures.ok,
             c.in_ok-append.ensures.items,
           )));
@@ -78,7 +79,7 @@ returns-clause-ok c =
     (λ u at. (
       c.in_ok-added.added.items,
       one_done u c.updates.session.text (operation_of c.updates.op) c.updates.invariant.reads (c.updates.invariant.plans.plans u at)
-          (update_holds (program_of c.args.program.now) c.updates.done u c.requires.literals at) (operand_valid c.updates.op c.updates.invariant.plans.valid) c.apply_valid.new.self.text
+          (literals_hold (program_of c.args.program.now) c.updates.done u c.requires.literals at) (operand_valid c.updates.op c.updates.invariant.plans.valid) c.apply_valid.new.self.text
           c.in_ok-added.added.items c.in_ok-added.ensures.ok,
       c.in_ok-append.ensures.items,
     )))
