@@ -1,12 +1,11 @@
 -- The calls of a command, from those of the calls of which it is made.
-use Rattle.std.proofs.Common.{◌≡◌, inl, inr, ℕ, false, List, [], ◌∷◌, ◌++◌, Result, Ok, Err, is_ok, sym, subst, refl}
+use Rattle.std.proofs.Common.{◌≡◌, inl, inr, false, List, [], ◌∷◌, ◌++◌, Result, Ok, Err, is_ok, sym, subst, refl}
 use Rattle.yq_semantics.specs.Program.{Program}
 use Rattle.yq_args.specs.declared.command.Command.{Command}
-use Rattle.yq_history.{specs.Causes.Cause, specs.Report.Report, specs.Calls.CallsOnPair, specs.Effects.Effect}
+use Rattle.yq_history.{specs.Causes.Cause, specs.Report.Report}
 use Rattle.yq_fault.specs.declared.fault.Fault.{Fault}
 use Rattle.yq_store.specs.Calls.{Call}
 use Rattle.yq_commands.{specs.declared.answer.Answer.Answer, specs.Lists.IsAnswer, specs.Calls.{CallsOf, CallsOfAll, IfProgram}}
-use Rattle.yq_journal.specs.State.{State}
 
 module _ {S : Type 0} (leads : S → Call → S → Type 0) where
   module _ {T : Type 0} (r : Result T Fault) (next : Program → S → S → Type 0) (s : S) where
@@ -18,12 +17,6 @@ module _ {S : Type 0} (leads : S → Call → S → Type 0) where
     -- the calls after the expression was read
     pub parsed_calls : (q : Result Program Cause) (p : Program) (t : S) → q ≡ Ok p → next p s t → IfProgram leads r q next s t
     parsed_calls q p t is k = subst (λ x. IfProgram leads r x next s t) (sym is) (inr k)
-
-  -- ---- by the names of a command
-
-  module _ {T : Type 0} (r : Result T Fault) where
-    pub pair_calls : (x y f j : List ℕ) → x ≡ f → y ≡ j → (go : List ℕ → State → Effect) (s t : S) → CallsOnPair leads r x y go s t → CallsOnPair leads r f j go s t
-    pair_calls x y f j file_is journal_is go s t k = subst (λ z. CallsOnPair leads r z j go s t) file_is (subst (λ z. CallsOnPair leads r x z go s t) journal_is k)
 
   -- one command more
   pub calls_more : (cs : List Command) (as' : List Answer) (c : Command) (r : Result (Unit {0}) Fault) (a : Answer) (o : Report) (s m t : S) →

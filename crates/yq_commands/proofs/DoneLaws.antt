@@ -20,11 +20,6 @@ use Rattle.yq_fault.specs.declared.fault.Fault.TheVariants as fault
 pub no_success : {T : Type 0} (P : Type 0) (r : Result T Fault) (e : Fault) → r ≡ Err e → OnOk r P
 no_success P r e is = subst (λ x. OnOk x P) (sym is) tt
 
--- a command that failed, and wrote nothing, stays where it was
-stays_at : (c : FileMap) (f j : List ℕ) (cause : Option Cause) (h k : Option History) {T : Type 0} (r : Result T Fault) (e : Fault) →
-    r ≡ Err e → (is_outer_fault e ≡ false → IsFor cause e) → GoodIn c f j h → Arrives c f j cause h k r
-stays_at c f j cause h k r e is why good = search rules
-
 -- ---- an edit in place
 
 module _ (asked : EvalAsked) (c : FileMap) {T : Type 0} (r : Result T Fault) (e : Fault) (is : r ≡ Err e) (s : Report) where

@@ -1,25 +1,21 @@
 -- The effects of edits, from the contracts of the calls of which they are made.
-use Rattle.std.proofs.Common.{rules, ◌≡◌, ◌≢◌, ℕ, Bool, true, false, nat_le, List, [], length, Option, Some, None, Result, Ok, Err}
-use Rattle.std.proofs.Common.{if◌then◌else◌, sym, ap, ◌∙◌, subst, refl}
+use Rattle.std.proofs.Common.{◌≡◌, ◌≢◌, ℕ, Bool, true, false, nat_le, List, [], length, Option, Some, None, Result, Ok, if◌then◌else◌, sym}
+use Rattle.std.proofs.Common.{ap, ◌∙◌, subst, refl}
 use Rattle.yq_semantics.specs.Program.{Program}
 use Rattle.yq_text.specs.Splice.{Splice}
 use Rattle.yq_journal.{specs.Record.Record, specs.Refusals.{most_records, no_way}}
-use Rattle.yq_journal.specs.State.{State, journal_after, moved_text, with_move}
+use Rattle.yq_journal.{specs.State.{State, journal_after, moved_text, with_move}, proofs.GoodLaws.bytes_differ}
 use Rattle.yq_fault.specs.declared.fault.Fault.{Fault}
 use Rattle.yq_history.{specs.Effects.{Effect, refuses, writes_nothing, from_pair, goes_to, move_effect, Works}, specs.Output.bytes}
-use Rattle.yq_history.{specs.Causes.named, proofs.EffectLaws.works_carried, proofs.MoveLaws.{IsMove, bytes_differ}}
+use Rattle.yq_history.{specs.Causes.named, proofs.EffectLaws.works_carried, proofs.MoveLaws.IsMove}
 use Rattle.yq_store.specs.FileMap.{FileMap}
 use Rattle.yq_commands.specs.CommandEffects.{edit_effect, edit_writes, update_effect}
-use Rattle.yq_commands.{specs.Editing.{EditOutcome, edited, Refuses, program_in, program_edits}, specs.Edits.edit_record}
+use Rattle.yq_commands.{specs.Editing.{EditOutcome, edited, program_in, program_edits}, specs.Edits.edit_record}
 use Rattle.yq_journal.specs.declared.fault.JournalFault.TheVariants as journal
 use Rattle.yq_journal.specs.declared.moves.Move.TheVariants as move
 use Rattle.yq_fault.specs.declared.fault.Fault.TheVariants as fault
 
 module _ (f j : List ℕ) (c : FileMap) (expr : List ℕ) (s : State) (t : List ℕ) where
-  -- the edit was refused
-  pub edit_fails : (o : EditOutcome) {T : Type 0} (r : Result T Fault) (e : Fault) → r ≡ Err e → (e ≢ fault.OutOfMemory → Refuses o e) → Works (edit_effect expr o t s) f j c c r
-  edit_fails o r e is why = search rules
-
   -- the effect of an edit to another text, by whether the texts are equal and the journal has no room
   abbrev by_tests : List ℕ → List Splice → Bool → Bool → Effect
   by_tests u cs equal full =

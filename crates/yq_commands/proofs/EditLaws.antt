@@ -5,9 +5,9 @@ use Rattle.yq_semantics.specs.Program.{Program}
 use Rattle.yq_text.specs.Splice.{Splice, all_done}
 use Rattle.yq_journal.{specs.declared.moves.Move.TheVariants.Edit, specs.Good.after_move, specs.History.{History, text_at, after_edit}}
 use Rattle.yq_journal.{specs.Record.{Record, done}, specs.Refusals.{no_way, most_records}, specs.State.State}
-use Rattle.yq_journal.specs.declared.fault.JournalFault.TheVariants.{JournalFull}
+use Rattle.yq_journal.{specs.declared.fault.JournalFault.TheVariants.JournalFull, proofs.GoodLaws.bytes_differ}
 use Rattle.yq_history.{specs.Causes.{IsFor, named}, specs.Pair.{Arrives, PairAtRest, PairIsThere}}
-use Rattle.yq_history.proofs.MoveLaws.{IsMove, bytes_differ, is_refused, ends, same_content, fault_outside}
+use Rattle.yq_history.proofs.MoveLaws.{IsMove, is_refused, ends, same_content, fault_outside}
 use Rattle.yq_fault.specs.declared.fault.Fault.{Fault}
 use Rattle.yq_store.specs.FileMap.{FileMap}
 use Rattle.yq_commands.{specs.Editing.{edited, program_edits}, specs.Edits.edit_record}

@@ -1,17 +1,14 @@
 -- Whether an edit changes what it is asked to change, by its outcome, its effect and its history.
-use Rattle.std.proofs.Common.{rules, ◌≡◌, ℕ, Bool, true, false, not, ◌&&◌, List, [], Option, Some, Result, Ok, OnOk, if◌then◌else◌, ap}
+use Rattle.std.proofs.Common.{rules, ◌≡◌, ℕ, Bool, true, false, not, ◌&&◌, List, Option, Some, Result, Ok, OnOk, ap}
 use Rattle.std.{proofs.lemmas.Option.same_Some, specs.FinMap.get, specs.Str.bytes_eq}
 use Rattle.yq_semantics.specs.Program.{Program}
 use Rattle.yq_journal.{specs.History.History, specs.State.State}
 use Rattle.yq_args.specs.declared.eval_options.EvalOptions.{EvalOptions}
-use Rattle.yq_history.{specs.Causes.named, specs.Effects.{Effect, refuses, writes_nothing}, specs.Pair.GoodIn, specs.Output.bytes}
-use Rattle.yq_history.proofs.PairLaws.{good_text}
+use Rattle.yq_history.{specs.Effects.Effect, specs.Pair.GoodIn, proofs.PairLaws.good_text}
 use Rattle.yq_fault.specs.declared.fault.Fault.{Fault}
 use Rattle.yq_store.specs.FileMap.{FileMap}
 use Rattle.yq_commands.{specs.CommandEffects.edit_effect, specs.Editing.{EditOutcome, program_edits}}
 use Rattle.yq_commands.specs.Expecting.{changes_as_expected, edits_as_expected, report_edit, showing_change, works_as_expected}
-use Rattle.yq_fault.specs.declared.fault.Fault.TheVariants as fault
-use Rattle.yq_journal.specs.declared.fault.JournalFault.TheVariants as journal
 
 -- where no change is expected, every effect is as expected
 pub none_expected : (x : Effect) → true ≡ works_as_expected false x
@@ -20,10 +17,6 @@ none_expected x = search rules
 -- where none is expected, every edit is as expected
 pub free_edit : (options : EvalOptions) (t u : List ℕ) → options.expect_change ≡ false → changes_as_expected options t u ≡ true
 free_edit options t u free = ap (λ b. not (b && bytes_eq u t)) free
-
-by_tests : (expects equal full : Bool) (x : Effect) → true ≡ works_as_expected expects x →
-    not (expects && equal) ≡ works_as_expected expects (if equal then writes_nothing (bytes []) else if full then refuses (named (fault.Journal journal.JournalFull)) else x)
-by_tests expects equal full x is = search rules
 
 -- an edit is as expected where its effect is
 pub effect_expected : (options : EvalOptions) (expr t : List ℕ) (o : EditOutcome) (s : State) →

@@ -1,9 +1,9 @@
 -- What an accepted edit makes of a file, and an expression that is no program.
-use Rattle.std.proofs.Common.{rules, Bool, true, ◌≡◌, ◌≢◌, ℕ, List, false, Option, Some, Result, Ok, Err, OnOk, sym, ap, ◌∙◌}
+use Rattle.std.proofs.Common.{rules, Bool, ◌≡◌, ◌≢◌, ℕ, List, false, Option, Some, Result, Ok, Err, OnOk, sym, ap, ◌∙◌}
 use Rattle.std.proofs.lemmas.Option.{none-some}
 use Rattle.yq_semantics.specs.Program.{Program, is_read}
 use Rattle.yq_text.specs.Splice.{Splice}
-use Rattle.yq_history.{specs.Causes.IsFor, specs.Effects.Works, specs.Output.IsOutput, specs.Unified.IsPrintedDiff}
+use Rattle.yq_history.{specs.Causes.IsFor, specs.Effects.Works, specs.Output.IsOutput}
 use Rattle.yq_fault.{specs.declared.fault.Fault.Fault, specs.declared.fault.Fault.TheVariants.OutOfMemory}
 use Rattle.yq_commands.{specs.CommandFaults.{RefusedUnparsed, cause_in}, specs.CommandEffects.{edit_effect, output_by}}
 use Rattle.yq_commands.specs.Editing.{program_in, EditOutcome, edited}
@@ -45,11 +45,6 @@ change_comes b file t u changes o new printed is there shows = search rules
 pub both_come : {T : Type 0} (r : Result T Fault) (b : Bool) (expr file t : List ℕ) (old new : Option (List ℕ)) (printed : List ℕ) → old ≡ Some t →
     OnOk r (IsFileEdited expr old new) → OnOk r (PrintsChange b file (Some t) new printed) → OnOk r (IsFileEdited expr old new × PrintsChange b file old new printed)
 both_come r b expr file t old new printed there edited_to shows = search rules
-
--- of an edit that changes bytes or none
-changed : {T : Type 0} (v : T) (file f j expr t u : List ℕ) (cs : List Splice) (s : State) (c d : FileMap) (printed : List ℕ) →
-    Works (edit_effect expr (edited u cs) t s) f j c d {T = T} (Ok v) → IsPrintedDiff file t u printed → IsOutput file (output_by true (Some t) (edit_effect expr (edited u cs) t s)) printed
-changed v file f j expr t u cs s c d printed works shows = search rules
 
 -- it is the output of the effect
 pub change_output_by : {T : Type 0} (b : Bool) (file f j expr t : List ℕ) (o : EditOutcome) (s : State) (c d : FileMap) (r : Result T Fault) (printed : List ℕ) →

@@ -1,19 +1,17 @@
 -- Runs of commands.
-use Rattle.std.proofs.Common.{rules, ◌≡◌, ◌⊎◌, inl, inr, ℕ, Bool, true, false, ◌&&◌, not, if◌then◌else◌, List, [], ◌∷◌, Option, Some, None}
-use Rattle.std.{proofs.Common.{Result, Ok, Err, OnOk, MatchBool, IfErr, sym, ap, ◌∙◌, subst, refl}, proofs.lemmas.Bool.and_parts}
+use Rattle.std.proofs.Common.{rules, ◌≡◌, ◌⊎◌, inl, inr, ℕ, Bool, true, false, ◌&&◌, not, List, [], ◌∷◌, Option, Some, Result, Ok, Err}
+use Rattle.std.{proofs.Common.{OnOk, MatchBool, IfErr, sym, ap, ◌∙◌, subst, refl}, proofs.lemmas.Bool.{and_parts, and_from, not-true}}
 use Rattle.std.specs.List.{list_all}
-use Rattle.yq_journal.specs.History.{History, after_edit}
+use Rattle.yq_journal.specs.History.{History}
 use Rattle.yq_commands.{specs.declared.answer.Answer.Answer, specs.declared.answer.Answer.TheVariants.{Done, NoMatch, Refused}}
 use Rattle.yq_commands.specs.Lists.{answer_by, Reply, answers_in, IsAnswer, CommandRefused, IsCarriedOut, RunsCommand, Goes, RunsAll}
 use Rattle.yq_commands.specs.Lists.{IsReply, StepsExactly, GoesExactly, RunExactly, reports_failure, reports_output, count_passing}
 use Rattle.yq_commands.{specs.Lists.{failures_in, output_failures_in, has_memory}, specs.Prints.report_of, specs.CommandNames.file_of}
 use Rattle.yq_commands.{specs.CommandSteps.{cause_of, next_of}, proofs.ReplyLaws.reply}
 use Rattle.yq_args.specs.declared.command.Command.{Command}
-use Rattle.yq_history.{specs.Causes.{Cause, IsFor, named}, specs.Output.{Showing, Shows}, specs.Pair.{GoodIn, Arrives}, specs.Report.Report}
+use Rattle.yq_history.{specs.Causes.{Cause, IsFor}, specs.Output.{Showing, Shows}, specs.Pair.{GoodIn, Arrives}, specs.Report.Report}
 use Rattle.yq_fault.{specs.declared.fault.Fault.Fault, specs.Faults.{is_outer_fault, is_output}}
 use Rattle.yq_store.specs.FileMap.{FileMap}
-use Rattle.yq_fault.specs.declared.fault.Fault.TheVariants as fault
-use Rattle.yq_journal.specs.declared.fault.JournalFault.TheVariants as journal
 
 module _ (e : FileMap) (f j : List ℕ) (c : Command) (h : Option History) where
   refused_step : (x : Fault) (b : Bool) → is_output x ≡ false → is_outer_fault x ≡ b →
@@ -41,9 +39,6 @@ module _ (e : FileMap) (f j : List ℕ) (c : Command) (h : Option History) where
 
 -- ---- what a refused command leaves
 
-room_stays : (h : History) (expr u : List ℕ) (x : Cause) (a b : Bool) → (if a then None else if b then Some (named (fault.Journal journal.JournalFull)) else None) ≡ Some x → (if a then h else if b then h else after_edit h expr u) ≡ h
-room_stays h expr u x a b is = search rules
-
 -- a command with a cause for a refusal leaves the history
 pub stays : (c : Command) (h : Option History) (x : Cause) → cause_of c h ≡ Some x → next_of c h ≡ h
 stays c h x is = search rules
@@ -55,12 +50,6 @@ is_inside Done = true
 is_inside NoMatch = true
 is_inside (Refused e) = not (is_outer_fault e) && not (is_output e)
 
-both : (a b : Bool) → a ≡ true → b ≡ true → (a && b) ≡ true
-both a b p q = search rules
-
-pub not_true : (b : Bool) → not b ≡ true → b ≡ false
-not_true b e = search rules
-
 for_some : (f : List ℕ) (o : Option Cause) (e : Fault) (s : Showing) (r : Reply) → r.answer ≡ Refused e → r.printed ≡ [] → IsFor o e → IsReply f o s r × ((x : Cause) × (o ≡ Some x))
 for_some f o e s r is h6 why = search rules
 
@@ -71,8 +60,8 @@ exact_step : (c : Command) (h k : Option History) (r : Reply) (a : Answer) → r
 exact_step c h k r Done is s i = (subst (λ o. IsReply (file_of c) o (report_of c h) r) (sym s.0) (is ∙ ap answer_by s.1, s.2), s.3)
 exact_step c h k r NoMatch is s i = (subst (λ o. IsReply (file_of c) o (report_of c h) r) (sym s.0) (is ∙ ap answer_by s.1, s.2), s.3)
 exact_step c h k r (Refused e) is s i =
-    let out = not_true (is_outer_fault e) (and_parts (not (is_outer_fault e)) (not (is_output e)) i).0 in
-    let no_output = not_true (is_output e) (and_parts (not (is_outer_fault e)) (not (is_output e)) i).1 in
+    let out = not-true (is_outer_fault e) (and_parts (not (is_outer_fault e)) (not (is_output e)) i).0 in
+    let no_output = not-true (is_output e) (and_parts (not (is_outer_fault e)) (not (is_output e)) i).1 in
     let p = inside_step c h k e out no_output s.1 in
     let q = for_some (file_of c) (cause_of c h) e (report_of c h) r is s.0 p.0 in
     (q.0, p.1 ∙ sym (stays c h q.1.0 q.1.1))
@@ -99,5 +88,5 @@ all_inside [] none no_output m = refl
 all_inside (a ∷ rs) none no_output m =
     let p = none_first reports_failure a rs none in
     let q = none_first reports_output a rs no_output in
-    both (is_inside a) (list_all is_inside rs) (inside_one a p.0 q.0 (and_parts (has_memory a) (list_all has_memory rs) m).0)
+    and_from (is_inside a) (list_all is_inside rs) (inside_one a p.0 q.0 (and_parts (has_memory a) (list_all has_memory rs) m).0)
     (all_inside rs p.1 q.1 (and_parts (has_memory a) (list_all has_memory rs) m).1)

@@ -3,18 +3,13 @@ use Rattle.std.{proofs.Common.{rules, ◌≡◌, ℕ, List, Option, Some, None, 
 use Rattle.std.specs.declared.alloc.Global.{Global}
 use Rattle.yq_journal.{specs.History.History, specs.State.State}
 use Rattle.yq_semantics.specs.Program.{Program}
-use Rattle.yq_store.{specs.FileMap.FileMap, specs.declared.store.Store.Ghosts}
-use Rattle.yq_fault.{specs.declared.fault.Fault.Fault, specs.declared.fault.Fault.TheVariants.{NotThere, OutOfMemory}}
-use Rattle.yq_history.{specs.Causes.{Cause, named}, specs.Leaves.{LeavesNames, LeavesStore}}
-use Rattle.yq_history.specs.Pair.{Arrives, GoodIn, Opens, PairAtRest}
+use Rattle.yq_store.specs.FileMap.{FileMap}
+use Rattle.yq_fault.{specs.declared.fault.Fault.Fault, specs.declared.fault.Fault.TheVariants.NotThere}
+use Rattle.yq_history.{specs.Causes.{Cause, named}, specs.Leaves.LeavesNames, specs.Pair.{Arrives, GoodIn, Opens, PairAtRest}}
 
 -- what holds anyway holds of each error
 pub each_error : {T : Type 0} (P : Fault → Type 0) (r : Result T Fault) → ((e : Fault) → P e) → IfErr r P
 each_error P r h = search rules
-
--- want of memory reports no output, and no failed call
-pub memory_left : {S : Type 0} (d : Ghosts S) (s : S) {T : Type 0} (r : Result T Fault) → IfErr r (λ e. e ≡ OutOfMemory) → LeavesStore d s s r
-memory_left d s r h = search rules
 
 -- where all names hold what they held, a call leaves what it has to
 pub all_left : (Others : List ℕ → Type 0) (c e : FileMap) {T : Type 0} (r : Result T Fault) → e ≡ c → LeavesNames Others c e r

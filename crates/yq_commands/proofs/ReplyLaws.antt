@@ -1,8 +1,8 @@
 -- Replies, and the bytes that the output took of them.
-use Rattle.std.proofs.Common.{rules, ◌≡◌, ℕ, ◌+◌, ◌-◌, ◌^◌, ◌<◌, min, Bool, false, if◌then◌else◌, List, [], ◌∷◌, ◌++◌, append_assoc, Result}
+use Rattle.std.proofs.Common.{rules, ◌≡◌, ℕ, ◌+◌, ◌-◌, ◌^◌, ◌<◌, min, false, if◌then◌else◌, List, [], ◌∷◌, ◌++◌, append_assoc, Result}
 use Rattle.std.{proofs.Common.{MatchResult, sym, ap, ap₂, ◌∙◌, refl}, proofs.lemmas.List.append-nil}
 use Rattle.yq_commands.{specs.declared.answer.Answer.Answer, specs.declared.answer.Answer.TheVariants.{Done, NoMatch, Refused}}
-use Rattle.yq_commands.specs.Lists.{answer_by, Reply, answers_in, printed_in, IsAnswer, reports_failure, reports_output}
+use Rattle.yq_commands.specs.Lists.{Reply, answers_in, printed_in, IsAnswer, reports_output}
 use Rattle.yq_history.specs.Report.{Report}
 use Rattle.yq_fault.specs.declared.fault.Fault.{Fault}
 use Rattle.yq_store.specs.Count.{count_plus_one}
@@ -23,9 +23,6 @@ answers_push (x ∷ rs) r = ap (λ as'. x.answer ∷ as') (answers_push rs r)
 -- the answers, one reply more
 pub answers_more : (rs : List Reply) (as' : List Answer) (a : Answer) (o : List ℕ) → answers_in rs ≡ as' → answers_in (rs ++ reply a o ∷ []) ≡ as' ++ a ∷ []
 answers_more rs as' a o is = answers_push rs (reply a o) ∙ ap₂ (λ xs x. xs ++ x ∷ []) is (reply-answer a o)
-
-pub no_failure : (m : Bool) → reports_failure (answer_by m) ≡ false
-no_failure m = search rules
 
 printed_push : (rs : List Reply) (r : Reply) → printed_in (rs ++ r ∷ []) ≡ printed_in rs ++ r.printed
 printed_push [] r = append-nil r.printed

@@ -1,6 +1,6 @@
 use Rattle.std.proofs.Common.{◌≡◌, ◌≢◌, ℕ, List, Some, length, string_bytes, ◌∙◌, sym, ap, subst, true≢false}
-use Rattle.std.{proofs.lemmas.Result.err_from_is_err_and, proofs.lemmas.Slice.Eq.bytes_eq-Decides}
-use Rattle.yq_history.{specs.Calls.Makes, proofs.CallLaws.{fails, makes_none}, proofs.MoveLaws.{IsMove, on_ok_map}}
+use Rattle.std.{proofs.lemmas.Result.{err_from_is_err_and, on_ok_weaker}, proofs.lemmas.Slice.Eq.bytes_eq-Decides}
+use Rattle.yq_history.{specs.Calls.Makes, proofs.CallLaws.{fails, makes_none}, proofs.MoveLaws.IsMove}
 use Rattle.yq_fault.specs.Faults.{is_outer_fault}
 use Rattle.yq_commands.{specs.CommandEffects.edit_effect, specs.Editing.{edited, program_edits}, specs.Edits.edit_record}
 use Rattle.yq_commands.{proofs.EditLaws.{edit_done, edit_ends}, proofs.EditEffects.{edit_moves, edit_works}, proofs.DoneLaws.cut_edits}
@@ -39,7 +39,7 @@ returns g c =
             effect = edit_works o.pair.file.now o.pair.journal.now (g.D.Store.content c.args.store.now) c.args.expr.now o.state t _ _ _ made
                 (program_edits p t) _ c.carry_out.result makes changes move;
           };
-      text = λ keeps apart there. on_ok_map c.carry_out.result (e.text keeps apart) (λ held. held ∙ ap Some is);
+      text = λ keeps apart there. on_ok_weaker c.carry_out.result (λ held. held ∙ ap Some is) (e.text keeps apart);
       leaves = e.leaves;
       calls = λ p gives.
           subst (λ x. Makes g.D.Store.leads c.carry_out.result o.pair.file.now o.pair.journal.now t x c.args.store.now c.carry_out.new.store)

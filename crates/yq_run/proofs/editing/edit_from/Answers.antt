@@ -1,7 +1,6 @@
-use Rattle.std.{proofs.Common.{◌≡◌, ℕ, List, Err, string_bytes, sym, ap, ◌∙◌, subst, Some}, proofs.lemmas.Result.err_from_is_err_and}
-use Rattle.std.specs.FinMap.{get}
-use Rattle.yq_history.{proofs.CallLaws.{fails, makes_none}, proofs.EffectLaws.on_ok, proofs.MoveLaws.on_ok_map, specs.Output.IsOutput}
-use Rattle.yq_history.specs.Report.{report_by}
+use Rattle.std.proofs.Common.{◌≡◌, ℕ, List, Err, string_bytes, sym, ap, ◌∙◌, subst, Some}
+use Rattle.std.{proofs.lemmas.Result.{err_from_is_err_and, on_ok_weaker}, specs.FinMap.get}
+use Rattle.yq_history.{proofs.CallLaws.{fails, makes_none}, specs.Output.IsOutput, specs.Report.report_by, proofs.EffectLaws.on_ok}
 use Rattle.yq_semantics.specs.View.{program_of}
 use Rattle.yq_commands.{specs.Editing.{outcome_of, program_edits}, specs.FileEdits.IsTextEdited}
 use Rattle.yq_commands.{specs.Expecting.{change_output, changes_as_expected, edits_as_expected}, proofs.ExpectingLaws.free_edit}
@@ -24,12 +23,13 @@ returns g c =
       done = λ keeps. record {
         edit = λ apart. e.done keeps apart p gives;
         held = λ apart there.
-            on_ok_map c.commit.result (e.text keeps apart there)
+            on_ok_weaker c.commit.result
             (λ (is : get (g.D.Store.content c.commit.new.store) file ≡ Some u). record {
               edited = (u, is, subst (λ (t : List ℕ). IsTextEdited p t u) c.as_slice-old.ensures.value a.ensures.edited);
               printed = change_comes options.diff file text u a.edited.splices.items (program_edits p text)
                   (get (g.D.Store.content c.commit.new.store) file) (string_bytes a.change) gives is change;
-            });
+            })
+            (e.text keeps apart there);
         names = e.leaves.names keeps;
       };
       silent = λ off. subst (λ b. IsOutput file (change_output b text (program_edits p text)) (string_bytes a.change)) off change;

@@ -1,5 +1,5 @@
-use Rattle.std.{proofs.Common.{◌≡◌, ℕ, List, Ok, Err, sym, ap, ◌∙◌, subst}, proofs.lemmas.Result.err_from_is_err_and, specs.FinMap.get}
-use Rattle.std.specs.String.{string_bytes}
+use Rattle.std.{proofs.Common.{◌≡◌, ℕ, List, Ok, Err, sym, ap, ◌∙◌, subst}, proofs.lemmas.Result.{err_from_is_err_and, on_ok_weaker}}
+use Rattle.std.{specs.FinMap.get, specs.String.string_bytes}
 use Rattle.yq_journal.specs.State.{State}
 use Rattle.yq_semantics.specs.View.{program_of}
 use Rattle.yq_commands.{specs.Editing.{program_edits, program_in}, specs.CommandEffects.{edit_effect, update_effect, output_by}}
@@ -11,7 +11,6 @@ use Rattle.yq_commands.{proofs.OutcomeLaws.{arrives_as, opened}, proofs.CommandC
 use Rattle.yq_commands.{proofs.DoneLaws.{by_words, unopened_edits, unparsed_edits}, specs.Calls.CallsToEdit, specs.CommandDone.EditsInPlace}
 use Rattle.yq_history.{specs.Leaves.LeavesNames, specs.Pair.Differs, specs.Report.report_by}
 use Rattle.yq_history.{proofs.CallLaws.{fails, unopened_calls, opened_calls}, proofs.EffectLaws.from_opened, specs.Output.{IsOutput, Shows}}
-use Rattle.yq_history.proofs.MoveLaws.{on_ok_map}
 use Rattle.yq_store.specs.Count.{failures_after}
 use Rattle.yq_run.proofs.executing.update.Goals as goal
 
@@ -49,18 +48,19 @@ returns g c =
             edited = λ apart.
                 let left = (e.done keeps).held apart (ap (λ m. get m f) same ∙ held) in
                 both_come r diffs x f text _ _ _ held
-                (file_comes r x p text _ _ is held (on_ok_map r left (λ z. z.edited))) (on_ok_map r left (λ z. z.printed));
+                (file_comes r x p text _ _ is held (on_ok_weaker r (λ z. z.edited) left)) (on_ok_weaker r (λ z. z.printed) left);
             output = λ h good.
-                on_ok_map r e.shows
+                on_ok_weaker r
                 (subst (λ due. Shows f due (report_by c.edit_from.new.report))
-                (history_showing w.options p _ f j text held h good ∙ ap (λ q. report_edit w.options q h) (sym is)));
+                (history_showing w.options p _ f j text held h good ∙ ap (λ q. report_edit w.options q h) (sym is)))
+                e.shows;
             listed = λ apart.
-                on_ok_map r
-                (change_output_by diffs f f j x text (program_edits p text) state _ _ r _ (edit apart).effect (on_ok_map r e.shows (λ s. s.output)))
+                on_ok_weaker r
                 (subst (λ z. IsOutput f z (string_bytes c.edit_from.new.report.text))
-                (ap (λ t. output_by diffs t (does text state)) (sym held) ∙ ap (output_by diffs (get old f)) (sym effect)));
+                (ap (λ t. output_by diffs t (does text state)) (sym held) ∙ ap (output_by diffs (get old f)) (sym effect)))
+                (change_output_by diffs f f j x text (program_edits p text) state _ _ r _ (edit apart).effect (on_ok_weaker r (λ s. s.output) e.shows));
             expected =
-                matched_as _ r _ _ _ (on_ok_map r e.shows (λ s. s.is_match))
+                matched_as _ r _ _ _ (on_ok_weaker r (λ s. s.is_match) e.shows)
                 (effect_expected w.options x text (program_edits p text) state ∙ ap (works_as_expected w.options.expect_change) (sym effect));
             names = subst (λ m. LeavesNames (λ q. Differs q f j) m (g.D.Store.content c.edit_from.new.store) r) same (e.done keeps).names;
           });
