@@ -6,11 +6,12 @@ use Rattle.yq_batch.proofs.row_put.row_put.Goals as goal
 
 pub value_there-requires-clause-row : goal.value_there-requires-clause-row
 value_there-requires-clause-row c =
-    subst (λ (u : List ℕ). IsHeldRow c.args.at.path.now.doc (steps_of c.args.at.path.now) (cut_of u) c.in-Some.row) (sym c.in-Some.ensures.same) c.in-Some.ensures.row
+    let held = c.to_held_row-held in
+    subst (λ (u : List ℕ). IfSome held.result (IsHeldRow c.args.at.path.now.doc (steps_of c.args.at.path.now) (cut_of u))) (sym held.ensures.same) held.ensures.row
 
 pub comment_in_row-requires-clause-row : goal.comment_in_row-requires-clause-row
 comment_in_row-requires-clause-row c =
-    let at = c.in-Some-to_held_row in
+    let at = c.in-Some in
     subst (λ (u : List ℕ). IsHeldRow c.args.at.path.now.doc (steps_of c.args.at.path.now) (cut_of u) at.row) (sym at.ensures.same) at.ensures.row
 
 pub comment_above_row-requires-clause-line : goal.comment_above_row-requires-clause-line
