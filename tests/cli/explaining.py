@@ -37,11 +37,11 @@ def is_explained(row, words, err):
 
 
 def check_each_mistake_is_explained_on_a_terminal_and_with_the_option(folder):
-    told = table()
-    for name, text in told["files"].items():
+    mistakes = table()
+    for name, text in mistakes["files"].items():
         folder.write(name, text.encode())
     before = folder.files()
-    for row in told["rows"]:
+    for row in mistakes["rows"]:
         words = row["words"]
         prints = row.get("prints", "").encode()
         status, out, plain = folder.run(*words)
@@ -59,16 +59,16 @@ def check_each_mistake_is_explained_on_a_terminal_and_with_the_option(folder):
 
 def check_each_advised_expression_is_one(folder):
     """No expression that the lines about an expression advise is refused as one (E1, E2, E3)."""
-    told, count = table(), 0
-    for name, text in {**told["files"], "empty": ""}.items():
+    mistakes, count = table(), 0
+    for name, text in {**mistakes["files"], "empty": ""}.items():
         folder.write(name, text.encode())
-    for row in told["rows"]:
-        _, _, err = folder.run(*explained(row["words"]))
-        for line in err.decode().splitlines()[3:]:
-            advised = ADVISED.search(line)
-            if advised and row["refused"].startswith("E"):
-                err = folder.run(advised[1], "empty")[2]
-                equal(re.match(rb"Error: [EU]", err), None, (row["words"], line))
+    for row in mistakes["rows"]:
+        if not row["refused"].startswith("E"):
+            continue
+        for line in folder.run(*explained(row["words"]))[2].decode().splitlines()[3:]:
+            if advised := ADVISED.search(line):
+                answer = folder.run(advised[1], "empty")[2]
+                equal(re.match(rb"Error: [EU]", answer), None, (row["words"], line))
                 count += 1
     equal(count > 30, True, count)
 
